@@ -8,8 +8,8 @@ use settings::Settings;
 use simulation::{Job, read_job};
 use std::alloc::Global;
 
-/// Runs a script, and prints what is wrong once it is run, or that nothing is; or event by event, and prints how many events it
-/// has, or the first one after which something is wrong.
+/// Runs a script, and prints what is wrong with its trace and tables afterwards, or that nothing is. With `after_each`
+/// the audit follows each event: prints the number of events, or the first event after which something is wrong.
 pub(crate) fn audited(settings: &str, script: &str, after_each: bool, case: &mut Case) {
     match read(case.alloc, settings, script) {
         Ok(job) => {
@@ -20,17 +20,18 @@ pub(crate) fn audited(settings: &str, script: &str, after_each: bool, case: &mut
     }
 }
 
-/// The job of two texts, of which nothing is said, so that what a caller has to show stays small.
+/// Reads a settings text and a script as a job. The function has no contract, which keeps the proofs of its callers
+/// small.
 fn read(alloc: Global, settings: &str, script: &str) -> Result<Job, Fault> {
     read_job(alloc, settings, script)
 }
 
-/// A new world, of which nothing is said either.
+/// Returns a new world of these settings. The function has no contract, for the same reason.
 fn founded(alloc: Global, settings: &Settings) -> Result<World<'_>, NoMemory> {
     World::founded(alloc, settings)
 }
 
-/// The same of these events, in a new world.
+/// Runs these events in a new world, and prints what the audit says.
 fn audit_in(settings: &Settings, events: &[WorldEvent], after_each: bool, case: &mut Case) {
     match founded(case.alloc, settings) {
         Ok(mut world) => {
@@ -46,7 +47,7 @@ fn audit_in(settings: &Settings, events: &[WorldEvent], after_each: bool, case: 
     }
 }
 
-/// What is wrong once all events have happened.
+/// Runs all events, and prints what is wrong afterwards.
 fn tell_after(world: &mut World<'_>, events: &[WorldEvent], case: &mut Case) {
     run_on(world, events, case);
     match fault_in(world, case) {
@@ -55,7 +56,8 @@ fn tell_after(world: &mut World<'_>, events: &[WorldEvent], case: &mut Case) {
     }
 }
 
-/// The number of the first event, from 1, after which something is wrong, and what it is.
+/// Runs the events one by one, and prints the number of the first one, counted from 1, after which something is wrong,
+/// and what it is.
 fn tell_first(world: &mut World<'_>, events: &[WorldEvent], case: &mut Case) {
     for (above, event) in events.chunks(1).enumerate() {
         run_on(world, event, case);
@@ -67,12 +69,12 @@ fn tell_first(world: &mut World<'_>, events: &[WorldEvent], case: &mut Case) {
     case.say("audit passed ", events.len());
 }
 
-/// Runs events on a world. It says nothing of it.
+/// Runs events on a world. The function has no contract, for the same reason as `read`.
 fn run_on(world: &mut World<'_>, events: &[WorldEvent], case: &mut Case) {
     case.keep(world.run(events));
 }
 
-/// What is wrong with a world's trace and tables.
+/// Returns what is wrong with a world's trace and tables, or None.
 fn fault_in(world: &World<'_>, case: &mut Case) -> Option<AuditFault> {
     match (world.table(GatewayId::Zero), world.table(GatewayId::One)) {
         (Ok(zero), Ok(one)) => {

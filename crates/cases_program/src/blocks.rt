@@ -18,11 +18,11 @@ impl BlockFile {
         BlockFile { file: blank() }
     }
 
-    /// What came of a line but a crash.
+    /// Changes the file as a line says that is no crash, and prints the answer.
     ///
     /// - `new` makes a file of zero bytes, whose name isn't kept yet; `file BYTES` one that is kept, with its name
-    /// - `reads COUNT whole|stuck` says how many bytes a read gives at most, and whether the folder can be synced
-    /// - `trouble CALLS once|before|within|short BYTES` sets what goes wrong after so many good calls, and what a torn
+    /// - `reads COUNT whole|stuck` sets how many bytes a read gives at most, and whether the folder can be synced
+    /// - `trouble CALLS once|before|within|short BYTES` sets what goes wrong after CALLS good calls, and what a torn
     ///   write leaves; `short` is a write that fails by its count
     /// - `init`, `start`, `found` make a boot file, start, and start as the founder
     fn change(&mut self, case: &mut Case) {
@@ -49,7 +49,7 @@ impl BlockFile {
             .set_trouble(calls, trouble, is_short, &case.octets::<32>());
     }
 
-    /// A call of the disk over the file and its folder.
+    /// Does a call of the disk over the file and its folder, and prints its answer.
     fn call(&mut self, case: &mut Case) {
         let folder = self.file.folder();
         let file = mem::replace(&mut self.file, blank());
@@ -58,7 +58,8 @@ impl BlockFile {
         self.file = disk.into_file();
     }
 
-    /// These bytes are left where one was loose.
+    /// Crashes; the line's bytes are left in the places whose bytes aren't kept. Prints the file's bytes, or that no
+    /// file is left.
     fn crash(&mut self, case: &mut Case) {
         if self.file.crash(&case.octets::<32>()) {
             case.hex("done, ", &self.file.bytes());
@@ -69,7 +70,7 @@ impl BlockFile {
 }
 
 impl Actor for BlockFile {
-    /// What came of a line, and the bytes of the file afterwards, if one is left.
+    /// Does what a line says, and prints the answer and the bytes of the file afterwards, if one is left.
     fn act(&mut self, case: &mut Case) {
         case.title("", ": ");
         if case.word() == "crash" {

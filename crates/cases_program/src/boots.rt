@@ -1,4 +1,4 @@
-//! Boot files that `check` is shown.
+//! Boot files that `check` reads in the cases.
 use anyhow::Result;
 use std::fs::{self, OpenFile, OpenOptions, Permissions};
 use std::io::Write;
@@ -7,7 +7,7 @@ use std::os::unix::fs::PermissionsExt;
 /// The bytes of a whole boot file.
 const WHOLE: u64 = 32;
 
-/// A valid slot: a number, and its complement.
+/// Returns a valid slot: a number, and its complement.
 fn slot(number: u64) -> [u8; 16] {
     let mut slot = [0; 16];
     slot[..8].copy_from_slice(&number.to_be_bytes());
@@ -15,7 +15,8 @@ fn slot(number: u64) -> [u8; 16] {
     slot
 }
 
-/// A boot file whose first slot has these bytes, cut at a length. Its mode is 0600, whatever the mask of new files is.
+/// Makes a boot file with these bytes in its first slot, cut at a length. Its mode is 0600, whatever the mask of new
+/// files is.
 fn make_one(rt: &HostRuntime, path: &str, first: &[u8], length: u64) -> Result<()> {
     boot_file::create(rt, path)?;
     let mut file = OpenOptions::new().write(true).open(rt, path)?;
@@ -24,7 +25,7 @@ fn make_one(rt: &HostRuntime, path: &str, first: &[u8], length: u64) -> Result<(
     Ok(())
 }
 
-/// Makes the files that the cases name.
+/// Makes the boot files that the cases name.
 pub(crate) fn make(rt: &HostRuntime) -> Result<()> {
     make_one(rt, "fresh", &slot(0), WHOLE)?;
     make_one(rt, "used", &slot(7), WHOLE)?;

@@ -6,7 +6,8 @@ use cases_words::{Actor, Case};
 use std::fs;
 use std::os::unix::fs::PermissionsExt;
 
-/// It answers a name and the call behind it.
+/// The cases whose lines are calls of a boot file: a line is the name of the call and what the call
+/// takes.
 #[derive(Drop)]
 pub(crate) struct Calls {
     pub(crate) rt: HostRuntime,
@@ -20,7 +21,8 @@ impl Actor for Calls {
     }
 }
 
-/// What the call that the next word names answers; the word behind it names a file.
+/// Does the call that the next word names, on the file that the word after it names, and prints the
+/// answer.
 fn answer(rt: &HostRuntime, case: &mut Case) {
     match case.word() {
         "init" => make(rt, case),
@@ -41,7 +43,7 @@ fn make(rt: &HostRuntime, case: &mut Case) {
     }
 }
 
-/// Who may do what with a file, in octal digits.
+/// Prints who may do what with a file, in octal digits.
 fn tell_mode(rt: &HostRuntime, case: &mut Case) {
     match fs::metadata(rt, case.word()) {
         Ok(found) => case.octal("mode ", found.permissions().mode() & 0o777),
@@ -49,7 +51,7 @@ fn tell_mode(rt: &HostRuntime, case: &mut Case) {
     }
 }
 
-/// The bytes that a file has, behind an answer.
+/// Prints an answer, and after it the bytes of the file.
 fn show(rt: &HostRuntime, path: &str, answer: &str, case: &mut Case) {
     case.say(answer, "; ");
     match fs::read(rt, path) {
@@ -77,7 +79,7 @@ fn write(rt: &HostRuntime, case: &mut Case) {
     show(rt, path.as_str(), "written", case);
 }
 
-/// The file isn't there afterwards, whether it was or not.
+/// Removes a file, and prints the answer, which is the same where there was no file.
 fn remove(rt: &HostRuntime, case: &mut Case) {
     let path = case.name();
     let _ = fs::remove_file(rt, path.as_str());

@@ -9,13 +9,13 @@ use nat_types::GatewayId;
 use std::io::Write;
 use std::{fs, mem};
 
-/// Where an edited text lies while it is checked.
+/// The file of an edited text while it is checked.
 const EDITED: &str = "edited.toml";
 
-/// Where the sample settings lie.
+/// The file of the sample settings.
 pub(crate) const SAMPLE: &str = "sample.toml";
 
-/// The value of an option, as `10.0.0.1` of `link=10.0.0.1`, where it stands.
+/// Returns the value of an option, as `10.0.0.1` of `link=10.0.0.1`, or None where the option isn't there.
 fn option<'a>(options: &'a str, name: &str) -> Option<&'a str> {
     for word in options.split(' ') {
         if let Some(value) = word.strip_prefix(name) {
@@ -40,7 +40,7 @@ fn request(options: &str) -> Request<'_> {
     }
 }
 
-/// The sample with all edits, which are pairs of an old line and its new text.
+/// Returns the sample with all edits, which are pairs of an old line and its new text.
 fn all_edited(sample: &str, case: &mut Case) -> String {
     let copied = String::from_str(case.alloc, sample);
     let mut text = case.or_empty(copied);
@@ -51,8 +51,8 @@ fn all_edited(sample: &str, case: &mut Case) -> String {
     text
 }
 
-/// What `check` says of the edited sample; with `compare` what `compare` says of it beside the sample, and with `other=PATH`
-/// of the file there.
+/// Checks the edited sample. With `compare` compares it with the sample; with `other=PATH` compares the file there with
+/// the sample.
 fn say<O: Write>(
     rt: &HostRuntime,
     options: &str,
@@ -72,7 +72,7 @@ fn say<O: Write>(
     }
 }
 
-/// What is said of the edited sample, and after it what is told of faults, and the status.
+/// Checks the edited sample, and prints what the command prints, what is reported of faults, and the status.
 fn tell(rt: &HostRuntime, options: &str, case: &mut Case) {
     let mut errors = Vec::new(case.alloc);
     let status = match option(options, "full") {
@@ -85,6 +85,7 @@ fn tell(rt: &HostRuntime, options: &str, case: &mut Case) {
     case.end();
 }
 
+/// The cases of `check` and `compare`.
 #[derive(Drop)]
 pub(crate) struct Checks<'a> {
     pub(crate) rt: HostRuntime,
@@ -92,8 +93,8 @@ pub(crate) struct Checks<'a> {
 }
 
 impl Actor for Checks<'_> {
-    /// A line is `NAME;OPTIONS;OLD;NEW;OLD;NEW..`: what is said where the sample is edited so, and with
-    /// `full` what is told where the output is on a full disk.
+    /// A line is `NAME;OPTIONS;OLD;NEW;OLD;NEW..`: what the command prints where the sample is edited so, and with
+    /// `full` what is reported where the output is on a full disk.
     fn act(&mut self, case: &mut Case) {
         case.echo("\n");
         let options = case.name();

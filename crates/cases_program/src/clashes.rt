@@ -1,4 +1,4 @@
-//! Cases of loopback ports that can't be had together.
+//! Cases of loopback ports of which two clash.
 use crate::edits::edited;
 use crate::reading::settings_in;
 use cases_words::{Actor, Case};
@@ -13,7 +13,7 @@ fn say(clash: Option<Key>, case: &mut Case) {
     }
 }
 
-/// What clashes at box 0, at box 1, and at both.
+/// Prints what clashes at box 0, at box 1, and at both.
 fn say_clashes(settings: &Settings, on: OnLoopback, case: &mut Case) {
     say(port_clash(settings, GatewayId::Zero, on), case);
     say(port_clash(settings, GatewayId::One, on), case);
@@ -21,7 +21,7 @@ fn say_clashes(settings: &Settings, on: OnLoopback, case: &mut Case) {
     case.end();
 }
 
-/// The places that are on loopback: those that have `i`, `o` and `l`.
+/// Returns the places that are on loopback: inside for `i`, outside for `o`, link for `l`.
 fn places_in(places: &str) -> OnLoopback {
     OnLoopback {
         inside: places.contains('i'),
@@ -30,14 +30,15 @@ fn places_in(places: &str) -> OnLoopback {
     }
 }
 
+/// The cases of loopback ports that clash.
 #[derive(Drop)]
 pub(crate) struct Clashes<'a> {
     pub(crate) sample: &'a str,
 }
 
 impl Actor for Clashes<'_> {
-    /// A line is `NAME;PLACES;OLD;NEW`: of PLACES those that have `i`, `o` and `l` are on loopback. What
-    /// clashes at box 0, at box 1, and at both with all places.
+    /// A line is `NAME;PLACES;OLD;NEW`. The places whose letters (`i`, `o`, `l`) are in PLACES are
+    /// on loopback. Prints what clashes at box 0, at box 1, and at both with all places.
     fn act(&mut self, case: &mut Case) {
         case.echo(":");
         let on = places_in(case.word());

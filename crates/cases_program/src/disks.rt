@@ -6,7 +6,7 @@ use boot_store::{Disk, ModelDisk, Trouble, init, next_boot};
 use cases_words::{Actor, Case};
 use std::alloc::Global;
 
-/// What goes wrong; `short` does where a write says so.
+/// The troubles by their names; `short` is a write that fails by its count, where the file knows such a write.
 const TROUBLES: [(&str, Trouble); 4] = [
     ("once", Trouble::FailsOnce),
     ("short", Trouble::FailsOnce),
@@ -14,7 +14,7 @@ const TROUBLES: [(&str, Trouble); 4] = [
     ("within", Trouble::StopsWithin),
 ];
 
-/// The modelled disk, and what may stand where a write was torn.
+/// The modelled disk, and the files that may be left where a write was torn.
 #[derive(Drop)]
 pub(crate) struct Disks {
     disk: ModelDisk,
@@ -22,7 +22,7 @@ pub(crate) struct Disks {
 }
 
 impl Disks {
-    /// A disk of zero bytes.
+    /// Returns a modelled disk of zero bytes.
     pub(crate) fn new(alloc: Global) -> Disks {
         Disks {
             disk: ModelDisk::new(&[0; 32]),
@@ -51,11 +51,11 @@ impl Disks {
 }
 
 impl Actor for Disks {
-    /// What came of a line.
+    /// Does what a line says, and prints the answer:
     ///
-    /// - `short COUNT` starts on a file of so many bytes
-    /// - `torn BYTES` adds to what may stand where a write was torn
-    /// - `troubles LAST` tries each two troubles one after the other; the numbers are to rise above the last one
+    /// - `short COUNT` starts on a file of this many bytes
+    /// - `torn BYTES` adds to the files that may be left where a write was torn
+    /// - `troubles LAST` tries each two troubles one after the other; each number has to be greater than LAST
     /// - all others are calls of the disk: the answer, and the bytes of the disk afterwards
     fn act(&mut self, case: &mut Case) {
         case.title("", ": ");
@@ -69,7 +69,7 @@ impl Actor for Disks {
     }
 }
 
-/// What a call of the disk answers.
+/// Does a call of the disk, and prints its answer:
 ///
 /// - `init`, `start`, `found` make a boot file, start, and start as the founder
 /// - all else changes the disk
@@ -86,9 +86,11 @@ fn call(disk: &mut ModelDisk, case: &mut Case) {
     }
 }
 
+/// Changes the disk:
+///
 /// - `file BYTES` makes a new disk
-/// - `trouble CALLS once|before|within BYTES` sets what goes wrong after so many good calls, and what a torn write leaves
-/// - `crash BYTES` crashes; these bytes are left where one was loose
+/// - `trouble CALLS once|before|within BYTES` sets what goes wrong after CALLS good calls, and what a torn write leaves
+/// - `crash BYTES` crashes; these bytes are left in the places whose bytes aren't kept
 fn change(disk: &mut ModelDisk, case: &mut Case) {
     case.back();
     match case.word() {
@@ -102,6 +104,7 @@ fn change(disk: &mut ModelDisk, case: &mut Case) {
     }
 }
 
+/// Makes a boot file on a disk, and prints `made` or the fault.
 pub(crate) fn made<D: Disk>(disk: &mut D, case: &mut Case) {
     match init(disk) {
         Ok(()) => case.put("made"),
@@ -109,6 +112,7 @@ pub(crate) fn made<D: Disk>(disk: &mut D, case: &mut Case) {
     }
 }
 
+/// Starts from the boot file on a disk, and prints the boot's number or the fault.
 pub(crate) fn started<D: Disk>(disk: &mut D, found: bool, case: &mut Case) {
     match next_boot(disk, found) {
         Ok(boot) => case.say("boot ", boot),
@@ -116,6 +120,7 @@ pub(crate) fn started<D: Disk>(disk: &mut D, found: bool, case: &mut Case) {
     }
 }
 
+/// Returns the trouble that the next word names.
 pub(crate) fn trouble(case: &mut Case) -> Trouble {
     case.pick(&TROUBLES, Trouble::None)
 }

@@ -3,7 +3,8 @@ use crate::reading;
 use cases_words::{Actor, Case};
 use std::alloc::{AllocError, Global};
 
-/// The text with its first line that is `old` replaced by `new`, whose `|` stand for line ends.
+/// Returns the text with its first line that is `old` replaced by `new`, in which `|` is a line
+/// end.
 pub(crate) fn replaced(
     alloc: Global,
     text: &str,
@@ -35,13 +36,14 @@ fn add(text: &mut String, line: &str) -> Result<(), AllocError> {
     text.push('\n')
 }
 
-/// The text with its first line that is the next word replaced by the word behind it.
+/// Returns the text with its first line that is the next word replaced by the word after that.
 pub(crate) fn edited(text: &str, case: &mut Case) -> String {
     let (old, new) = (case.name(), case.name());
     let edited = replaced(case.alloc, text, old.as_str(), new.as_str());
     case.or_empty(edited)
 }
 
+/// The cases of edited settings.
 #[derive(Drop)]
 pub(crate) struct Edits<'a> {
     pub(crate) sample: &'a str,

@@ -1,4 +1,4 @@
-//! The files that the cases read, write and look at.
+//! The files that the cases read, write and print.
 
 use crate::edits::replaced;
 use anyhow::{Context, Result};
@@ -6,7 +6,7 @@ use cases_words::Case;
 use faults::read_text;
 use std::fs;
 
-/// The text of the file of a name and a kind.
+/// Returns the text of the file of a name and a kind.
 pub(crate) fn text_at(rt: &HostRuntime, name: &str, kind: &str) -> Result<String> {
     let path = format!(in rt.alloc(); "{name}.{kind}")?;
     Ok(read_text(rt, path.as_str())?)

@@ -2,7 +2,7 @@
 
 use std::io::{self, ErrorKind, Write};
 
-/// A writer that takes all bytes, as a buffer does, and finds no room for them when they are flushed.
+/// A writer that takes all bytes, as a buffer does, and fails with StorageFull when it is flushed.
 #[derive(Drop)]
 pub(crate) struct Full;
 

@@ -1,4 +1,4 @@
-//! A line of the list: which script is run, and through what.
+//! A line of loops.list: which script is run, and through which channel.
 
 use crate::files::text_at;
 use crate::memories::Memory;
@@ -9,6 +9,7 @@ use faults::Fault;
 use simulation::{Capture, looped, read_job};
 use std::alloc::Global;
 
+/// The cases of scripts through a channel.
 #[derive(Drop)]
 pub(crate) struct Lines {
     pub(crate) rt: HostRuntime,
@@ -17,7 +18,8 @@ pub(crate) struct Lines {
 impl Actor for Lines {
     /// Prints what the run of a line prints, with the settings of loops.toml where it names no others.
     ///
-    /// - `every COUNT NAME` runs the file NAME.script through a channel that loses each of COUNT messages; none at 0
+    /// - `every COUNT NAME` runs the file NAME.script through a channel that loses every COUNT-th message, and none at
+    ///   0
     /// - `ports NAME` runs it through the loopback ports of the settings
     /// - `with NAME SCRIPT` runs the file SCRIPT.script through the loopback ports of the settings of NAME.toml
     ///
@@ -39,8 +41,8 @@ impl Actor for Lines {
     }
 }
 
-/// Output, faults and status of a script's run through a channel, that of the loopback ports where there is none, and whether
-/// the output is that of one without.
+/// Runs a script through a channel, or through the loopback ports where there is none. Prints its output, its faults
+/// and its status, and whether the output is that of a run without a channel.
 fn passed(rt: &HostRuntime, settings: &str, memory: Option<Memory>, case: &mut Case) {
     match texts_of(rt, settings, case.word()) {
         Ok((settings, script)) => run(rt, settings.as_str(), script.as_str(), memory, case),
@@ -88,7 +90,7 @@ fn through(
     )
 }
 
-/// The output of a run without a channel.
+/// Returns the output of a run without a channel.
 fn plain(rt: &HostRuntime, settings: &str, script: &str) -> Vec<u8> {
     let (mut plain, mut errors) = (Vec::new(rt.alloc()), Vec::new(rt.alloc()));
     status_of(rt, settings, script, &mut plain, &mut errors);

@@ -1,4 +1,4 @@
-//! What comes to a socket while a line of words is acted on.
+//! The sockets that receive while a line of words is acted on.
 
 use anyhow::Result;
 use cases_words::Case;
@@ -7,20 +7,20 @@ use std::fs;
 use std::io::{ErrorKind, Read};
 use std::net::{Ipv4Addr, SocketAddr, SocketAddrV4};
 
-/// The bytes of the longest datagram of the link.
+/// The length of the longest datagram of the link, in bytes.
 const LONGEST: usize = 2_214;
 
-/// A port of the loopback address.
+/// Returns a port of the loopback address.
 fn at(port: u16) -> SocketAddr {
     SocketAddr::V4(SocketAddrV4::new(Ipv4Addr::LOCALHOST, port))
 }
 
-/// A socket at a port.
+/// Returns a socket at a port of the loopback address.
 pub(crate) fn bind(rt: &HostRuntime, port: u16) -> Result<UdpSocket> {
     Ok(UdpSocket::bind(rt, at(port))?)
 }
 
-/// A socket at a port, which speaks with another.
+/// Returns a socket at a port of the loopback address, which is connected to another one.
 pub(crate) fn bind_to(rt: &HostRuntime, port: u16, other: u16) -> Result<UdpSocket> {
     let socket = bind(rt, port)?;
     socket.connect(at(other))?;
@@ -38,14 +38,14 @@ pub(crate) fn show_first(socket: &UdpSocket, case: &mut Case) {
     case.end();
 }
 
-/// The control socket beside a boot file, with nobody who answers.
+/// Returns a listener at the control socket beside a boot file, which answers nobody.
 pub(crate) fn deaf(rt: &HostRuntime, boot_file: &str) -> Result<UnixListener> {
     let path = format!(in rt.alloc(); "{boot_file}.control/socket")?;
     let _missing = fs::remove_file(rt, path.as_str());
     Ok(UnixListener::bind(rt, path.as_str())?)
 }
 
-/// Prints what the first caller has said.
+/// Prints what the first caller said.
 pub(crate) fn show_said(listener: &UnixListener, case: &mut Case) {
     match listener.accept() {
         Ok((mut caller, _)) => show_word(&mut caller, case),

@@ -7,7 +7,8 @@ use std::alloc::Global;
 const NEIGHBOUR: &str =
     "[[neighbour]]\nside = \"inside\"\nip = \"192.168.1.77\"\nmac = \"02-00-00-00-00-4D\"\n";
 
-/// The sample's text up to its neighbours, with a line above it and so many neighbours below.
+/// Returns the sample's text up to its neighbours, with `first` as a line before it and `count`
+/// neighbours after it.
 fn listed(alloc: Global, sample: &str, count: usize, first: &str) -> Result<String> {
     let (head, _) = sample
         .split_once("[[neighbour]]")
@@ -19,13 +20,15 @@ fn listed(alloc: Global, sample: &str, count: usize, first: &str) -> Result<Stri
     Ok(text)
 }
 
+/// The cases of lists of neighbours.
 #[derive(Drop)]
 pub(crate) struct Lists<'a> {
     pub(crate) sample: &'a str,
 }
 
 impl Actor for Lists<'_> {
-    /// A line is `NAME;COUNT;LINE`.
+    /// A line is `NAME;COUNT;LINE`: the sample with COUNT neighbours, after the line LINE. Prints
+    /// whether it is read, or why it isn't.
     fn act(&mut self, case: &mut Case) {
         case.echo(": ");
         let count = case.count();

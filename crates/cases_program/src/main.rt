@@ -1,6 +1,6 @@
-//! Texts of settings, command lines and boot files (`texts`). Then it runs scripts as the lines of `rows.list` say; then does
-//! what lines of words say, as `natpair` would; then runs scripts as the lines of `loops.list` say, through a channel. It
-//! prints what each prints, its faults and its status.
+//! The tests of the whole program, as data: texts of settings, command lines and boot files (`texts`); then scripts, as
+//! the lines of `rows.list` say; then lines of words, done as `natpair` would; then scripts through a channel, as the
+//! lines of `loops.list` say. Each prints its output, its faults and its status.
 #![tactic(auto)]
 
 mod audits;

@@ -3,7 +3,7 @@
 use captures::Interface;
 use simulation::Channel;
 
-/// A channel that loses each of so many, and passes all others.
+/// A channel in memory that loses every `every`-th message, and passes all others.
 #[derive(Drop)]
 pub(crate) struct Memory {
     every: u64,
@@ -11,7 +11,7 @@ pub(crate) struct Memory {
 }
 
 impl Memory {
-    /// Loses each of so many; none at 0.
+    /// Returns a channel that loses every `every`-th message, and none where that is 0.
     pub(crate) fn losing(every: u64) -> Memory {
         Memory { every, since: 0 }
     }

@@ -1,28 +1,28 @@
-//! A file in memory, as honest blocks.
+//! A file in memory that keeps the contract of `Blocks`.
 ghost use Rattle.std.specs.Prelude.{◌≡◌, ◌⊎◌, ◌+◌, ◌≤◌, length, take, drop, IsTrue};
 
 use boot_file::Blocks;
 use boot_store::{Disk, Failures, ModelDisk, Trouble};
 use std::io::{self, ErrorKind};
 
-/// A file of 32 bytes that does what blocks may do, and goes wrong as it is told.
+/// A file of 32 bytes in memory, whose calls fail as the cases say.
 #[derive(Drop)]
 pub struct MemoryBlocks {
     disk: ModelDisk,
-    /// Its name outlasts a crash.
+    /// Whether the file's name outlasts a crash.
     named: bool,
-    /// The most bytes of a read.
+    /// The most bytes that a read gives.
     most: usize,
-    /// A write that fails says that it was short.
+    /// Whether a write that fails says that it was short.
     is_short: bool,
-    /// The folder can't be synced.
+    /// Whether syncing the folder fails.
     is_stuck: bool,
-    /// How often its name couldn't be kept.
+    /// How often the file's name couldn't be kept.
     unnamed: Failures,
 }
 
 impl MemoryBlocks {
-    /// A file with these bytes, all of them kept, of which nothing goes wrong.
+    /// Returns a file with these bytes, all of them kept, of which no call fails.
     pub fn new(file: &[u8; 32], named: bool) -> MemoryBlocks {
         MemoryBlocks {
             disk: ModelDisk::new(file),
@@ -34,39 +34,41 @@ impl MemoryBlocks {
         }
     }
 
-    /// The folder that has its name.
+    /// Returns the folder that has the file's name.
     pub fn folder(&self) -> MemoryBlocks {
         let mut folder = MemoryBlocks::new(&[0; 32], true);
         folder.is_stuck = self.is_stuck;
         folder
     }
 
-    /// How many bytes a read gives at most, and whether its folder can't be synced.
+    /// Sets the most bytes that a read gives, and whether syncing the folder fails.
     pub fn set_limits(&mut self, most: usize, is_stuck: bool) {
         self.most = most;
         self.is_stuck = is_stuck;
     }
 
-    /// What goes wrong after so many good calls: drops of the cache, writes and syncs. A write that
-    /// fails says that it was short where it is told so.
+    /// Sets what goes wrong after this many good calls, which are drops of the cache, writes and syncs. With `is_short`
+    /// a write that fails says that it was short.
     pub fn set_trouble(&mut self, calls: u64, trouble: Trouble, is_short: bool, any: &[u8; 32]) {
         self.disk.set_trouble(calls, trouble, any);
         self.is_short = is_short;
     }
 
-    /// A crash; these bytes are left where any may be. It says whether the file's name is left.
+    /// Crashes; the bytes `any` are left in the places whose bytes aren't kept. Answers whether the file's name is
+    /// left.
     pub fn crash(&mut self, any: &[u8; 32]) -> bool {
         self.disk.crash(any);
         self.named
     }
 
-    /// The bytes as they stand.
+    /// Returns the bytes of the file at this time.
     pub fn bytes(&self) -> [u8; 32] {
         self.disk.bytes()
     }
 }
 
-/// How many bytes of 32 are read from a place on: at most so many, but one at least where there is one and room for it.
+/// Returns how many bytes of 32 are read from place `at` on: at most `most`, but at least one where there is one and
+/// the buffer isn't empty.
 fn part_length(room: usize, at: usize, most: usize) -> usize
     ensures room { result ≤ room }
     ensures within { at ≤ 32 → at + result ≤ 32 }
@@ -75,7 +77,7 @@ fn part_length(room: usize, at: usize, most: usize) -> usize
     room.min(32_usize.saturating_sub(at)).min(most.max(1))
 }
 
-/// Copies bytes from a place on to the room's front, at most so many but one at least, and says how many.
+/// Copies bytes from place `at` on to the buffer's front, at most `most` but at least one, and returns how many.
 fn copy_part(bytes: &[u8; 32], at: usize, most: usize, room: &mut [u8]) -> usize
     ensures count { result ≤ length room.old }
     ensures bytes { take result room.new ≡ take result (drop at bytes.now) }

@@ -1,13 +1,15 @@
-//! A writer that takes a number of bytes, and then no more.
+//! A writer that takes a number of bytes, and then fails.
 
 use std::io::{self, ErrorKind, Write};
 
+/// A writer that takes a number of bytes, and then fails with BrokenPipe.
 #[derive(Drop)]
 pub(crate) struct Narrow {
     room: usize,
 }
 
 impl Narrow {
+    /// Returns a writer that takes `room` bytes.
     pub(crate) fn new(room: usize) -> Narrow {
         Narrow { room }
     }

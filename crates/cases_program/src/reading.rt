@@ -4,12 +4,13 @@ use settings::Settings;
 use settings_file::SettingFault;
 use std::alloc::Global;
 
-/// The settings that a text says. What a caller has to show stays small where this says nothing of them.
+/// Returns the settings that a text says. The function has no contract, which keeps the proofs of
+/// its callers small.
 pub(crate) fn settings_in(alloc: Global, text: &str) -> Result<Settings, SettingFault> {
     settings_file::read(alloc, text)
 }
 
-/// Prints whether a text is read, or why it isn't.
+/// Prints whether a text is read as settings, or why it isn't.
 pub(crate) fn say(text: &str, case: &mut Case) {
     match settings_in(case.alloc, text) {
         Ok(settings) => {

@@ -1,4 +1,4 @@
-//! A line of the list: which script is run, and on what.
+//! A line of rows.list: which script is run, and with which settings.
 
 use crate::audits;
 use crate::files::text_at;
@@ -9,6 +9,7 @@ use simulation::{Progress, sim};
 use std::alloc::{AllocError, Global};
 use std::io::Write;
 
+/// The cases of scripts.
 #[derive(Drop)]
 pub(crate) struct Rows {
     pub(crate) rt: HostRuntime,
@@ -17,9 +18,9 @@ pub(crate) struct Rows {
 impl Actor for Rows {
     /// Prints what the run of a line prints, with the settings of rows.toml where it names no others.
     ///
-    /// - `line TEXT` runs a script of that one line, `times COUNT TEXT` one of so many
+    /// - `line TEXT` runs a script of that one line, `times COUNT TEXT` one of COUNT such lines
     /// - `settings TEXT` runs an empty script with this text for the settings
-    /// - `room COUNT TEXT` runs a script of one line, whose output has room for so many bytes
+    /// - `room COUNT TEXT` runs a script of one line, whose output takes COUNT bytes and then fails
     /// - `file NAME` reads a script's file
     /// - all else runs a script's file (`scripted`)
     fn act(&mut self, case: &mut Case) {
@@ -43,12 +44,14 @@ impl Actor for Rows {
     }
 }
 
-/// The settings' text.
+/// Returns the text of the settings rows.toml.
 fn sample(rt: &HostRuntime, case: &mut Case) -> String {
     let read = text_at(rt, "rows", "toml");
     case.or_empty(read)
 }
 
+/// Runs a script's file:
+///
 /// - `script NAME` runs the file NAME.script, and audits its trace; `with NAME` does so with the settings of NAME.toml
 /// - `each NAME` runs NAME.script event by event, and audits the trace after each; it prints how many there were, or the
 ///   first one after which the audit fails; `each-with NAME` does so with the settings of NAME.toml
@@ -75,7 +78,7 @@ fn scripted(rt: &HostRuntime, case: &mut Case) {
     }
 }
 
-/// Nobody who watches a run.
+/// A watcher of a run that does nothing.
 #[derive(Drop)]
 struct Nobody;
 
@@ -83,7 +86,7 @@ impl Progress for Nobody {
     fn reached(&mut self, _done: usize, _all: usize) {}
 }
 
-/// The status of a script, whose fault is reported.
+/// Returns the status of a script's run, whose fault is reported.
 pub(crate) fn status_of<O: Write>(
     rt: &HostRuntime,
     settings: &str,
@@ -95,7 +98,7 @@ pub(crate) fn status_of<O: Write>(
     settled(rt.alloc(), status, errors)
 }
 
-/// The status of a run, whose fault is reported.
+/// Returns the status of a run, whose fault is reported.
 pub(crate) fn settled(alloc: Global, status: Result<u8, Fault>, errors: &mut Vec<u8>) -> u8 {
     match status {
         Ok(status) => status,
@@ -103,21 +106,21 @@ pub(crate) fn settled(alloc: Global, status: Result<u8, Fault>, errors: &mut Vec
     }
 }
 
-/// Output, faults and status of a script.
+/// Runs a script, and prints its output, its faults and its status.
 fn simulated(rt: &HostRuntime, settings: &str, script: &str, case: &mut Case) {
     let mut errors = Vec::new(case.alloc);
     let status = status_of(rt, settings, script, &mut case.out, &mut errors);
     tell(status, errors.as_slice(), case);
 }
 
-/// What is told of faults, and the status.
+/// Prints what is reported of faults, and the status.
 pub(crate) fn tell(status: u8, errors: &[u8], case: &mut Case) {
     case.text(errors);
     case.say("status ", status);
     case.end();
 }
 
-/// A script of the same line many times.
+/// Runs a script of the same line many times.
 fn repeated(rt: &HostRuntime, case: &mut Case) {
     let count = case.times();
     let line = case.rest();
@@ -135,7 +138,7 @@ fn lines_of(alloc: Global, line: &str, count: u32) -> Result<String, AllocError>
     Ok(script)
 }
 
-/// A script whose output is refused once so many bytes are written.
+/// Runs a script whose output fails after a number of bytes.
 fn crowded(rt: &HostRuntime, case: &mut Case) {
     let mut narrow = unbuffered(case.alloc, Narrow::new(case.count()));
     let script = case.rest();
@@ -151,7 +154,7 @@ fn crowded(rt: &HostRuntime, case: &mut Case) {
     tell(status, errors.as_slice(), case);
 }
 
-/// A script's file that may not be one.
+/// Runs a script's file that may not be one.
 fn opened(rt: &HostRuntime, case: &mut Case) {
     match read_text(rt, case.word()) {
         Ok(text) => {

@@ -1,9 +1,10 @@
-//! The built-in settings, as the text that spells them.
+//! The text of the built-in settings.
 
 use addresses::Ip;
 use cases_words::Case;
 use settings::{GatewaySettings, IcmpSettings, InterfaceSettings, Neighbour, PortRange, Settings};
 
+/// Prints the built-in settings as a settings file spells them.
 pub(crate) fn print(case: &mut Case, settings: &Settings) {
     case.put("[ports]\n");
     range(case, "zero", settings.ports.zero);

@@ -1,9 +1,9 @@
-//! A disk that claims nothing, with a file that may be too short.
+//! A disk whose file may be too short, and whose contract claims nothing.
 ghost use Rattle.std.specs.Prelude.{[]};
 
 use boot_store::{DeviceFault, Disk};
 
-/// A file of so many zero bytes.
+/// A file of this many zero bytes.
 #[derive(Drop)]
 pub struct Short(pub usize);
 

@@ -1,10 +1,10 @@
-//! Lines of words as command lines: what each asks for, or why it is refused.
+//! Lines of words as command lines: the task of each, or why it is refused.
 
 use cases_words::{Actor, Case};
 use command_line::{LineFault, Task, command};
 use std::alloc::{AllocError, Global};
 
-/// The words of a line, which stand apart by single spaces. `''` is the empty word.
+/// Returns the words of a line, which are separated by single spaces. `''` is the empty word.
 pub(crate) fn words_of(alloc: Global, line: &str) -> Result<Vec<String>, AllocError> {
     let mut words = Vec::new(alloc);
     for word in line.split(' ') {
@@ -14,12 +14,13 @@ pub(crate) fn words_of(alloc: Global, line: &str) -> Result<Vec<String>, AllocEr
     Ok(words)
 }
 
-/// The task that words ask for. What a caller has to show stays small where this says nothing of it.
+/// Returns the task that words ask for. The function has no contract, which keeps the proofs of its
+/// callers small.
 fn asked(alloc: Global, words: &[String]) -> Result<Task, LineFault> {
     command(alloc, words)
 }
 
-/// What words ask for.
+/// Prints the task that words ask for, or why they are refused.
 fn say(words: &[String], case: &mut Case) {
     match asked(case.alloc, words) {
         Ok(task) => {
@@ -36,7 +37,7 @@ fn say(words: &[String], case: &mut Case) {
     case.end();
 }
 
-/// Why a line is refused: the kind of `clap`'s error, or the fault's own text.
+/// Prints why a line is refused: the kind of `clap`'s error, or the fault's own text.
 fn say_reason(fault: &LineFault, case: &mut Case) {
     match fault {
         LineFault::Refused(error) => case.show("", error.kind()),
@@ -44,7 +45,7 @@ fn say_reason(fault: &LineFault, case: &mut Case) {
     }
 }
 
-/// What a user is told of words that are refused.
+/// Prints what a user is told of words that are refused.
 fn tell(words: &[String], case: &mut Case) {
     match asked(case.alloc, words) {
         Ok(task) => {
@@ -59,11 +60,12 @@ fn tell(words: &[String], case: &mut Case) {
     case.end();
 }
 
+/// The cases of command lines.
 #[derive(Drop)]
 pub(crate) struct Tasks;
 
 impl Actor for Tasks {
-    /// A line is words, or `? ` and words: then the whole text is printed.
+    /// A line is words, or `? ` and words: then the whole text that a user is told is printed.
     fn act(&mut self, case: &mut Case) {
         case.title("", "\n");
         let is_whole = case.word() == "?";

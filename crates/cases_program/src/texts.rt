@@ -1,6 +1,7 @@
-//! Texts of settings, command lines, and boot files. Reads the sample settings, and texts that differ from them, and prints why
-//! each is refused and what `check` says of them; prints the built-in settings; and reads command lines. Then it makes and
-//! starts boot files: in its folder, on a modelled disk, and on blocks in memory.
+//! Texts of settings, command lines, and boot files. The cases read the sample settings, and texts that differ from
+//! them, and print why each is refused and what `check` says of it; they print the built-in settings; and they read
+//! command lines. Then they make and start boot files: in the working folder, on a modelled disk, and on blocks in
+//! memory.
 
 use crate::blocks::BlockFile;
 use crate::calls::Calls;
@@ -29,7 +30,7 @@ fn shown(settings: &Settings, case: &mut Case) -> String {
     case.or_empty(shown)
 }
 
-/// Whether the sample text says the built-in settings, and what its digest is.
+/// Prints whether the sample text says the built-in settings, and what its digest is.
 fn say_sample(read: &Settings, case: &mut Case) -> Result<()> {
     let built = Settings::sample(case.alloc)?;
     let same = are_same(read, &built, case);
@@ -60,7 +61,7 @@ fn try_checks(rt: &HostRuntime, sample: &str, case: &mut Case) -> Result<()> {
     tried
 }
 
-/// All that is said of texts, and the digest of the settings that the sample says.
+/// Does all cases of texts, and prints the digest of the settings that the sample says.
 fn try_texts(rt: &HostRuntime, sample: &str, read: &Settings, case: &mut Case) -> Result<()> {
     say_sample(read, case)?;
     play(rt, "settings.cases", Edits { sample }, case)?;
@@ -85,14 +86,14 @@ fn try_settings(rt: &HostRuntime, case: &mut Case) -> Result<()> {
     say_built(case)
 }
 
-/// Boot files in the working folder, on the modelled disk, and on blocks in memory.
+/// Does the cases of boot files: in the working folder, on the modelled disk, and on blocks in memory.
 fn try_boots(rt: &HostRuntime, case: &mut Case) -> Result<()> {
     play(rt, "boot.cases", Calls { rt: *rt }, case)?;
     play(rt, "boots.cases", Disks::new(case.alloc), case)?;
     play(rt, "blocks.cases", BlockFile::new(), case)
 }
 
-/// All of them.
+/// Does all cases of texts and boot files.
 pub(crate) fn try_all(rt: &HostRuntime, case: &mut Case) -> Result<()> {
     try_settings(rt, case)?;
     case.part_by(' ');

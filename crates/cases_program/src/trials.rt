@@ -2,7 +2,8 @@
 
 use boot_store::{BootFault, ModelDisk, Trouble, next_boot};
 
-/// A start's good calls before its trouble, and the trouble. A start syncs, reads, writes and syncs.
+/// The troubles of a start: the number of good calls before the trouble, and the trouble. A start syncs, reads, writes
+/// and syncs.
 const TROUBLES: [(u64, Trouble); 13] = [
     (0, Trouble::None),
     (0, Trouble::FailsOnce),
@@ -19,17 +20,18 @@ const TROUBLES: [(u64, Trouble); 13] = [
     (3, Trouble::StopsWithin),
 ];
 
-/// Runs of three starts each on one file, and how many of them went wrong.
+/// Runs of three starts each on one file: how many there were, and how many of them went wrong.
 #[derive(Drop)]
 pub struct Trials {
     file: [u8; 32],
-    /// Each number is to be greater.
+    /// The number above which each start's number has to be.
     last: u64,
     pub runs: u32,
     pub wrong: u32,
 }
 
 impl Trials {
+    /// Returns the runs of a file with these bytes, whose numbers have to be above `last`.
     pub fn of(file: [u8; 32], last: u64) -> Trials {
         Trials {
             file,
@@ -39,7 +41,7 @@ impl Trials {
         }
     }
 
-    /// A run for each two troubles and each file that may stand where a write was torn.
+    /// Does a run for each two troubles and each file that may be left where a write was torn.
     pub fn run(&mut self, torn: &[[u8; 32]]) {
         for torn in torn {
             self.run_torn(torn);
@@ -61,7 +63,8 @@ impl Trials {
         }
     }
 
-    /// A start with the first trouble, one with the second, a crash, and a start without trouble.
+    /// Whether a run is right: a start with the first trouble, one with the second, a crash, and a start without
+    /// trouble.
     fn is_right(&self, torn: &[u8; 32], first: (u64, Trouble), second: (u64, Trouble)) -> bool {
         let mut disk = ModelDisk::new(&self.file);
         let Some(last) = started(&mut disk, torn, first, self.last) else {
@@ -75,7 +78,8 @@ impl Trials {
     }
 }
 
-/// The last number after a start, if all is well: an error where there is trouble, else a greater number or none left.
+/// Starts, and returns the last number afterwards, or None where the answer is wrong. With trouble an error is right,
+/// and without trouble a number above `last`; that no number is left is right in both.
 fn started(
     disk: &mut ModelDisk,
     torn: &[u8; 32],

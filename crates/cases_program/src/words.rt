@@ -10,6 +10,7 @@ use mio::net::UdpSocket;
 use std::alloc::Global;
 use std::os::fd::AsRawFd;
 
+/// The cases of whole commands.
 #[derive(Drop)]
 pub(crate) struct Words {
     pub(crate) rt: HostRuntime,
@@ -43,12 +44,13 @@ impl Actor for Words {
     }
 }
 
-/// The status of words. What a caller has to show stays small where this says nothing of it.
+/// Does words as a command line, and returns the status. The function has no contract, which keeps the proofs of its
+/// callers small.
 fn status_of(rt: &HostRuntime, words: &[String], output: &mut Vec<u8>, errors: &mut Vec<u8>) -> u8 {
     act(rt, words, output, errors, false)
 }
 
-/// Output, faults and status of the words that are left.
+/// Does the words that are left in the line, and prints output, faults and status.
 fn acted(rt: &HostRuntime, case: &mut Case) {
     let line = case.rest();
     acted_on(rt, line.as_str(), case);
@@ -65,7 +67,7 @@ fn acted_on(rt: &HostRuntime, line: &str, case: &mut Case) {
     }
 }
 
-/// The same, with the first datagram that came to a port meanwhile.
+/// Does the words, and prints the first datagram that came to a port meanwhile, too.
 fn heard(rt: &HostRuntime, case: &mut Case) {
     match listening::bind(rt, case.port().0) {
         Ok(socket) => {
@@ -76,7 +78,7 @@ fn heard(rt: &HostRuntime, case: &mut Case) {
     }
 }
 
-/// The same, while a box runs on a boot file.
+/// Does the words while a box runs on a boot file.
 fn held(rt: &HostRuntime, case: &mut Case) {
     match boot_file::open(rt, case.word()) {
         Ok(disk) => {
@@ -87,7 +89,8 @@ fn held(rt: &HostRuntime, case: &mut Case) {
     }
 }
 
-/// The same, with what was said at the control socket beside a boot file meanwhile, where nobody answers.
+/// Does the words, and prints what was said meanwhile at the control socket beside a boot file, where nobody answers,
+/// too.
 fn unheard(rt: &HostRuntime, case: &mut Case) {
     match listening::deaf(rt, case.word()) {
         Ok(listener) => {
@@ -98,7 +101,7 @@ fn unheard(rt: &HostRuntime, case: &mut Case) {
     }
 }
 
-/// The same, with an open descriptor into which bytes came before, and what was sent by it.
+/// Does the words with an open descriptor into which bytes came before, and prints what was sent by it, too.
 fn inherited(rt: &HostRuntime, case: &mut Case) {
     let (own, other) = (case.port().0, case.port().0);
     let bytes = case.bytes();
@@ -112,7 +115,7 @@ fn inherited(rt: &HostRuntime, case: &mut Case) {
     }
 }
 
-/// A socket at the other port, and one at the own port to which it has sent bytes.
+/// Returns a socket at the other port, and one at the own port to which that has sent the bytes.
 fn ends(rt: &HostRuntime, own: u16, other: u16, bytes: &[u8]) -> Result<(UdpSocket, UdpSocket)> {
     let far = listening::bind_to(rt, other, own)?;
     let near = listening::bind_to(rt, own, other)?;
@@ -120,7 +123,7 @@ fn ends(rt: &HostRuntime, own: u16, other: u16, bytes: &[u8]) -> Result<(UdpSock
     Ok((far, near))
 }
 
-/// The words, in which `descriptor:N` stands for a socket's descriptor.
+/// Does the words, in which `descriptor:N` is replaced by a socket's descriptor.
 fn act_by(rt: &HostRuntime, line: &str, near: &UdpSocket, case: &mut Case) {
     match named(case.alloc, line, near) {
         Ok(line) => acted_on(rt, line.as_str(), case),

@@ -1,4 +1,5 @@
-//! Two boxes, the hub at the other end of gateway 0's wires, and a box whose ways the cases say.
+//! The boxes of the cases: two boxes, the hub at the other end of gateway 0's wires, and a box
+//! whose ways the cases say.
 
 use anyhow::{Context, Result};
 use cases_words::Case;
@@ -7,7 +8,7 @@ use sockets::{CONTROL, Ports, Sockets, Way, Ways};
 use std::net::UdpSocket;
 use std::os::fd::AsRawFd;
 
-/// All three places by the loopback address.
+/// The ways of a box that has all three places on the loopback address.
 const ON_LOOPBACK: Ways = Ways {
     inside: Way::Loopback,
     outside: Way::Loopback,
@@ -38,15 +39,17 @@ const PORTS: [Ports; 4] = [
     },
 ];
 
+/// The boxes of the cases, and what an inherited descriptor stands for.
 #[derive(Drop)]
 pub(crate) struct Boxes {
     /// Box zero, box one, the hub, and the box with ways of its own, once it is opened.
     pub(crate) sockets: Vec<Sockets>,
-    /// What stands for an inherited descriptor: port 27321, connected to 27322.
+    /// The socket that is used as an inherited descriptor: port 27321, connected to 27322.
     inherited: UdpSocket,
 }
 
 impl Boxes {
+    /// Opens box zero, box one and the hub, and the socket for an inherited descriptor.
     pub(crate) fn open(rt: &HostRuntime) -> Result<Boxes> {
         let inherited = UdpSocket::bind(rt, "127.0.0.1:27321")?;
         inherited.connect("127.0.0.1:27322")?;
@@ -56,7 +59,8 @@ impl Boxes {
         })
     }
 
-    /// Opens the box with ways of its own, in place of the one before; `descriptor` is what is inherited.
+    /// Opens the box with ways of its own, in place of the one before; `descriptor` in its ways is
+    /// the inherited one.
     pub(crate) fn open_other(&mut self, rt: &HostRuntime, case: &mut Case) {
         self.sockets.truncate(3);
         let descriptor = u16::try_from(self.inherited.as_raw_fd()).ok();
@@ -72,7 +76,8 @@ impl Boxes {
     }
 }
 
-/// The ways that the next three words write, where `descriptor` is this one, if there is one.
+/// Returns the ways that the next three words say, in which `descriptor` is this descriptor, if
+/// there is one.
 pub(crate) fn ways_in(case: &mut Case, descriptor: Option<u16>) -> Ways {
     Ways {
         inside: way_in(case, descriptor),
@@ -90,7 +95,7 @@ fn way_in(case: &mut Case, descriptor: Option<u16>) -> Way {
     case.or(read, Way::Loopback)
 }
 
-/// Where a box stands in their list.
+/// Returns the place of a box in their list.
 pub(crate) fn number_of(name: &str) -> usize {
     match name {
         "zero" => 0,
@@ -114,7 +119,7 @@ fn add_on_loopback(rt: &HostRuntime, name: &str, sockets: &mut Vec<Sockets>) -> 
     Ok(())
 }
 
-/// A box on the loopback address, with a control socket of this name.
+/// Opens a box on the loopback address, with a control socket of this name.
 pub(crate) fn on_loopback(rt: &HostRuntime, number: usize, control: &str) -> Result<Sockets> {
     opened(rt, number, control, &ON_LOOPBACK)
 }
@@ -125,7 +130,7 @@ fn opened(rt: &HostRuntime, number: usize, control: &str, ways: &Ways) -> Result
     Ok(Sockets::open(rt, ways, ports, control)?)
 }
 
-/// The control socket of a box of this name.
+/// Opens the control socket of a box of this name.
 pub(crate) fn control_at(rt: &HostRuntime, name: &str) -> Result<Control> {
     let path = ControlPath::beside(rt.alloc(), name)?;
     Ok(Control::open(rt, &path, CONTROL)?)

@@ -5,20 +5,21 @@ use cases_words::Case;
 use std::io::{ErrorKind, Read, Write};
 use std::os::unix::net::UnixStream;
 
-/// Clients, in the order in which they connected.
+/// The clients, in the order in which they connected.
 #[derive(Drop)]
 pub(crate) struct Clients {
     streams: Vec<UnixStream>,
 }
 
 impl Clients {
+    /// Returns no clients.
     pub(crate) fn none(rt: &HostRuntime) -> Clients {
         Clients {
             streams: Vec::new(rt.alloc()),
         }
     }
 
-    /// So many more connect.
+    /// Connects `count` clients more.
     pub(crate) fn connect(&mut self, rt: &HostRuntime, path: &str, count: usize) -> Result<()> {
         for _ in 0..count {
             self.streams.push(connected(rt, path)?)?;
@@ -26,7 +27,7 @@ impl Clients {
         Ok(())
     }
 
-    /// A client says something.
+    /// Sends bytes from a client.
     pub(crate) fn say(&mut self, number: usize, bytes: &[u8]) -> Result<()> {
         let stream = self.streams.get_mut(number).context("no client")?;
         stream.write_all(bytes)?;
@@ -41,7 +42,7 @@ impl Clients {
         }
     }
 
-    /// All disconnect.
+    /// Disconnects all clients.
     pub(crate) fn disconnect(&mut self) {
         self.streams.clear();
     }
@@ -67,7 +68,7 @@ fn tell_heard(bytes: &[u8], case: &mut Case) {
     }
 }
 
-/// A client that doesn't wait for what it hears.
+/// Returns a client that doesn't wait for what it hears.
 fn connected(rt: &HostRuntime, path: &str) -> Result<UnixStream> {
     let stream = UnixStream::connect(rt, path)?;
     stream.set_nonblocking(true)?;

@@ -1,4 +1,4 @@
-//! What the words of a line about a box's records stand for.
+//! The words of a line about a box's records, and what they mean.
 
 use cases_words::Case;
 use journal::{Cause, Entry, Format, Origin, Role};
@@ -18,15 +18,17 @@ const ROLES: [(&str, Role); 3] = [
     ("Active", Role::Active),
 ];
 
+/// Returns the format of records that the next word names.
 pub(crate) fn format_in(case: &mut Case) -> Format {
     case.pick(&FORMATS, Format::Text)
 }
 
+/// Returns the origin of an event that the next word names.
 pub(crate) fn origin_in(case: &mut Case) -> Origin {
     case.pick(&ORIGINS, Origin::Own)
 }
 
-/// A reason by its number, or `NoMemory`.
+/// Returns a cause: a reason by its number, or `NoMemory`.
 pub(crate) fn cause_in(case: &mut Case) -> Cause {
     let read = cause_of(case.word());
     case.or(read, Cause::NoMemory)
@@ -45,7 +47,7 @@ fn cause_of(word: &str) -> Option<Cause> {
     None
 }
 
-/// A change of a box.
+/// Returns the change of a box that the words say.
 pub(crate) fn entry_in(case: &mut Case) -> Entry {
     match case.word() {
         "role" => Entry::Role(case.side(), case.pick(&ROLES, Role::Initialize)),

@@ -4,8 +4,9 @@ use cases_words::Case;
 use sockets::{LONGEST, Place, Sockets, Wire};
 use std::time::Duration;
 
-/// In each of 20 rounds both boxes send a datagram on the link, and gateway 0 looks for one. Its wire fails at a
-/// call: at an odd number a datagram is lost, at an even one the datagram stays where it is.
+/// Does 20 rounds, in each of which both boxes send a datagram on the link and gateway 0 receives
+/// one. One call of gateway 0's wire fails: at an odd number a datagram is lost, at an even one the
+/// datagram stays where it is. Prints how many datagrams came and how many are left.
 pub(crate) fn rounds(sockets: &mut [Sockets], case: &mut Case) {
     let number = case.number();
     match sockets {
@@ -24,7 +25,7 @@ fn tell(case: &mut Case, came: usize, left: usize, sent: usize) {
     case.end();
 }
 
-/// How many datagrams come in the rounds.
+/// Returns how many datagrams come in the rounds.
 fn count_received(wire: &mut Sockets, number: u64, other: &mut Sockets) -> usize {
     let mut received = 0_usize;
     let mut left = number;
@@ -43,14 +44,14 @@ fn count_received(wire: &mut Sockets, number: u64, other: &mut Sockets) -> usize
     received
 }
 
-/// Counts a call, and says whether it is the one that fails.
+/// Counts a call, and answers whether it is the one that fails.
 fn fails(left: &mut u64) -> bool {
     let fails = *left == 1;
     *left = left.saturating_sub(1);
     fails
 }
 
-/// How many datagrams are there, all of which are received.
+/// Receives all datagrams that are there, and returns how many they were.
 fn drained(wire: &mut Sockets) -> usize {
     let mut buffer = [0; LONGEST];
     for count in 0..100 {

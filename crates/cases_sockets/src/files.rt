@@ -17,12 +17,12 @@ const FRAME: Packet<'static> = Packet {
     bytes: &[0x5a; 60],
 };
 
-/// How many bytes its block has, and the head of a capture.
+/// The length of the frame's block, and of the head of a capture, in bytes.
 const BLOCK: usize = 104;
 
 const HEAD: usize = 324;
 
-/// Writes a file that has these bytes, of mode 640.
+/// Writes a file with these bytes and the mode 640.
 pub(crate) fn write_file(rt: &HostRuntime, case: &mut Case) {
     let path = case.name();
     let bytes = bytes_in(case);
@@ -34,7 +34,7 @@ fn written(rt: &HostRuntime, path: &str, bytes: &[u8]) -> io::Result<()> {
     fs::set_permissions(rt, path, Permissions::from_mode(0o640))
 }
 
-/// Opens the file of a capture and drops it, and prints what it has then.
+/// Opens the file of a capture and drops it, and prints the file's mode and bytes.
 pub(crate) fn look_at_file(rt: &HostRuntime, case: &mut Case) {
     let path = case.name();
     if let Err(error) = open(rt, path.as_str(), Reader::NotAwaited) {
@@ -72,8 +72,8 @@ fn show_file(rt: &HostRuntime, path: &str, case: &mut Case) {
     case.end();
 }
 
-/// Captures so many frames to a stream that nobody reads, and prints whether some were left out; then reads all of
-/// it, and prints whether these were the head and whole blocks, those of all that were written.
+/// Captures frames to a stream that nobody reads, and prints whether some were left out. Then reads the stream to its
+/// end, and prints whether it had the head and whole blocks, those of all frames that were written.
 pub(crate) fn fill_stream(rt: &HostRuntime, case: &mut Case) {
     match capture_to_stream(rt) {
         Ok((mut capture, other)) => flood(&mut capture, &other, case),
@@ -81,7 +81,7 @@ pub(crate) fn fill_stream(rt: &HostRuntime, case: &mut Case) {
     }
 }
 
-/// A capture to a stream, and the stream's other end.
+/// Returns a capture to a stream, and the stream's other end.
 fn capture_to_stream(rt: &HostRuntime) -> io::Result<(LiveCapture<UnixStream>, UnixStream)> {
     let (own, other) = UnixStream::pair(rt)?;
     other.set_nonblocking(true)?;
@@ -103,7 +103,7 @@ fn flood(capture: &mut LiveCapture<UnixStream>, other: &UnixStream, case: &mut C
     case.end();
 }
 
-/// How many of so many frames are written.
+/// Writes this many frames, and returns how many were written.
 fn write_packets(capture: &mut LiveCapture<UnixStream>, packets: u64) -> usize {
     let mut written: usize = 0;
     for _ in 0..packets {
@@ -114,7 +114,7 @@ fn write_packets(capture: &mut LiveCapture<UnixStream>, packets: u64) -> usize {
     written
 }
 
-/// How many bytes wait in a stream, all of which are read.
+/// Reads all bytes that wait in a stream, and returns how many they were.
 fn count_available(stream: &UnixStream, case: &mut Case) -> usize {
     let mut reader = stream;
     let mut buffer = [0; 4096];

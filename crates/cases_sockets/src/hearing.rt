@@ -1,4 +1,4 @@
-//! A place over a transport in memory.
+//! A place of a box over a transport in memory.
 
 use crate::transports::{Datagram, Memory};
 use crate::words::tell_losses;
@@ -6,13 +6,14 @@ use cases_words::{Actor, Case};
 use sockets::{End, LONGEST, Network, Peer, PlaceSocket, Sender};
 use std::alloc::Global;
 
+/// The cases of a place over a transport in memory.
 #[derive(Drop)]
 pub(crate) struct Hearing {
     place: PlaceSocket<Memory>,
 }
 
 impl Actor for Hearing {
-    /// - `far udp END`, `far vxlan ADDRESS NUMBER`, `far interface`: a new place with this peer; the words behind it
+    /// - `far udp END`, `far vxlan ADDRESS NUMBER`, `far interface`: a new place with this peer; the words after it
     ///   are what is to arrive there, from whom and which bytes, each with `from`
     /// - `refuse N END ..`: a place that speaks by UDP, and whose transport's call N fails
     /// - `stuck`: a new place, all calls of whose transport fail
@@ -39,13 +40,14 @@ impl Actor for Hearing {
 }
 
 impl Hearing {
+    /// Returns the cases with a place at which nothing is to arrive.
     pub(crate) fn new(alloc: Global) -> Hearing {
         Hearing {
             place: PlaceSocket::new(Memory::empty(alloc), Peer::Interface),
         }
     }
 
-    /// A new place, and what is to arrive there.
+    /// Begins a new place, and sets what is to arrive there.
     fn begin(&mut self, case: &mut Case) {
         let peer = peer_in(case);
         let memory = Memory::new(case.alloc, datagrams_in(case));
@@ -107,7 +109,7 @@ impl Hearing {
         }
     }
 
-    /// Four times a datagram is sent and one is looked for: how many were sent, how many arrived, and how often
+    /// Sends a datagram and receives one, four times. Returns how many were sent, how many arrived, and how often
     /// either failed.
     fn counts(&mut self) -> [u32; 3] {
         let mut buffer = [0; LONGEST];
@@ -128,7 +130,7 @@ impl Hearing {
     }
 }
 
-/// Prints bytes, `-` for none; of very many only how many they are.
+/// Prints bytes, `-` for none, and only their number where they are very many.
 fn tell_bytes(case: &mut Case, text: &str, bytes: &[u8]) {
     match bytes.len() {
         0 => case.say(text, "-"),
@@ -174,7 +176,8 @@ fn vxlan_in(case: &mut Case) -> Peer {
     }
 }
 
-/// What the words that are left say is to arrive: `from`, who sends it and the bytes, again and again.
+/// Returns the datagrams that are to arrive, from the words that are left: `from`, who sends it and the bytes, again
+/// and again.
 fn datagrams_in(case: &mut Case) -> Vec<Datagram> {
     let mut coming = Vec::new(case.alloc);
     for _ in 0..case.left() / 3 {

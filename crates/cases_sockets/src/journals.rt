@@ -1,4 +1,4 @@
-//! What a box writes for its operator.
+//! The records that a box writes for its operator.
 
 use crate::entries::{cause_in, entry_in, format_in, origin_in};
 use crate::words::writer_state_in;
@@ -10,7 +10,7 @@ use std::cell::Cell;
 
 type PrintedLog<'a> = EventLog<FilteredLog<Sink<Printer<'a>>>>;
 
-/// The log of the last line `open`, where its texts were filters.
+/// The log of the last line `open`, if its texts were filters.
 #[derive(Drop)]
 pub(crate) struct Journals<'a> {
     rt: HostRuntime,
@@ -19,6 +19,7 @@ pub(crate) struct Journals<'a> {
 }
 
 impl<'a> Journals<'a> {
+    /// Returns the cases without a log, whose writer has this state.
     pub(crate) fn new(rt: HostRuntime, state: &'a Cell<WriterState>) -> Journals<'a> {
         Journals {
             rt,
@@ -27,7 +28,7 @@ impl<'a> Journals<'a> {
         }
     }
 
-    /// Begins anew, by the option's filter or else the environment's.
+    /// Begins a new log, by the option's filter or else the environment's.
     fn open(&mut self, case: &mut Case) {
         let format = format_in(case);
         let (option, environment) = (case.name(), case.name());
@@ -47,9 +48,12 @@ impl<'a> Journals<'a> {
 }
 
 impl Actor for Journals<'_> {
-    /// - `open FORMAT OPTION ENVIRONMENT`: begins anew
-    /// - `paper room`, `paper none`, `paper fails`: lines are written from now on; a write would wait; it fails
-    /// - all else is for the log (`act_on`)
+    /// Does what a line says:
+    ///
+    /// - `open FORMAT OPTION ENVIRONMENT`: begins a new log
+    /// - `paper room`, `paper none`, `paper fails`: from now on a write takes its line; would wait;
+    ///   fails
+    /// - all else is done on the log (`act_on`)
     fn act(&mut self, case: &mut Case) {
         case.title("> ", "\n");
         case.flush(&self.rt);
@@ -64,16 +68,18 @@ impl Actor for Journals<'_> {
     }
 }
 
-/// A text, or none for `-`.
+/// Returns a text, or None for `-`.
 fn given(word: &str) -> Option<&str> {
     if word == "-" { None } else { Some(word) }
 }
 
-/// - `turn TIME`: the clock stands there
-/// - `lose TIME ORIGIN CAUSE COUNT`: nothing comes of so many events
-/// - `tell TIME ENTRY..`: a change
-/// - `end TIME`: the box ends there
-/// - `flush`: how many lines were left out is written
+/// Does what a line says on the log:
+///
+/// - `turn TIME`: the clock is at this time
+/// - `lose TIME ORIGIN CAUSE COUNT`: COUNT events were dropped
+/// - `tell TIME ENTRY..`: a change of the box
+/// - `end TIME`: the box ends at this time
+/// - `flush`: writes how many lines were left out
 fn act_on(log: &mut PrintedLog<'_>, case: &mut Case) {
     case.back();
     match case.word() {
@@ -89,7 +95,7 @@ fn act_on(log: &mut PrintedLog<'_>, case: &mut Case) {
     }
 }
 
-/// So many events of which nothing came.
+/// Records that events were dropped.
 fn lose(log: &mut PrintedLog<'_>, case: &mut Case) {
     let time = case.number();
     let (origin, cause) = (origin_in(case), cause_in(case));

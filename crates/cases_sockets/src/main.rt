@@ -1,6 +1,6 @@
-//! Sockets, and what a box writes down. It does what the lines of its cases say: with texts of ways and words, with a
-//! place over a transport in memory, with boxes on the loopback address, with a tapped wire and a service manager,
-//! and with a box's records. It prints each line before what it leads to.
+//! The tests of sockets, and of what a box writes down. The program does what the lines of its cases say: with texts of
+//! ways and words, with a place over a transport in memory, with boxes on the loopback address, with a tapped wire and
+//! a service manager, and with a box's records. The program prints each line before what it leads to.
 #![tactic(auto)]
 
 mod boxes;

@@ -9,7 +9,7 @@ use std::net::Shutdown;
 use std::os::fd::AsRawFd;
 use std::os::unix::net::UnixStream;
 
-/// Prints the descriptor of a text, which isn't open.
+/// Reads a text as a service manager's descriptor, which isn't open, and prints its number, or `none`.
 pub(crate) fn read_manager(case: &mut Case) {
     match ServiceManager::read(case.word()) {
         Err(Fault::ManagerNotOpen(number)) => case.say("  descriptor ", number),
@@ -19,7 +19,7 @@ pub(crate) fn read_manager(case: &mut Case) {
     case.end();
 }
 
-/// What a manager may be told.
+/// The news that a service manager may be told.
 #[derive(Clone, Copy)]
 enum News {
     Ready(u64),
@@ -27,7 +27,7 @@ enum News {
     Ending,
 }
 
-/// `ready BOOT`, `alive` or `ending`.
+/// Returns the news of the next words: `ready BOOT`, `alive` or `ending`.
 fn news_in(case: &mut Case) -> News {
     match case.word() {
         "ready" => News::Ready(case.number()),
@@ -48,8 +48,8 @@ fn tell<M: Manager>(manager: &mut M, news: News) {
     }
 }
 
-/// Tells a manager something, and prints what it hears; `nobody` before it tells nobody, and `gone` one that has
-/// gone.
+/// Tells a service manager news, and prints what it hears. After the word `nobody` no manager is told, after `gone` one
+/// that has gone.
 pub(crate) fn tell_manager(rt: &HostRuntime, case: &mut Case) {
     match case.word() {
         "nobody" => tell_nobody(case),
@@ -67,7 +67,8 @@ fn tell_nobody(case: &mut Case) {
     case.tell("done");
 }
 
-/// Tells a manager something by a stream, and prints what came at its other end, which may have been closed before.
+/// Tells a service manager news by a stream, and prints what came at its other end, which was closed before where
+/// `is_gone`.
 fn tell_over(rt: &HostRuntime, is_gone: bool, case: &mut Case) {
     let news = news_in(case);
     match told_over(rt, is_gone, news) {
@@ -76,7 +77,7 @@ fn tell_over(rt: &HostRuntime, is_gone: bool, case: &mut Case) {
     }
 }
 
-/// The other end of a stream by which a manager was told something.
+/// Tells a service manager news by a stream, and returns the stream's other end.
 fn told_over(rt: &HostRuntime, is_gone: bool, news: News) -> io::Result<UnixStream> {
     let (own, other) = UnixStream::pair(rt)?;
     if is_gone {
@@ -91,7 +92,7 @@ fn told_over(rt: &HostRuntime, is_gone: bool, news: News) -> io::Result<UnixStre
     Ok(other)
 }
 
-/// Prints what came by a stream.
+/// Prints the bytes that came by a stream.
 fn hear(stream: &UnixStream, case: &mut Case) {
     let mut buffer = [0; 128];
     let mut reader = stream;

@@ -1,4 +1,4 @@
-//! What boxes, clients and strangers do.
+//! The cases of boxes, clients and strangers.
 
 use crate::boxes::{Boxes, control_at, number_of, on_loopback};
 use crate::clients::Clients;
@@ -15,7 +15,7 @@ use std::net::{SocketAddr, UdpSocket};
 use std::os::unix::fs::PermissionsExt;
 use std::time::Duration;
 
-/// How many seconds a datagram is waited for.
+/// The seconds for which a datagram is waited for.
 const TIMEOUT: u64 = 5;
 
 /// The boxes, and the clients of their control sockets.
@@ -27,6 +27,7 @@ pub(crate) struct Network {
 }
 
 impl Network {
+    /// Opens the boxes, without clients.
     pub(crate) fn open(rt: HostRuntime) -> Result<Network> {
         Ok(Network {
             rt,
@@ -37,12 +38,14 @@ impl Network {
 }
 
 impl Actor for Network {
+    /// Does what a line says:
+    ///
     /// - `fail N`: rounds of a wire whose call N fails
     /// - `stranger FROM TO HEX`, `stranger FROM TO N times HEX`, `stranger FROM TO N bytes BYTE`: somebody at FROM
     ///   sends these bytes to TO
     /// - `call NAME N`, `caller N says HEX`, `caller N hears`, `callers go`: clients at a box's control socket
     /// - `control NAME`, `say NAME`, `ask NAME`, `mode NAME`: makes a control socket and drops it; says a word; asks
-    ///   how the box stands; the folder's mode
+    ///   how the box is; prints the folder's mode
     /// - `NAME ..`: what a box does (`act_on_box`)
     fn act(&mut self, case: &mut Case) {
         case.title("", "\n");
@@ -62,9 +65,11 @@ impl Actor for Network {
     }
 }
 
+/// Does what a line says of a box:
+///
 /// - `other open INSIDE OUTSIDE LINK`: opens the box with these ways
 /// - `NAME bind`: opens the box's ports once more
-/// - all else is for the box's sockets (`act_on_sockets`)
+/// - all else is done by the box's sockets (`act_on_sockets`)
 fn act_on_box(rt: &HostRuntime, boxes: &mut Boxes, case: &mut Case) {
     case.back();
     let number = number_of(case.word());
@@ -83,10 +88,12 @@ fn bind(rt: &HostRuntime, number: usize, case: &mut Case) {
     case.done(bound, "bound");
 }
 
-/// - `send PLACE COUNT BYTE`: the box sends so many of a byte
-/// - `receive`, `look`: the next datagram at the box, waited for or not
+/// Does what a line says of a box's sockets:
+///
+/// - `send PLACE COUNT BYTE`: sends a datagram of COUNT such bytes
+/// - `receive`, `look`: prints the next datagram at the box, waited for or not
 /// - `answers HEX`, `answers N bytes BYTE`: answers the client that said the last word
-/// - `strangers PLACE`, `failing PLACE`, `losses PLACE`, `unanswered`: what the box says
+/// - `strangers PLACE`, `failing PLACE`, `losses PLACE`, `unanswered`: prints what the box counts
 fn act_on_sockets(sockets: &mut Sockets, case: &mut Case) {
     case.back();
     match case.word() {
@@ -126,13 +133,13 @@ fn answer(sockets: &mut Sockets, case: &mut Case) {
     sockets.answer(bytes.as_slice());
 }
 
-/// The byte that the next word says, so many times.
+/// Returns `count` bytes, each the byte that the next word says.
 fn repeated(case: &mut Case, count: usize) -> Vec<u8> {
     let byte = case.byte();
     case.many(byte, count)
 }
 
-/// Prints the next datagram.
+/// Receives the next datagram, and prints it.
 fn receive(sockets: &mut Sockets, limit: Duration, case: &mut Case) {
     let mut buffer = [0; LONGEST];
     match sockets.receive(limit, &mut buffer) {
@@ -147,7 +154,7 @@ fn receive(sockets: &mut Sockets, limit: Duration, case: &mut Case) {
     }
 }
 
-/// Somebody sends, from an address and port that is free.
+/// Sends bytes as a stranger, from an address and port that is free.
 fn stranger(rt: &HostRuntime, case: &mut Case) {
     let socket = UdpSocket::bind(rt, case.word());
     let to = case.word().parse::<SocketAddr>();
@@ -162,7 +169,7 @@ fn stranger(rt: &HostRuntime, case: &mut Case) {
     }
 }
 
-/// How many times something is sent, and its bytes.
+/// Returns how many times something is sent, and its bytes.
 fn many(case: &mut Case) -> (usize, Vec<u8>) {
     if case.left() == 1 {
         return (1, case.bytes());
@@ -189,7 +196,7 @@ fn connect_to(
     clients.connect(rt, path?.as_str(), count)
 }
 
-/// Where the control socket of a box lies.
+/// Returns the path of the control socket of a box.
 fn socket_of(alloc: Global, name: &str) -> Result<String> {
     Ok(format!(in alloc; "{name}.control/socket")?)
 }

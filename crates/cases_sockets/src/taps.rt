@@ -1,4 +1,4 @@
-//! A tapped wire, and what the lines say of captures and of a service manager.
+//! A tapped wire, and the cases of captures and of a service manager.
 
 use crate::files::{capture_to_file, fill_stream, look_at_file, write_file};
 use crate::managers::{read_manager, tell_manager};
@@ -12,7 +12,7 @@ use sockets::{LONGEST, Wire};
 use std::cell::{Cell, RefCell};
 use std::time::Duration;
 
-/// What the lines set: the state of the capture's writer, the clock, and what the wire answers.
+/// What the lines set: the state of the capture's writer, the time of the clock, and what the wire answers.
 #[derive(Drop)]
 pub(crate) struct Controls {
     state: Cell<WriterState>,
@@ -21,6 +21,7 @@ pub(crate) struct Controls {
 }
 
 impl Controls {
+    /// Returns the controls as they are before the first line.
     pub(crate) fn new() -> Controls {
         Controls {
             state: Cell::new(WriterState::Open),
@@ -32,7 +33,7 @@ impl Controls {
 
 type TappedMemory<'a> = Tapped<MemoryWire<'a>, SetClock<'a>, Printer<'a>>;
 
-/// The tapped wire that was begun last, if one was. What it writes and sends is printed at once.
+/// The tapped wire that was begun last, if one was. What the wire writes and sends is printed at once.
 #[derive(Drop)]
 pub(crate) struct Taps<'a> {
     rt: HostRuntime,
@@ -41,6 +42,7 @@ pub(crate) struct Taps<'a> {
 }
 
 impl<'a> Taps<'a> {
+    /// Returns the cases without a tapped wire.
     pub(crate) fn new(rt: HostRuntime, controls: &'a Controls) -> Taps<'a> {
         Taps {
             rt,
@@ -49,7 +51,7 @@ impl<'a> Taps<'a> {
         }
     }
 
-    /// A gateway's tapped wire; or none where the head of its capture can't be written.
+    /// Returns the tapped wire of a gateway, or None where the head of its capture can't be written.
     fn begin(&mut self, case: &mut Case) {
         self.wire = begun(self.rt, self.controls, case.gateway());
         if self.wire.is_none() {
@@ -59,11 +61,13 @@ impl<'a> Taps<'a> {
 }
 
 impl Actor for Taps<'_> {
-    /// - `begin ID`: a capture is begun anew
+    /// Does what a line says:
+    ///
+    /// - `begin ID`: begins a new capture
     /// - `page room`, `page none`, `page fails`, `page takes COUNT`: its writer takes all from now on; a write would
-    ///   wait; it fails; it takes so many bytes at most
-    /// - `clock TIME`: the clock stands there
-    /// - what `act_on` and `act_on_files` do
+    ///   wait; it fails; it takes at most COUNT bytes
+    /// - `clock TIME`: the clock is at this time
+    /// - all else is done by `act_on` and `act_on_files`
     fn act(&mut self, case: &mut Case) {
         case.title("> ", "\n");
         case.flush(&self.rt);
@@ -92,11 +96,13 @@ fn begun<'a>(rt: HostRuntime, controls: &'a Controls, id: GatewayId) -> Option<T
     }
 }
 
+/// Does what a line says of files, streams and managers:
+///
 /// - `manager TEXT`, `tell ..`: a service manager's descriptor is read; one is told something
-/// - `write PATH BYTES`: a file has these bytes
-/// - `look PATH`: a file is opened for a capture, which isn't begun; it is printed what it has
-/// - `file PATH`: a packet is captured to a file, of which is printed what it has
-/// - `stream PACKETS`: so many are captured to a stream that nobody reads, and then somebody does
+/// - `write PATH BYTES`: writes a file of these bytes
+/// - `look PATH`: opens a file for a capture, which isn't begun, and prints the file
+/// - `file PATH`: captures a packet to a file, and prints the file
+/// - `stream PACKETS`: captures PACKETS packets to a stream that nobody reads, and then reads the stream
 fn act_on_files(rt: &HostRuntime, case: &mut Case) {
     case.back();
     match case.word() {
@@ -110,9 +116,11 @@ fn act_on_files(rt: &HostRuntime, case: &mut Case) {
     }
 }
 
-/// - `come PLACE BYTES`, `come nothing`, `come fault`: the wire is asked for a datagram, and answers so
-/// - `send PLACE BYTES`, `refuse PLACE BYTES`: it is to send; the wire refuses it
-/// - `end`: the capture is flushed, and how many packets it lacks is printed
+/// Does what a line says of the wire:
+///
+/// - `come PLACE BYTES`, `come nothing`, `come fault`: the wire is asked for a datagram, and answers this
+/// - `send PLACE BYTES`, `refuse PLACE BYTES`: the wire is to send the bytes; it refuses them
+/// - `end`: the capture is flushed, and the number of packets that it lacks is printed
 fn act_on(controls: &Controls, wire: &mut TappedMemory<'_>, case: &mut Case) {
     case.back();
     match case.word() {
@@ -137,7 +145,7 @@ fn act_on(controls: &Controls, wire: &mut TappedMemory<'_>, case: &mut Case) {
     }
 }
 
-/// Says what the wire answers next.
+/// Sets what the wire answers next.
 fn set_coming(controls: &Controls, coming: Coming, case: &mut Case) {
     match controls.coming.try_borrow_mut() {
         Ok(mut place) => *place = coming,
@@ -177,7 +185,7 @@ fn tell_bytes(case: &mut Case, bytes: &[u8]) {
     case.end();
 }
 
-/// Sends by the wire, and prints where that fails.
+/// Sends by the wire, and prints where sending fails.
 fn send(wire: &mut TappedMemory<'_>, case: &mut Case) {
     let place = place_in(case);
     let bytes = bytes_in(case);

@@ -7,7 +7,7 @@ use control::{ControlPath, PathFault, PeerOffRefusal, Reply, Word, refusal_bytes
 use sockets::{End, Ends, Way};
 use std::alloc::Global;
 
-/// The refusals, by their numbers.
+/// The refusals, in the order of their numbers.
 const REFUSALS: [(&str, PeerOffRefusal); 5] = [
     ("1", PeerOffRefusal::NotSynced),
     ("2", PeerOffRefusal::NoPeer),
@@ -16,14 +16,16 @@ const REFUSALS: [(&str, PeerOffRefusal); 5] = [
     ("5", PeerOffRefusal::PeerHeard),
 ];
 
-/// Answers lines about texts.
+/// The cases of texts, words and replies.
 #[derive(Clone, Copy)]
 pub(crate) struct Texts;
 
 impl Actor for Texts {
-    /// - `way TEXT`: the way of a text
+    /// Does what a line says:
+    ///
+    /// - `way TEXT`: reads the way of a text
     /// - `inherit INSIDE OUTSIDE LINK`: opens the descriptors of three ways
-    /// - `path TEXT`, `path N`: the control path beside a boot file with this name, or with one of so many bytes
+    /// - `path TEXT`, `path N`: the control path beside a boot file with this name, or with a name of N bytes
     /// - `word HEX`: the word of these bytes
     /// - `off N`, `off N forced`, `off known`, `side SIDE UP CARRIER`, `status`, `pairs`, `pairs PROTOCOL PORT`: the
     ///   bytes of a word
@@ -76,7 +78,7 @@ fn inherit(case: &mut Case) {
     case.done(inherited, "inherited");
 }
 
-/// A name of so many bytes, or the text itself.
+/// Returns a name of this many bytes, or the text itself.
 fn boot_file_of(alloc: Global, text: &str) -> Result<String> {
     let Ok(count) = text.parse::<usize>() else {
         return Ok(String::from_str(alloc, text)?);

@@ -1,4 +1,4 @@
-//! A transport in memory, of which a call may fail.
+//! A transport in memory, one call of which may fail.
 ghost use Rattle.std.specs.Prelude.{◌≤◌};
 
 use sockets::{Arrived, LONGEST, SendFault, Sender, Transport, WireFault};
@@ -11,23 +11,24 @@ pub(crate) struct Datagram {
     pub(crate) bytes: Vec<u8>,
 }
 
-/// What is to arrive, and what was sent.
+/// A transport in memory: what is to arrive, and what was sent.
 #[derive(Drop)]
 pub(crate) struct Memory {
     alloc: Global,
     coming: Vec<Datagram>,
-    /// How many of them have arrived.
+    /// How many of the datagrams have arrived.
     arrived: usize,
     pub(crate) sent: Vec<Vec<u8>>,
-    /// How many calls there are up to the one that fails; none does where it is 0.
+    /// The number of calls up to the one that fails; none fails where it is 0.
     pub(crate) left: u64,
-    /// Each call fails.
+    /// Whether each call fails.
     pub(crate) is_stuck: bool,
-    /// How many bytes a datagram may have.
+    /// The most bytes that a datagram may have.
     pub(crate) longest: usize,
 }
 
 impl Memory {
+    /// Returns a transport at which these datagrams are to arrive.
     pub(crate) fn new(alloc: Global, coming: Vec<Datagram>) -> Memory {
         Memory {
             alloc,
@@ -40,12 +41,12 @@ impl Memory {
         }
     }
 
-    /// Nothing is to arrive.
+    /// Returns a transport at which nothing is to arrive.
     pub(crate) fn empty(alloc: Global) -> Memory {
         Memory::new(alloc, Vec::new(alloc))
     }
 
-    /// Counts a call, and says whether it fails.
+    /// Counts a call, and answers whether it fails.
     fn fails(&mut self) -> bool {
         let fails = self.is_stuck || self.left == 1;
         self.left = self.left.saturating_sub(1);
@@ -80,7 +81,7 @@ impl Transport for Memory {
     }
 }
 
-/// Copies bytes into a buffer as far as they fit, and says how many.
+/// Copies bytes into a buffer as far as they fit, and returns how many were copied.
 pub(crate) fn copied(bytes: &[u8], buffer: &mut [u8; LONGEST]) -> usize
     ensures { result ≤ LONGEST }
 {

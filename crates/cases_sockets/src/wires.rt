@@ -9,7 +9,7 @@ use std::cell::RefCell;
 use std::io;
 use std::time::Duration;
 
-/// What the wire answers; where it is a fault, nothing is sent either.
+/// The answer of the wire to a receive; where it is a fault, sending fails, too.
 #[derive(Drop)]
 pub(crate) enum Coming {
     Nothing,
@@ -25,6 +25,7 @@ pub(crate) struct MemoryWire<'a> {
 }
 
 impl<'a> MemoryWire<'a> {
+    /// Returns a wire that answers what `coming` has.
     pub(crate) fn new(rt: HostRuntime, coming: &'a RefCell<Coming>) -> MemoryWire<'a> {
         MemoryWire { rt, coming }
     }

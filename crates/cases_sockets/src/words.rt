@@ -1,4 +1,4 @@
-//! What the words of the cases stand for, and what is printed of more than one kind of case.
+//! The meaning of the words of the cases, and what more than one kind of case prints.
 
 use crate::writers::WriterState;
 use cases_words::Case;
@@ -6,7 +6,7 @@ use nat_types::Side;
 use sockets::{Losses, Place};
 use std::alloc::{AllocError, Global};
 
-/// How many bytes are shown at most.
+/// The most bytes that are printed in full.
 const MOST_SHOWN: usize = 400;
 
 const PLACES: [(&str, Place); 4] = [
@@ -16,11 +16,12 @@ const PLACES: [(&str, Place); 4] = [
     ("operator", Place::Operator),
 ];
 
-/// The place that the next word names.
+/// Returns the place that the next word names.
 pub(crate) fn place_in(case: &mut Case) -> Place {
     case.pick(&PLACES, Place::Link)
 }
 
+/// Returns the name of a place.
 pub(crate) fn name_of(place: Place) -> &'static str {
     match place {
         Place::Link => "link",
@@ -30,7 +31,7 @@ pub(crate) fn name_of(place: Place) -> &'static str {
     }
 }
 
-/// The bytes of pairs of hexadecimal digits; or so many zeros, as `zeros:4096`.
+/// Returns the bytes of pairs of hexadecimal digits, or of zeros, as `zeros:4096`.
 pub(crate) fn bytes_in(case: &mut Case) -> Vec<u8> {
     match zeros_of(case.word()) {
         Some(count) => case.many(0, usize::from(count)),
@@ -45,7 +46,7 @@ fn zeros_of(word: &str) -> Option<u16> {
     word.strip_prefix("zeros:")?.parse::<u16>().ok()
 }
 
-/// Bytes in hexadecimal, or how many they are where they are many.
+/// Returns bytes in hexadecimal, or only their number where they are many.
 pub(crate) fn shown(alloc: Global, bytes: &[u8]) -> Result<String, AllocError> {
     if bytes.len() > MOST_SHOWN {
         return format!(in alloc; "{} bytes", bytes.len());
@@ -53,7 +54,7 @@ pub(crate) fn shown(alloc: Global, bytes: &[u8]) -> Result<String, AllocError> {
     hex::encode(alloc, bytes)
 }
 
-/// `room`, `none`, `fails`, or `takes COUNT`.
+/// Returns the state that a word says: `room`, `none`, `fails`, or `takes COUNT`.
 pub(crate) fn writer_state_in(case: &mut Case) -> WriterState {
     match case.word() {
         "room" => WriterState::Open,

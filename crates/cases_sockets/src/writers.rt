@@ -1,4 +1,4 @@
-//! A writer whose state the cases set, and a clock that they set.
+//! A writer and a clock that the cases set.
 
 use crate::words::shown;
 use captures::NonBlockingWriter;
@@ -8,7 +8,7 @@ use std::cell::Cell;
 use std::fmt::Display;
 use std::io::{self, ErrorKind};
 
-/// What a writer does with what it is to write.
+/// The state of a writer: what a write does.
 #[derive(Clone, Copy)]
 pub(crate) enum WriterState {
     Open,
@@ -16,11 +16,11 @@ pub(crate) enum WriterState {
     Blocked,
     /// A write fails.
     Failing,
-    /// A write takes so many bytes at most.
+    /// A write takes at most this many bytes.
     TakesAtMost(usize),
 }
 
-/// It prints what it takes.
+/// A writer that prints what it takes.
 #[derive(Drop)]
 pub(crate) struct Printer<'a> {
     rt: HostRuntime,
@@ -28,6 +28,7 @@ pub(crate) struct Printer<'a> {
 }
 
 impl<'a> Printer<'a> {
+    /// Returns a writer of this state.
     pub(crate) fn new(rt: HostRuntime, state: &'a Cell<WriterState>) -> Printer<'a> {
         Printer { rt, state }
     }
@@ -63,6 +64,7 @@ pub(crate) struct SetClock<'a> {
 }
 
 impl<'a> SetClock<'a> {
+    /// Returns a clock that shows this time.
     pub(crate) fn new(time: &'a Cell<u64>) -> SetClock<'a> {
         SetClock { time }
     }

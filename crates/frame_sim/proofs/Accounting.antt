@@ -1,4 +1,4 @@
--- The two account for the trace, whatever happens.
+-- The ledgers of both gateways account for the trace after each event.
 use Rattle.std.proofs.Common.{◌≡◌, ℕ, false, List, [], ◌∷◌, ◌++◌, reverse, Option, Some, None, refl, sym, ap, subst, ◌∙◌}
 use Rattle.std.proofs.lemmas.List.{reverse-append}
 use Rattle.nat_types.specs.Same.{other, same}
@@ -27,7 +27,8 @@ apart : (i a b : GatewayId) → a ≡ other i → b ≡ i → same a b ≡ false
 apart Zero a b x y = ap (λ (k : GatewayId). same k b) x ∙ ap (same One) y
 apart One a b x y = ap (λ (k : GatewayId). same k b) x ∙ ap (same Zero) y
 
--- the one that something happens to, and the other
+-- both ledgers account for a trace, where the one of the gateway with the event does and the
+-- other's does
 accounts-are : (w : World) (i : GatewayId) (h : Half) (trace : List Note) → AccountsAt h.gateway trace → AccountsAt (gateway_at w (other i)) trace
     → (j : GatewayId) → AccountsAt (gateway_at (with_half w i h trace) j) trace
 accounts-are w Zero h trace mine theirs Zero = mine
@@ -35,7 +36,8 @@ accounts-are w Zero h trace mine theirs One = theirs
 accounts-are w One h trace mine theirs Zero = theirs
 accounts-are w One h trace mine theirs One = mine
 
--- what is so of each gateway of this number that accounts for the trace, is so of the other
+-- what holds of each gateway of the other number that accounts for the trace, holds of a gateway
+-- that may be down
 beside : (i : GatewayId) (ports : PortRanges) (boot : ℕ) (pushed : List Record) (trace trace2 : List Note) (o : Option Shown) → IsHalf ports (other i) boot o pushed
     → ((g : Shown) → same (id_of g) i ≡ false → AccountsOn g (reverse trace) → AccountsOn g (reverse trace2)) → AccountsAt o trace → AccountsAt o trace2
 beside i ports boot pushed trace trace2 None is keeps accounts = tt

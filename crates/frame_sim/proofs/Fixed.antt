@@ -8,12 +8,12 @@ use Rattle.slots.specs.declared.hashers.Hashers.{Hashers}
 use Rattle.slots.specs.declared.hashers.Hashers.TheVariants.{Drawn, Fixed}
 use Rattle.spec_step.specs.Founding.{begun, founded, hashing}
 
--- hashers that weren't drawn
+-- hashers that weren't drawn are the fixed ones
 pub fixed-is : (hashers : Hashers) → is_drawn hashers ≡ false → hashers ≡ Fixed
 fixed-is Fixed is = refl
 fixed-is (Drawn keys) is = absurd (cc)
 
--- are those by which a gateway begins
+-- a gateway begins with the fixed hashers
 pub either-fixed : (settings : Settings) (id : GatewayId) (boot : ℕ) (found : Bool) → hashing Fixed (if found then founded settings boot else begun settings id boot) ≡ (if found then founded settings boot else begun settings id boot)
 unfolding founded begun
 either-fixed settings id boot true = refl

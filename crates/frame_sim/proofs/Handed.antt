@@ -1,4 +1,4 @@
--- A gateway that is up, and what it is handed.
+-- A gateway that is up, and the event that it is given.
 use Rattle.std.proofs.Common.{◌≡◌, List, ◌++◌, Option, Some, sym, subst}
 use Rattle.nat_types.specs.declared.notes.Note.{Note}
 use Rattle.link.specs.Link.{IsLink}

@@ -1,4 +1,4 @@
--- What a gateway is handed in a world.
+-- What a gateway of a world may be given.
 use Rattle.std.proofs.Common.{◌≡◌, ℕ, ◌==◌, nat_lt, true, false, not, ◌&&◌, inl, inr, Bool, List, Option, Some, None, refl, sym, ◌∙◌, eqb-true}
 use Rattle.std.specs.Borrow.{Bor}
 use Rattle.std.proofs.lemmas.Bool.{and_parts, not-true}
@@ -25,7 +25,7 @@ hands-side w i side up = record { letters = λ l h. absurd h; words = λ h n m. 
 pub hands-stop : (w : World) (i : GatewayId) → IsHanded w i given.Stop
 hands-stop w i = record { letters = λ l h. absurd h; words = λ h n m. absurd m }
 
--- a datagram that was sent
+-- a datagram that the other gateway sent may be given
 pub hands-datagram : (w : World) (i : GatewayId) (k : ℕ) (bytes : Bor (List ℕ)) → datagram_for w i k ≡ Some bytes.now → IsHanded w i (given.Datagram bytes)
 hands-datagram w i k bytes at = record {
   letters = λ l h. in-mail l (half w (other i)).sent k bytes.now at h;
@@ -36,7 +36,7 @@ down-of : (g : Option Shown) (boot : ℕ) (h : List Record) → is_up g ≡ fals
 down-of None boot h down = (refl, refl)
 down-of (Some g) boot h down = absurd (cc)
 
--- a true word
+-- a true word of the operator may be given
 pub hands-word : (w : World) (i : GatewayId) (n : ℕ) → may_be_told w i n ≡ true → IsHanded w i (given.PeerOff n)
 hands-word w i n may =
     let o = half w (other i) in

@@ -1,4 +1,4 @@
--- What the machine says of slots, as it is said of tables.
+-- What the machine says of slots holds of tables.
 use Rattle.std.proofs.Common.{◌≡◌, ℕ, true, List, [], Option, Some, None, ◌↔◌, IsTrue, reverse, refl, sym, ap, subst, ◌∙◌}
 use Rattle.std.specs.List.{Contains}
 use Rattle.nat_types.specs.declared.gateways.GatewayId.{GatewayId}
@@ -28,7 +28,7 @@ use Rattle.frame_sim.specs.Scene.{IsSound, box_at, ranges_of, scene_of}
 use Rattle.frame_sim.proofs.Stepping.{box-is}
 use Rattle.frame_sim.proofs.Turning.{synced-of}
 
--- a state in which the machine translates
+-- a state in which the machine translates is one that translates
 translated-state : (s : EntryState) (e x : Endpoint) → machine.translated (slot_in s e) ≡ Some x → (translates s ≡ true) × (e ≡ x)
 translated-state state.Pending e x h = cc
 translated-state state.Doomed e x h = cc
@@ -36,7 +36,7 @@ translated-state state.Live e x h = (refl, cc)
 translated-state state.Closing e x h = cc
 translated-state state.Held e x h = (refl, cc)
 
--- a state whose pair translates
+-- in a state that translates the machine translates
 in-translates : (s : EntryState) (e : Endpoint) → translates s ≡ true → machine.translated (slot_in s e) ≡ Some e
 in-translates state.Pending e t = cc
 in-translates state.Doomed e t = cc
@@ -44,7 +44,7 @@ in-translates state.Live e t = refl
 in-translates state.Closing e t = cc
 in-translates state.Held e t = refl
 
--- a state whose pair is held
+-- a state in which the machine holds a pair is one of a pair
 in-held : (s : EntryState) (e x : Endpoint) → machine.held (slot_in s e) ≡ Some x → (is_pair s ≡ true) × (e ≡ x)
 in-held state.Pending e x t = (refl, cc)
 in-held state.Doomed e x t = cc
@@ -82,7 +82,7 @@ listed-translated es p keys h =
     let found = slot-listed translates es p keys h in
     ap (λ (o : Option Entry). machine.translated (machine_slot o)) found.1 ∙ in-translates found.0 p.endpoint found.2
 
--- of one gateway
+-- a pair that the machine holds at a gateway is in its table
 at-held : (g : Option Shown) (boot : ℕ) (h : List Record) (p : Pair) → machine.held ((box_at g boot h).table p.key) ≡ Some p.endpoint → Contains (pairs_in is_pair (entries_of g)) p
 at-held None boot h p is = cc
 at-held (Some g) boot h p is = held-listed g.ledger.book.entries p is
@@ -108,7 +108,7 @@ translates-on w pushed t zero one goes i synced p = at i (goes i synced p)
     at Zero h = over h (at-translated w.zero.gateway w.zero.boot (pushed Zero) p zero)
     at One h = over h (at-translated w.one.gateway w.one.boot (pushed One) p one)
 
--- what a box shows as synced is what its gateway shows
+-- a box is synced exactly where its gateway is
 pub shows-synced : (w : World) (pushed : GatewayId → List Record) → ((i : GatewayId) → (box_in (scene_of w pushed) i).synced ≡ is_synced i (reverse w.trace)) → ShowsSynced w
 shows-synced w pushed says i =
     let same : synced_at (gateway_at w i) ≡ is_synced i (reverse w.trace) =

@@ -1,4 +1,4 @@
--- The laws of the crates below on which a world stands.
+-- The laws of the crates below on which the proofs of a world rest.
 use Rattle.std.proofs.Common.{◌≡◌, ℕ, ◌&&◌, false, Option, List, [], ◌∷◌, ◌++◌, reverse, Ok}
 use Rattle.nat_types.specs.Same.{other, same}
 use Rattle.nat_types.specs.declared.gateways.GatewayId.{GatewayId}
@@ -28,12 +28,12 @@ use Rattle.spec_step.specs.Rests.{AccountsOn, Rests}
 use Rattle.spec_step.specs.Shown.{GatewayAndOutput, Shown, id_of}
 use Rattle.spec_step.specs.Steps.{IsStepOn}
 
--- a step of a gateway is one of the machine
+-- a step of a gateway is a step of the machine
 abbrev pub StepsGo : Type 0
 StepsGo = (s : GatewayAndOutput) (event : Event) (s2 : GatewayAndOutput) (h : List Record) → IsStepOn s event s2 → HasBytes event
     → IsBook s.shown.ledger.book → IsAlone s.shown → KeepsBytes s.shown → HasPushed s.shown h → Goes (letters_in event) (words_in event) s s2 h
 
--- a datagram is read as it is spelled
+-- a datagram's spelling is read as that datagram
 abbrev pub AreRead : Type 0
 AreRead = (d : Datagram) → IsWellFormed d → reading (spelling d) ≡ Ok d
 
@@ -42,7 +42,7 @@ abbrev pub StepsKeep : Type 0
 StepsKeep = (r : Ranges) (i : GatewayId) (moment : ℕ) (s : Seen) (ls : List Letter) (ws : List ℕ) (new : Box) (t : List Note) (mail : List Letter) → IsWorld r s
     → WasSent ls (mail_in s (other i)) → IsOff ws (box_in s (other i)) → IsStep r i moment (box_in s i) new ls ws s.trace t (mail_in s i) mail → IsWorld r (with_step s i new t mail)
 
--- and it hangs on nothing that was noted or sent before
+-- a step of the machine doesn't depend on what was noted or sent before
 abbrev pub StepsAnywhere : Type 0
 StepsAnywhere = (r : Ranges) (i : GatewayId) (moment : ℕ) (a b : Box) (ls : List Letter) (ws : List ℕ) (ns : List Note) (ms : List Letter) → IsStep r i moment a b ls ws [] ns [] ms
     → (t : List Note) (mail : List Letter) → IsStep r i moment a b ls ws t (ns ++ t) mail (ms ++ mail)
@@ -63,21 +63,22 @@ BoxFounded = (zero one : PortBounds) (limit : Option ℕ) (capacity : ℕ) → A
 abbrev pub Begins : Type 0
 Begins = (r : Ranges) → IsWorld r (founding r)
 
--- a step rests on the ledger's account, and the other gateway's account isn't touched by it
+-- a gateway's ledger accounts for its own step; and a step of the other gateway leaves its account
+-- as it is
 abbrev pub StepsAccount : Type 0
 StepsAccount = (s : GatewayAndOutput) (event : Event) (s2 : GatewayAndOutput) → IsStepOn s event s2 → HasBytes event → IsBook s.shown.ledger.book → KeepsBytes s.shown → Rests s s2
 
 abbrev pub OthersStep : Type 0
 OthersStep = (s s2 : GatewayAndOutput) (g : Shown) (before : List Note) (x : Rests s s2) → same (id_of g) (id_of s.shown) ≡ false → AccountsOn s.shown before → AccountsOn g before → AccountsOn g (reverse x.notes ++ before)
 
--- nor by the other's crash or boot
+-- a crash or a boot of the other gateway leaves the account as it is
 abbrev pub OthersCrash : Type 0
 OthersCrash = (g : Shown) (by : GatewayId) (at : ℕ) (before : List Note) → same (id_of g) by ≡ false → AccountsOn g before → AccountsOn g (note by at Crashed ∷ before)
 
 abbrev pub OthersBoot : Type 0
 OthersBoot = (g : Shown) (by : GatewayId) (at number : ℕ) (before : List Note) → same (id_of g) by ≡ false → AccountsOn g before → AccountsOn g (note by at (Booted number) ∷ before)
 
--- a gateway accounts for the trace as it begins
+-- a gateway's ledger accounts for the trace as the gateway begins
 abbrev pub BegunAccounts : Type 0
 BegunAccounts = (settings : Settings) (id : GatewayId) (boot at : ℕ) (before : List Note) → Idle before → AccountsOn (begun settings id boot) (note id at (Booted boot) ∷ before)
 

@@ -1,4 +1,4 @@
--- It doesn't matter where the bytes of a frame or a datagram lie.
+-- A step with a frame or a datagram doesn't depend on where its bytes are in memory.
 use Rattle.std.proofs.Common.{◌≡◌, ℕ, List, Option, Some, None, subst}
 use Rattle.std.specs.Borrow.{Bor}
 use Rattle.nat_types.specs.declared.gateways.GatewayId.{GatewayId}

@@ -1,4 +1,4 @@
--- Datagrams as letters: those that are sent, and those that come.
+-- Datagrams as letters: those that are sent, and those that come to a gateway.
 use Rattle.std.proofs.Common.{◌≡◌, inl, inr, ℕ, zero, suc, ◌-◌, ◌==◌, cond, Bool, true, false, List, [], ◌∷◌, ◌++◌, map, reverse, Option, Some, None, Result, refl, sym, ap, subst, ◌∙◌, drop, length}
 use Rattle.std.specs.List.{AllByRecursion, flat_map}
 use Rattle.std.specs.Prelude.{slice_get}
@@ -19,29 +19,29 @@ use Rattle.frame_sim.proofs.Laws.{AreRead}
 abbrev letters_read : List ℕ → List Letter
 letters_read bytes = letter_in (reading bytes)
 
--- what a list has behind its beginning is what was put there
+-- what a list has after its beginning is what was appended
 pub since-is : {A : Type 0} (old more new : List A) → new ≡ old ++ more → since old new ≡ more
 since-is old more new is = ap (drop (length old)) is ∙ drop_at old more (length old) refl
 
 -- ---- sent
 
--- datagrams of an end of the link have a spelling
+-- the datagrams that an end of the link sends are well-formed
 pub are-formed : (e : Link) (synced : Bool) (ds : List Datagram) → IsLink e → AllByRecursion (λ d. d ≡ datagram_of synced e) ds → AllByRecursion IsWellFormed ds
 are-formed e synced [] link own = tt
 are-formed e synced (d ∷ ds) link own = (subst IsWellFormed (sym own.0) (formed e synced link), are-formed e synced ds link own.1)
 
--- and are read as they are spelled
+-- well-formed datagrams are read as the letters that they spell
 pub all-read : AreRead → (ds : List Datagram) → AllByRecursion IsWellFormed ds → flat_map letters_read (map spelling ds) ≡ map letter_of ds
 all-read read [] are = refl
 all-read read (d ∷ ds) are = ap (λ (r : Result Datagram _). letter_in r ++ flat_map letters_read (map spelling ds)) (read d are.0) ∙ ap (λ ls. letter_of d ∷ ls) (all-read read ds are.1)
 
--- a gateway's mail, with more that it sends
+-- a gateway's mail after it sent more datagrams has their letters, too
 pub more-mail : AreRead → (sent more : List (List ℕ)) (ds : List Datagram) → more ≡ map spelling ds → AllByRecursion IsWellFormed ds → mail_of (sent ++ more) ≡ reverse (map letter_of ds) ++ mail_of sent
 more-mail read sent more ds is are =
     ap reverse (flat_map-append letters_read sent more ∙ ap (λ ls. flat_map letters_read sent ++ ls) (ap (flat_map letters_read) is ∙ all-read read ds are))
     ∙ reverse-append (flat_map letters_read sent) (map letter_of ds)
 
--- ---- coming
+-- ---- what comes
 
 in-left : {A : Type 0} (x : A) (xs ys : List A) → In x xs → In x (xs ++ ys)
 in-left x [] ys h = absurd h
@@ -62,7 +62,7 @@ in-one l [] n bytes at h = absurd (cc)
 in-one l (b ∷ sent) zero bytes at h = in-left l (letters_read b) (flat_map letters_read sent) (subst (λ (x : List ℕ). In l (letters_read x)) (let same : bytes ≡ b = cc in same) h)
 in-one l (b ∷ sent) (suc n) bytes at h = in-right l (letters_read b) (flat_map letters_read sent) (in-one l sent n bytes at h)
 
--- the letters of a datagram that was sent are among those sent
+-- the letters of a datagram that was sent are in the mail
 pub in-mail : (l : Letter) (sent : List (List ℕ)) (k : ℕ) (bytes : List ℕ) → kth k sent ≡ Some bytes → In l (letters_read bytes) → In l (mail_of sent)
 in-mail l sent k bytes at h = in-reverse l (flat_map letters_read sent) (by (k == 0) at)
   where

@@ -1,4 +1,4 @@
--- The ports that the two own.
+-- The ports that the two gateways own.
 use Rattle.std.proofs.Common.{◌≡◌, ℕ, ◌==◌, Bool, true, false, ◌||◌, ◌⊎◌, inl, inr, IsTrue, List, [], ◌∷◌, map, length, Option, Some, None, if◌then◌else◌, refl, sym, subst, ◌∙◌, arith}
 use Rattle.std.specs.List.{Contains}
 use Rattle.std.proofs.lemmas.Bool.{eqb-true}
@@ -53,7 +53,7 @@ at-synced : (b : Bool) (xs : List ℕ) (p : Port) → Contains (if b then map po
 at-synced true xs p h = (refl, listed xs p h)
 at-synced false xs p h = absurd (omega (arith, h.1))
 
--- a gateway that owns a port is synced, and so its box says
+-- a gateway that owns a port is synced, and its box owns it
 pub owned-so : (g : Option Shown) (boot : ℕ) (h : List Record) (p : Port) → Contains (owned_by g) p → ((box_at g boot h).synced ≡ true) × ((box_at g boot h).owned p.0 ≡ true)
 owned-so None boot h p is = absurd (omega (arith, is.1))
 owned-so (Some g) boot h p is = at-synced (is_synced g.ledger.book.stage) g.ledger.book.owned p is
@@ -82,7 +82,7 @@ synced-owns : (b : Bool) (xs : List ℕ) (p : Port) → b ≡ true → is_listed
 synced-owns true xs p so is = unlisted xs p is
 synced-owns false xs p so is = absurd (cc)
 
--- a synced gateway whose box owns a port shows it
+-- a synced gateway owns each port that its box owns
 so-owned : (g : Option Shown) (boot : ℕ) (h : List Record) (p : Port) → synced_at g ≡ true → (box_at g boot h).owned p.0 ≡ true → Contains (owned_by g) p
 so-owned None boot h p so is = absurd (cc)
 so-owned (Some g) boot h p so is = synced-owns (is_synced g.ledger.book.stage) g.ledger.book.owned p so is
@@ -95,11 +95,11 @@ synced-so : (g : Option Shown) (boot : ℕ) (h : List Record) → synced_at g �
 synced-so None boot h so = absurd (cc)
 synced-so (Some g) boot h so = so
 
--- so many records are in the list of those that a gateway pushed
+-- the link's number of pushed records is the length of the list of those pushed
 pushed-so : (g : Shown) (h : List Record) → HasPushed g h → pushed_count g.link ≡ length (machine_records h)
 pushed-so g h has = pushed_is h g.ledger.book.coming g.link has ∙ sym (length-map h machine_record)
 
--- of two that have taken all, where the machine says that each port of these has an owner
+-- where both gateways have taken all, each port that the machine says has an owner has one
 whole-so : (ports : PortRanges) (these : ℕ → Bool) (a b : Option Shown) (m n : ℕ) (h k : List Record) → IsHalf ports Zero m a h → IsHalf ports One n b k
     → ((box_at a m h).synced ≡ true → (box_at b n k).synced ≡ true → (box_at a m h).taken ≡ length (box_at b n k).sent → (box_at b n k).taken ≡ length (box_at a m h).sent
     → (p : ℕ) → IsTrue (these p) → IsTrue ((box_at a m h).owned p || (box_at b n k).owned p))

@@ -1,4 +1,4 @@
--- The datagram of a step: at most one, and none too long.
+-- The datagram of a step: at most one, and at most 2,214 bytes long.
 use Rattle.std.proofs.Common.{◌≡◌, ◌≤◌, ℕ, zero, suc, List, [], ◌∷◌, length, map, drop, Option, Some, None, refl, sym, ap, subst, ◌∙◌, arith}
 use Rattle.std.specs.List.{AllByRecursion}
 use Rattle.std.specs.Prelude.{slice_get}
@@ -23,7 +23,7 @@ all-short most [] few are = tt
 all-short most (d ∷ []) few are = short most d are.0
 all-short most (d ∷ e ∷ ds) few are = absurd (omega (arith, few))
 
--- what a step sends more
+-- the datagrams that a step sends
 pub record Sends (told told2 : Output) : Type 0 where
   pub few : IsShort (since told.datagrams told2.datagrams)
   pub longer : length told.datagrams ≤ length told2.datagrams
@@ -37,7 +37,7 @@ sends go most g new event told told2 step bytes is link =
       longer = omega (arith, length-append told.datagrams (map spelling goes.sent), ap length goes.datagrams_are);
     }
 
--- the one that is found behind so many is the first of the rest
+-- the value at place `n` of a list is the first after the first `n` values
 nth-first : (xs : List (List ℕ)) (n : ℕ) → slice_get xs n ≡ slice_get (drop n xs) 0
 nth-first [] zero = refl
 nth-first [] (suc n) = refl

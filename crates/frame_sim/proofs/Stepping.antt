@@ -64,7 +64,7 @@ boot-kept r i moment a b ls ws t t2 m m2 x = ap (λ (c : Box). c.boot) x.box_is 
 
 -- ---- the world afterwards
 
--- what the two pushed, where gateway i pushed these
+-- the records that the two gateways pushed, where gateway i pushed these
 abbrev pub with_pushed : (GatewayId → List Record) → GatewayId → List Record → GatewayId → List Record
 with_pushed pushed i h = of_gateway (of_gateway h (pushed Zero) i) (of_gateway (pushed One) h i)
 

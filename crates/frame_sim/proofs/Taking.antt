@@ -1,4 +1,4 @@
--- What is handed to one of the two leads to a world that can come about.
+-- An event that one of the two gateways takes leads from a sound world to a sound world.
 use Rattle.std.proofs.Common.{◌≡◌, ℕ, Option, Some, None, Result, Ok, Err, List, ◌++◌, refl, sym, ap, subst, ◌∙◌}
 use Rattle.std.specs.Prelude.{IfOk, IfErr, OnErr, is_some}
 use Rattle.nat_types.specs.Same.{other}
@@ -24,7 +24,7 @@ use Rattle.frame_sim.proofs.Handing.{hands-datagram}
 use Rattle.frame_sim.proofs.Lending.{datagram-lent}
 use Rattle.frame_sim.proofs.Stepping.{step-sound}
 
--- the same half and trace
+-- a world with an equal half and an equal trace is sound
 pub sound-so : (w : World) (i : GatewayId) (h h2 : Half) (trace trace2 : List Note) → h2 ≡ h → trace2 ≡ trace → IsSound (with_half w i h trace) → IsSound (with_half w i h2 trace2)
 sound-so w i h h2 trace trace2 same noted sound =
     subst (λ (t : List Note). IsSound (with_half w i h2 t)) (sym noted) (subst (λ (x : Half). IsSound (with_half w i x trace)) (sym same) sound)
@@ -78,7 +78,7 @@ pub hand-takes : {E : Type 0} (w : World) (i : GatewayId) (result : Result Outco
 hand-takes w i (Ok o) event told told2 h2 trace2 s = takes-so w i (gateway_at w i) event told o told2 h2 trace2 s
 hand-takes w i (Err e) event told told2 h2 trace2 s = tt
 
--- a datagram that the other sent, or none of that number
+-- the answer to a datagram that the other sent, or to a number without one, is as Answers says
 pub receive-answers : (w : World) (i : GatewayId) (result : Result Outcome WorldFault) (number : ℕ) (told told2 : Output) (h2 : Half) (trace2 : List Note)
     → IfOk result (λ o. Receives (half w i) (half w (other i)) number w.trace told o told2 h2 trace2)
     → IfErr result (λ fault. fault ≡ fault_of (unless (is_some (kth number (half w (other i)).sent)) NoSuchDatagram))

@@ -1,4 +1,4 @@
--- What can happen to a world: which events are refused, and what the others do.
+-- The events of a world: which are refused, and what the others do.
 use Rattle.std.specs.Prelude.{◌≡◌, ℕ, ◌-◌, ◌==◌, ◌&&◌, ◌||◌, Bool, not, nat_lt, Option, Some, None, List, [], ◌∷◌, ◌++◌, drop, length, slice_get, is_some, if◌then◌else◌}
 use Rattle.std.specs.Borrow.{Bor}
 use Rattle.nat_types.specs.Same.{other}
@@ -25,34 +25,36 @@ use Rattle.frame_sim.specs.World.{Half, World, gateway_at, half, is_up, moment_o
 
 -- ---- which events are refused
 
--- a gateway that is up crashes; where it is synced, the other is synced too
+-- whether a gateway may crash: it is up, and where it is synced the other is synced too
 abbrev pub may_crash : World → GatewayId → Bool
 may_crash w i =
     let g = gateway_at w i in
     is_up g && (not (synced_at g) || synced_at (gateway_at w (other i)))
 
--- one that is down boots, with a number above all that it had
+-- whether a gateway may boot: it is down, and the number is above all that it had
 abbrev pub may_boot : World → GatewayId → ℕ → Bool
 may_boot w i n = not (is_up (gateway_at w i)) && nat_lt (half w i).boot n
 
--- one that is up is told a true word: the other is down, and this was its last boot
+-- whether a gateway may be given the operator's word: it is up, the other is down, and this number was the other's last
+-- boot
 abbrev pub may_be_told : World → GatewayId → ℕ → Bool
 may_be_told w i n =
     let h = half w (other i) in
     is_up (gateway_at w i) && (not (is_up h.gateway) && (nat_lt 0 n && (h.boot == n)))
 
--- the one at this place, counted from 1
+-- the value at place `k` of a list, counted from 1
 abbrev pub kth : {A : Type 0} → ℕ → List A → Option A
 kth k xs = if k == 0 then None else slice_get xs (k - 1)
 
--- the k-th datagram that the other ever sent
+-- the k-th datagram that the other gateway ever sent
 abbrev pub datagram_for : World → GatewayId → ℕ → Option (List ℕ)
 datagram_for w i k = kth k (half w (other i)).sent
 
+-- no fault where the event is allowed, else this one
 abbrev pub unless : Bool → WorldFault → Option WorldFault
 unless allowed fault = if allowed then None else Some fault
 
--- why an event is refused, if it is
+-- the reason why an event is refused, if it is
 abbrev pub refusal : World → WorldEvent → Option WorldFault
 refusal w (Frame i side bytes) = None
 refusal w (Tick i moment) = None
@@ -65,11 +67,11 @@ refusal w (Cable i side up) = None
 
 -- ---- what an event does
 
--- what a list has behind its beginning
+-- what the list `new` has after its beginning `old`
 abbrev pub since : {A : Type 0} → List A → List A → List A
 since old new = drop (length old) new
 
--- the world after a gateway's step: its notes come behind the trace, its datagrams behind those that it sent
+-- the world after a gateway's step: its notes are appended to the trace, its datagrams to those that it sent
 abbrev pub stepped : World → GatewayId → Shown → Output → Output → World
 stepped w i new told told2 =
     let h = half w i in
@@ -78,7 +80,7 @@ stepped w i new told told2 =
       sent = h.sent ++ since told.datagrams told2.datagrams;
     }) (w.trace ++ since told.notes told2.notes)
 
--- a gateway that is up takes a step, and what it tells is told truly
+-- a gateway that is up takes a step, in which it tells truly
 pub record Takes (w : World) (i : GatewayId) (g : Shown) (event : Event) (told : Output) (outcome : Outcome) (told2 : Output) (w2 : World) : Type 0 where
   pub new : Shown
   pub step : IsStepOn (scene g told) event (scene new told2)
@@ -89,30 +91,31 @@ pub record Takes (w : World) (i : GatewayId) (g : Shown) (event : Event) (told :
   pub answer : outcome ≡ outcome_on g event
   pub world : w2 ≡ stepped w i new told told2
 
--- one that is down takes nothing
+-- what an event does at a gateway: one that is down takes nothing, and the outcome is Done
 abbrev pub TakesAt : World → GatewayId → Option Shown → Event → Output → Outcome → Output → World → Type 0
 TakesAt w i None event told outcome told2 w2 = (outcome ≡ Done) × (told2 ≡ told) × (w2 ≡ w)
 TakesAt w i (Some g) event told outcome told2 w2 = Takes w i g event told outcome told2 w2
 
--- bytes that are lent, wherever they lie
+-- these bytes, as borrowed ones
 abbrev pub lent : List ℕ → Bor (List ℕ)
 lent bytes = record { ref_ptr = (0, 0); now = bytes }
 
--- a datagram comes
+-- a datagram comes to a gateway
 abbrev pub Comes : World → GatewayId → Option (List ℕ) → Output → Outcome → Output → World → Type 0
 Comes w i None told outcome told2 w2 = ⊥
 Comes w i (Some bytes) told outcome told2 w2 =
     TakesAt w i (gateway_at w i) (given.Datagram (lent bytes)) told outcome told2 w2
 
--- a crash or a boot: one of the two is so then, which is noted
+-- a crash or a boot: the gateway is down or up afterwards, which is noted
 abbrev pub Turns : World → GatewayId → Half → Note → Output → Outcome → Output → World → Type 0
 Turns w i h note told outcome told2 w2 =
     (outcome ≡ Done) × (told2 ≡ with_note told note) × (w2 ≡ with_half w i h (w.trace ++ note ∷ []))
 
+-- a note of gateway `i` at a time
 abbrev pub noting : GatewayId → ℕ → NoteKind → Note
 noting i moment what = record { by = i; at = moment; what = what }
 
--- what an event that isn't refused does, and what is told more
+-- what an event that isn't refused does to the world and the output
 abbrev pub Does : World → WorldEvent → Output → Outcome → Output → World → Type 0
 Does w (Frame i side bytes) = TakesAt w i (gateway_at w i) (given.Frame side (lent bytes.items))
 Does w (Tick i moment) = TakesAt w i (gateway_at w i) (given.Tick moment)

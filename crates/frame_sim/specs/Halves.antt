@@ -1,4 +1,4 @@
--- One of the two gateways, with what it is handed.
+-- One of the two gateways (a half of the world), and its steps.
 use Rattle.std.specs.Prelude.{◌≡◌, ◌≤◌, ℕ, Option, Some, None, List, [], ◌∷◌, ◌++◌, length, map, Vec}
 use Rattle.std.specs.Borrow.{Bor}
 use Rattle.nat_types.specs.declared.notes.Note.{Note}
@@ -16,7 +16,7 @@ use Rattle.gateway.specs.Gateway.{IsGateway}
 use Rattle.frame_sim.specs.World.{Half}
 use Rattle.frame_sim.specs.Events.{kth, since}
 
--- the bytes of lists
+-- the bytes of each list
 abbrev pub items_of : {Z : Type 0} → List (Vec ℕ Z) → List (List ℕ)
 items_of vs = map (λ v. v.items) vs
 
@@ -26,7 +26,8 @@ IsShort [] = Unit {0}
 IsShort (bytes ∷ []) = length bytes ≤ 2214
 IsShort (bytes ∷ more ∷ rest) = ⊥
 
--- a gateway that is up steps, beside the trace
+-- a gateway that is up takes a step; its notes are appended to the trace, and its datagram to those
+-- that it sent
 pub record Steps (h : Half) (g : Shown) (trace : List Note) (event : Event) (told : Output) (outcome : Outcome) (told2 : Output) (h2 : Half) (trace2 : List Note) : Type 0 where
   pub new : Shown
   pub step : IsStepOn (scene g told) event (scene new told2)
@@ -42,14 +43,14 @@ pub record Steps (h : Half) (g : Shown) (trace : List Note) (event : Event) (tol
   }
   pub trace_is : trace2 ≡ trace ++ since told.notes told2.notes
 
--- one that is down takes nothing
+-- what an event does at a half: a gateway that is down takes nothing, and the outcome is Done
 abbrev pub StepsAt : Half → Option Shown → List Note → Event → Output → Outcome → Output → Half → List Note → Type 0
 StepsAt h None trace event told outcome told2 h2 trace2 =
     (outcome ≡ Done) × (told2 ≡ told) × (h2 ≡ h) × (trace2 ≡ trace)
 StepsAt h (Some g) trace event told outcome told2 h2 trace2 =
     Steps h g trace event told outcome told2 h2 trace2
 
--- it takes a datagram that the other sent
+-- the half takes a datagram that the other one sent
 pub record Receives (h other : Half) (number : ℕ) (trace : List Note) (told : Output) (outcome : Outcome) (told2 : Output) (h2 : Half) (trace2 : List Note) : Type 0 where
   pub bytes : Bor (List ℕ)
   pub was_sent : kth number other.sent ≡ Some bytes.now

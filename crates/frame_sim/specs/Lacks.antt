@@ -1,4 +1,5 @@
--- For what of an event there was no memory.
+-- Names for the calls that found no memory. Each opaque name is given by one function, which makes exactly that call,
+-- and says what allocation was refused.
 use Rattle.std.specs.Prelude.{◌≡◌, ◌≢◌, ◌⊎◌, ℕ, false, Option, Some, None, List, length}
 use Rattle.std.specs.Borrow.{Bor}
 use Rattle.memory.specs.Memory.{WasRefused}
@@ -21,16 +22,17 @@ use Rattle.gateway.specs.Lacks.{LacksGateway, LacksMemory}
 use Rattle.frame_sim.specs.World.{Half, World, gateway_at, half, moment_of}
 use Rattle.frame_sim.specs.Events.{kth, noting}
 
--- There was no room for what a gateway may send and note in a step: for the longest datagram, for its place among those that it sent, or on the trace.
--- Who asks for it has this name, and nobody else; as with those below it, which say too what of it was refused.
+-- There was no memory for what a gateway may send and note in a step: for the longest datagram (2,214 bytes), for its
+-- place among those sent, or for the notes' places on the trace.
 unfoldable pub WasUnready : Shown → Type 0
 WasUnready g = Unit {0} × (WasRefused 2214 ⊎ (WasRefused 1 ⊎ WasRefused (most_notes g)))
 
--- it was to take this event, and memory was refused that its step needs, and for which the page had no room that it was to write on
+-- The gateway was to take this event, and an allocation was refused that its step needs, on an output page without the
+-- space for it.
 unfoldable pub WasUnstepped : Shown → Event → Type 0
 WasUnstepped g event = Unit {0} × ((page : Paged) × LacksMemory g page event)
 
--- one was to begin with these settings, in the life of this number
+-- no gateway could begin with these settings, in the life of this number
 unfoldable pub WasUnbegun : Settings → GatewayId → ℕ → Type 0
 WasUnbegun settings i number = Unit {0} × LacksGateway settings
 
@@ -38,47 +40,48 @@ WasUnbegun settings i number = Unit {0} × LacksGateway settings
 abbrev pub WasUnfounded : Settings → Type 0
 WasUnfounded settings = WasUnbegun settings Zero 1
 
--- there was no room for this note on the trace
+-- there was no place for this note on the trace
 unfoldable pub WasUntraced : Note → Type 0
 WasUntraced note = Unit {0} × WasRefused 1
 
--- nor where it is told
+-- there was no place for this note in the output
 unfoldable pub WasUntold : Note → Type 0
 WasUntold note = Unit {0} × LacksPage (record { frames = 0; datagrams = 0; notes = 1 })
 
--- nor room for the steps of these events
+-- there was no list for the steps of these events
 unfoldable pub WasUnrun : List WorldEvent → Type 0
 WasUnrun events = Unit {0} × WasRefused (length events)
 
--- a gateway was asked for the ports that it owns, and there was no memory for one more in their list
+-- a gateway was asked for the ports that it owns, and their list couldn't grow by one
 unfoldable pub WasUnowned : Shown → Type 0
 WasUnowned g = Unit {0} × WasRefused 1
 
--- or for the pairs that it holds
+-- a gateway was asked for its pairs, and their list couldn't grow by one
 unfoldable pub WasUnpaired : Shown → Type 0
 WasUnpaired g = Unit {0} × WasRefused 1
 
--- or for those that translate
+-- a gateway was asked for the pairs with which it translates, and their list couldn't grow by one
 unfoldable pub WasUntranslated : Shown → Type 0
 WasUntranslated g = Unit {0} × WasRefused 1
 
 -- ---- of an event
 
--- for one of both
+-- the note had no place on the trace, or none in the output
 abbrev pub IsUnnoted : Note → Type 0
 IsUnnoted note = WasUntraced note ⊎ WasUntold note
 
--- a gateway took no step for this event, for want of the one or the other; one that is down takes none, and no memory
+-- a gateway took no step for this event, because of WasUnready or WasUnstepped; one that is down takes none, and no
+-- memory
 abbrev pub IsUnstepped : Option Shown → Event → Type 0
 IsUnstepped None event = ⊥
 IsUnstepped (Some g) event = WasUnready g ⊎ WasUnstepped g event
 
--- it took none for the datagram of this number among those that the other sent
+-- a gateway took no step for the datagram of this number among those that the other sent
 abbrev pub IsUnreceived : Half → Half → ℕ → Type 0
 IsUnreceived h from number = (bytes : Bor (List ℕ)) × ((kth number from.sent ≡ Some bytes.now) × IsUnstepped h.gateway (given.Datagram bytes))
 
--- For want of this an event wasn't applied: of just what the gateway to which it happens wants for its step; of room for the note of a crash; of a
--- gateway that boots, or of room for the note of that
+-- The memory that an event lacked, so that it wasn't applied: memory for the step of the gateway to which it happens;
+-- for a crash, a place for its note; for a boot, the gateway or a place for its note.
 abbrev pub Lacks : World → WorldEvent → Type 0
 Lacks w (Frame i side bytes) = (lent : Bor (List ℕ)) × ((lent.now ≡ bytes.items) × IsUnstepped (gateway_at w i) (given.Frame side lent))
 Lacks w (Tick i moment) = IsUnstepped (gateway_at w i) (given.Tick moment)
@@ -91,17 +94,17 @@ Lacks w (Cable i side up) = IsUnstepped (gateway_at w i) (given.Side side up)
 
 -- ---- of what a gateway holds; of one that is down there is none to list
 
--- the ports that it owns, where it is synced
+-- the list of the ports that a gateway owns lacked memory; only a synced gateway has one
 abbrev pub IsUnowned : Option Shown → Type 0
 IsUnowned None = ⊥
 IsUnowned (Some g) = (is_synced g.ledger.book.stage ≢ false) × WasUnowned g
 
--- its pairs
+-- the list of a gateway's pairs lacked memory
 abbrev pub IsUnpaired : Option Shown → Type 0
 IsUnpaired None = ⊥
 IsUnpaired (Some g) = WasUnpaired g
 
--- those that translate
+-- the list of the pairs with which a gateway translates lacked memory
 abbrev pub IsUntranslated : Option Shown → Type 0
 IsUntranslated None = ⊥
 IsUntranslated (Some g) = WasUntranslated g

@@ -1,4 +1,4 @@
--- The scene of the pair machine that a world stands for.
+-- The scene of the pair machine for a world, and what is sound: scene, mail and box are the machine's (spec_pair).
 use Rattle.std.specs.Prelude.{◌≡◌, ℕ, false, Option, Some, None, List, reverse}
 use Rattle.std.specs.List.{flat_map}
 use Rattle.nat_types.specs.Same.{other}
@@ -27,16 +27,17 @@ ranges_of ports =
     let zero = bounds_of ports.zero in
     moving (λ p. in_either zero (bounds_of ports.one) p) (in_bounds zero)
 
--- one that is down has nothing but the number of its last boot; h is what one that is up pushed in its session
+-- the machine's box of a gateway; one that is down has only the number of its last boot, and `h` has what one that is
+-- up pushed in its session
 abbrev pub box_at : Option Shown → ℕ → List Record → Box
 box_at None boot h = bare false boot
 box_at (Some g) boot h = box_of g h
 
--- its letters, the newest first
+-- the letters of the datagrams that a gateway sent, the newest first
 abbrev pub mail_of : List (List ℕ) → List Letter
 mail_of sent = reverse (flat_map (λ bytes. letter_in (reading bytes)) sent)
 
--- the scene, where the two pushed these
+-- the scene of a world, where the two gateways pushed these records
 abbrev pub scene_of : World → (GatewayId → List Record) → Scene
 scene_of w pushed = record {
   mine = box_at w.zero.gateway w.zero.boot (pushed Zero);
@@ -46,7 +47,7 @@ scene_of w pushed = record {
   trace = reverse w.trace;
 }
 
--- it is gateway i of the pair, in the life of this number, and pushed these
+-- the gateway is gateway i of the pair, in the life of this number, and pushed the records `h`
 pub record IsThat (ports : PortRanges) (i : GatewayId) (number : ℕ) (g : Shown) (h : List Record) : Type 0 where
   pub id : id_of g ≡ i
   pub zero : g.ledger.book.zero ≡ bounds_of ports.zero
@@ -54,6 +55,7 @@ pub record IsThat (ports : PortRanges) (i : GatewayId) (number : ℕ) (g : Shown
   pub boot : g.link.boot ≡ number
   pub pushed : HasPushed g h
 
+-- a gateway that is up is gateway i of the pair; one that is down may be any
 abbrev pub IsHalf : PortRanges → GatewayId → ℕ → Option Shown → List Record → Type 0
 IsHalf ports i boot None h = Unit {0}
 IsHalf ports i boot (Some g) h = IsThat ports i boot g h
@@ -63,12 +65,12 @@ abbrev pub AccountsAt : Option Shown → List Note → Type 0
 AccountsAt None trace = Unit {0}
 AccountsAt (Some g) trace = AccountsOn g (reverse trace)
 
--- each release so far came where its pair was idle, and the two account for the trace
+-- each release so far came where its pair was idle, and the ledgers of both gateways account for the trace
 pub record IsAccounted (w : World) : Type 0 where
   pub idle : Idle w.trace
   pub accounts : (i : GatewayId) → AccountsAt (gateway_at w i) w.trace
 
--- for some lists of pushed records the scene of the world can come about; and the trace is accounted for
+-- The world is sound: for some lists of pushed records its scene can come about, and the trace is accounted for.
 pub record IsSound (w : World) : Type 0 where
   pub pushed : GatewayId → List Record
   pub halves : (i : GatewayId) →
@@ -76,7 +78,7 @@ pub record IsSound (w : World) : Type 0 where
   pub scene : IsWorld (ranges_of w.settings.ports) (scene_of w pushed)
   pub accounted : IsAccounted w
 
--- what gateway i may be handed: a datagram that the other sent, and a true word about it
+-- gateway i may be given the event: its datagram was sent by the other, and its operator's word about the other is true
 pub record IsHanded (w : World) (i : GatewayId) (event : Event) : Type 0 where
   pub letters : WasSent (letters_in event) (mail_of (half w (other i)).sent)
   pub words : (h : List Record) →

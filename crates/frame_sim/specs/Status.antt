@@ -11,21 +11,21 @@ use Rattle.frame_sim.specs.Runs.{AreSteps}
 unfoldable pub IsNew : Settings → World → Type 0
 IsNew settings w = w ≡ founding settings
 
--- an event was refused
+-- whether an event was refused
 abbrev pub has_refusal : List Step → Bool
 has_refusal steps = list_any (λ s. is_err s.answer) steps
 
--- 3 where an event was refused, else 0
+-- the exit status of a run: 3 where an event was refused, else 0
 abbrev pub run_status : List Step → ℕ
 run_status steps = if has_refusal steps then 3 else 0
 
--- the steps that these events take, in order, from a world, the one to which they lead, and their status
+-- a run of these events from a world, in order: its steps, the world to which they lead, and the status
 pub record IsRunFrom (w : World) (events : List WorldEvent) (status : ℕ) : Type 0 where
   pub steps : List Step
   pub world : World
   pub answers : AreSteps w events steps world
   pub refusals : status ≡ run_status steps
 
--- the same on a new world of these settings
+-- a run of these events on a new world of these settings
 abbrev pub IsRun : Settings → List WorldEvent → ℕ → Type 0
 IsRun settings events status = IsRunFrom (founding settings) events status

@@ -1,4 +1,4 @@
--- What a world shows.
+-- A world as its contracts speak of it.
 use Rattle.std.specs.Prelude.{◌≡◌, ◌⊎◌, ℕ, Bool, true, false, IsTrue, ◌↔◌, Option, Some, None, List, [], map, if◌then◌else◌}
 use Rattle.std.specs.List.{Contains}
 use Rattle.addresses.specs.declared.transport.Port.{Port}
@@ -20,27 +20,29 @@ use Rattle.spec_binding.specs.Books.{is_synced}
 use Rattle.spec_step.specs.Founding.{bounds_of, founded}
 use Rattle.spec_step.specs.Shown.{Shown}
 
--- One of the two: the gateway where it is up, the number of its last boot (0: it never booted), and all datagrams that it
--- ever sent, the oldest first.
+-- One of the two gateways: the gateway where it is up, the number of its last boot (0 where it never booted), and all
+-- datagrams that it ever sent, the oldest first.
 pub record Half : Type 0 where
   pub gateway : Option Shown
   pub boot : ℕ
   pub sent : List (List ℕ)
 
--- what the pair is set up with, the two, and all notes, the oldest first
+-- the world: the settings of the pair, the two gateways, and all notes, the oldest first
 pub record World : Type 0 where
   pub settings : Settings
   pub zero : Half
   pub one : Half
   pub trace : List Note
 
+-- the half of a gateway
 abbrev pub half : World → GatewayId → Half
 half w i = of_gateway w.zero w.one i
 
+-- the gateway of this number, where it is up
 abbrev pub gateway_at : World → GatewayId → Option Shown
 gateway_at w i = (half w i).gateway
 
--- the world with that one of the two, and these notes
+-- the world with another half for a gateway, and with these notes
 abbrev pub with_half : World → GatewayId → Half → List Note → World
 with_half w i h trace = record {
   settings = w.settings;
@@ -49,7 +51,7 @@ with_half w i h trace = record {
   trace = trace;
 }
 
--- gateway 0 founded with boot 1, gateway 1 down, nothing sent, nothing noted
+-- the world at the founding: gateway 0 founded with boot 1, gateway 1 down, nothing sent, nothing noted
 abbrev pub founding : Settings → World
 founding settings = record {
   settings = settings;
@@ -60,40 +62,42 @@ founding settings = record {
 
 -- ---- a gateway that may be down
 
+-- whether a gateway is up
 abbrev pub is_up : Option Shown → Bool
 is_up None = false
 is_up (Some g) = true
 
--- it is up and its table loaded
+-- whether a gateway is up and its table loaded
 abbrev pub synced_at : Option Shown → Bool
 synced_at None = false
 synced_at (Some g) = is_synced g.ledger.book.stage
 
+-- the entries of a gateway's table; none while it is down
 abbrev pub entries_of : Option Shown → List Entry
 entries_of None = []
 entries_of (Some g) = g.ledger.book.entries
 
--- the ports that it owns, rising; none where it isn't synced
+-- the ports that a gateway owns, in rising order; none where it isn't synced
 abbrev pub owned_by : Option Shown → List Port
 owned_by None = []
 owned_by (Some g) = if is_synced g.ledger.book.stage then map port_at g.ledger.book.owned else []
 
--- no key has two entries
+-- no key of the gateway's table has two entries
 abbrev pub HasKeys : Option Shown → Type 0
 HasKeys g = HasDistinctKeys (entries_of g)
 
--- its pairs in the states that pass a test
+-- the gateway's pairs in the states that pass a test
 abbrev pub pairs_of : (EntryState → Bool) → Option Shown → List Pair
 pairs_of test g = pairs_in test (entries_of g)
 
--- its clock's moment
+-- the time of the gateway's clock in centiseconds, 0 while it is down
 abbrev pub moment_of : Option Shown → ℕ
 moment_of None = 0
 moment_of (Some g) = g.moment
 
 -- ---- what the words on a trace speak of
 
--- a gateway holds the pair; a proposal given up is none
+-- a gateway's table holds the pair; a proposal given up is no pair
 abbrev pub Holds : World → GatewayId → Pair → Type 0
 Holds w i p = Contains (pairs_of is_pair (gateway_at w i)) p
 
@@ -107,18 +111,18 @@ ShowsSynced w = (i : GatewayId) → IsTrue (synced_at (gateway_at w i)) ↔ IsSy
 
 -- ---- the ports that the two own
 
--- the port lies in one of the two ranges of the settings
+-- whether the port is in one of the two ranges of the settings
 abbrev pub is_to_own : PortRanges → Port → Bool
 is_to_own ports p = in_either (bounds_of ports.zero) (bounds_of ports.one) p.0
 
--- each has taken every record that the other pushed in the session
+-- each gateway has taken every record that the other pushed in the session
 abbrev pub HaveTakenAll : Option Shown → Option Shown → Type 0
 HaveTakenAll None b = ⊥
 HaveTakenAll (Some a) None = ⊥
 HaveTakenAll (Some a) (Some b) =
     (a.link.taken ≡ pushed_count b.link) × (b.link.taken ≡ pushed_count a.link)
 
--- Owned ports
+-- Owned ports: what each world keeps of the ports that the two gateways own.
 pub record IsOwned (w : World) : Type 0 where
   -- no port is owned by two synced gateways
   pub apart : (p : Port) → Contains (owned_by (gateway_at w Zero)) p →
@@ -128,6 +132,6 @@ pub record IsOwned (w : World) : Type 0 where
       HaveTakenAll (gateway_at w Zero) (gateway_at w One) →
       (p : Port) → IsTrue (is_to_own w.settings.ports p) →
       Contains (owned_by (gateway_at w Zero)) p ⊎ Contains (owned_by (gateway_at w One)) p
-  -- and no other port has one
+  -- a gateway owns no port outside the two ranges
   pub within : (i : GatewayId) → (p : Port) → Contains (owned_by (gateway_at w i)) p →
       IsTrue (is_to_own w.settings.ports p)

@@ -1,4 +1,4 @@
-//! A world's beginning, as the run of a script and its loop want it.
+//! The beginning of a world, for the run of a script and its loop.
 ghost use Rattle.std.specs.Prelude.{IfOk, OnErr};
 ghost use Rattle.frame_sim.specs.Lacks.{WasUnfounded};
 ghost use Rattle.frame_sim.specs.Status.{IsNew};
@@ -9,8 +9,8 @@ use settings::Settings;
 use std::alloc::Global;
 
 impl<'a> World<'a> {
-    /// A new world of these settings, as `new` gives it: what it is has one name here (`IsNew`), and so has that there is no
-    /// memory for it.
+    /// Returns a new world of these settings, as `new` does, or NoMemory. In contracts the world is named `IsNew`, and
+    /// NoMemory `WasUnfounded`.
     pub fn founded(alloc: Global, settings: &'a Settings) -> Result<World<'a>, NoMemory>
         ensures new { IfOk result (IsNew settings.now) }
         ensures unfounded { OnErr result (WasUnfounded settings.now) }

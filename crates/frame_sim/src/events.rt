@@ -1,4 +1,4 @@
-//! What an event gave.
+//! The step that an event gives, and the faults of refused events.
 ghost use Rattle.std.specs.Prelude.{◌≡◌};
 ghost use Rattle.frame_sim.specs.Texts.{refusal_text};
 
@@ -8,19 +8,19 @@ use std::alloc::AllocError;
 use std::fmt;
 use thiserror::Error;
 
-/// Why an event was refused; the world is then as before.
+/// The reason why an event was refused; the world is then as before.
 #[derive(Clone, Copy, Debug, PartialEq, Eq, Error)]
 pub enum WorldFault {
-    /// The event isn't allowed.
+    /// The event isn't allowed in this world.
     PremiseBroken,
-    /// No such datagram was ever sent.
+    /// The other gateway never sent a datagram of this number.
     NoSuchDatagram,
-    /// A growth was refused.
+    /// An allocation failed.
     NoMemory,
 }
 
 impl WorldFault {
-    /// Its number and its name, as `2 NoSuchDatagram`.
+    /// Returns the fault's number and name, as `2 NoSuchDatagram`.
     pub fn text(&self) -> &str
         ensures { result.now ≡ refusal_text self.now }
     {
@@ -32,7 +32,7 @@ impl WorldFault {
     }
 }
 
-/// The same text.
+/// Writes the text of `WorldFault::text`.
 impl fmt::Display for WorldFault {
     ghost use Rattle.std.specs.Fmt.{WritesOnOk};
     ghost use Rattle.std.specs.Prelude.{Some};
@@ -69,7 +69,7 @@ impl From<NoMemory> for WorldFault {
     }
 }
 
-/// What an event gave: its outcome or refusal, and what the gateway sent and noted.
+/// What an event gave: its outcome or its refusal, and what the gateway sent and noted.
 #[derive(Drop)]
 pub struct Step {
     pub answer: Result<Outcome, WorldFault>,

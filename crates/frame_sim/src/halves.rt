@@ -1,4 +1,4 @@
-//! One of the two gateways, with all that it sent.
+//! One of the two gateways of a world, up or down, with all datagrams that it ever sent.
 ghost use Rattle.std.specs.Prelude.{◌≡◌, ◌<◌, ◌≤◌, ◌+◌, ◌++◌, ◌⊎◌, ℕ, false, List, [], Some, None, drop, length, option_map, slice_get, vec_len, vec_capacity, IfOk, IfErr, IsOk, OnOk, OnErr, is_some};
 ghost use Rattle.bindings.specs.Entries.{is_pair, translates};
 ghost use Rattle.link.specs.Link.{IsLink};
@@ -30,8 +30,8 @@ use std::marker::Model;
 /// The longest datagram, in bytes.
 const LONGEST_DATAGRAM: usize = 2214;
 
-/// One of the two: the gateway where it is up, the number of its last boot (0: it never booted), and
-/// all datagrams that it ever sent.
+/// One of the two gateways of a world: the gateway where it is up, the number of its last boot (0 where it never
+/// booted), and all datagrams that it ever sent.
 #[derive(Drop)]
 pub(crate) struct Half {
     pub(crate) gateway: Option<Gateway>,
@@ -52,7 +52,7 @@ impl Model for Half {
     } };
 }
 
-/// Puts the notes that were told since at the end of the trace, which has room for them.
+/// Appends to the trace the notes of `out` from number `noted` on. The trace has the capacity for them.
 fn append_notes(trace: &mut Vec<Note>, out: &Out, noted: usize)
     requires told { noted ≤ length out.now.notes }
     requires room { vec_len trace.old + length (drop noted out.now.notes)
@@ -65,7 +65,7 @@ fn append_notes(trace: &mut Vec<Note>, out: &Out, noted: usize)
     }
 }
 
-/// Fills a list that has room.
+/// Returns the empty list with these bytes, for which it has the capacity, and without spare capacity.
 fn filled(mut letter: Vec<u8>, bytes: &[u8]) -> Vec<u8>
     requires empty { letter.items ≡ [] }
     requires room { vec_len letter + length bytes.now ≤ vec_capacity letter }
@@ -79,8 +79,8 @@ fn filled(mut letter: Vec<u8>, bytes: &[u8]) -> Vec<u8>
     letter
 }
 
-/// Puts the datagram that was sent since, if one was, behind the others. `letter` is an empty list
-/// with room for it.
+/// Appends the datagram of `out` at number `told`, if there is one, to those sent before. `letter` is an empty list
+/// with the capacity for it.
 fn append_datagram(sent: &mut Vec<Vec<u8>>, letter: Vec<u8>, out: &Out, told: usize)
     requires told { told ≤ length out.now.datagrams }
     requires few { IsShort (drop told out.now.datagrams) }
@@ -94,8 +94,9 @@ fn append_datagram(sent: &mut Vec<Vec<u8>>, letter: Vec<u8>, out: &Out, told: us
     }
 }
 
-/// Room for what a gateway may send and note in a step: a list that has it for a datagram, its place among those that it sent,
-/// and room on the trace. It alone has the name for it that there is none.
+/// Reserves the memory for what a gateway may send and note in a step. Returns an empty list with the capacity of the
+/// longest datagram; `sent` gets a free place, and the trace the places for the notes. NoMemory from this call, and
+/// from no other, is named `WasUnready`.
 #[tactic(auto, unfolding(crate::specs::Lacks::WasUnready))]
 fn room_for_step(
     alloc: Global,
@@ -118,7 +119,8 @@ fn room_for_step(
     Ok(letter)
 }
 
-/// Has a gateway step. It alone has the name for it that there was no memory for that.
+/// Has a gateway take a step, and answers its outcome. NoMemory from this call, and from no other, is named
+/// `WasUnstepped`.
 #[tactic(auto, unfolding(crate::specs::Lacks::WasUnstepped))]
 fn told_to_step(gateway: &mut Gateway, event: Event<'_>, out: &mut Out) -> Result<Outcome, NoMemory>
     ensures outcome { IfOk result (λ o. o ≡ outcome_on gateway.old event.entry) }
@@ -132,8 +134,7 @@ fn told_to_step(gateway: &mut Gateway, event: Event<'_>, out: &mut Out) -> Resul
     gateway.step(event, &mut out.page)
 }
 
-/// The step of a gateway that is up. Its notes come behind the trace, its datagram behind those that
-/// it sent.
+/// Has a gateway that is up take a step. Appends its notes to the trace, and its datagram to those that it sent.
 fn step_up(
     alloc: Global,
     gateway: &mut Gateway,
@@ -176,7 +177,7 @@ fn step_up(
     Ok(outcome)
 }
 
-/// Asks a gateway for its pairs. It alone has the name for it that there is no memory for them, as the two below it for theirs.
+/// Returns the pairs of a gateway's table. NoMemory from this call, and from no other, is named `WasUnpaired`.
 #[tactic(auto, unfolding(crate::specs::Lacks::WasUnpaired))]
 fn told_pairs(gateway: &Gateway) -> Result<Vec<Pair>, NoMemory>
     ensures pairs { IfOk result (λ v. v.items ≡ pairs_of is_pair (Some gateway.now)) }
@@ -185,7 +186,8 @@ fn told_pairs(gateway: &Gateway) -> Result<Vec<Pair>, NoMemory>
     gateway.pairs()
 }
 
-/// For those that translate.
+/// Returns the pairs with which a gateway translates. NoMemory from this call, and from no other, is named
+/// `WasUntranslated`.
 #[tactic(auto, unfolding(crate::specs::Lacks::WasUntranslated))]
 fn told_translating(gateway: &Gateway) -> Result<Vec<Pair>, NoMemory>
     ensures pairs { IfOk result (λ v. v.items ≡ pairs_of translates (Some gateway.now)) }
@@ -194,7 +196,7 @@ fn told_translating(gateway: &Gateway) -> Result<Vec<Pair>, NoMemory>
     gateway.translating()
 }
 
-/// For the ports that it owns.
+/// Returns the ports that a gateway owns. NoMemory from this call, and from no other, is named `WasUnowned`.
 #[tactic(auto, unfolding(crate::specs::Lacks::WasUnowned))]
 fn told_ports(gateway: &Gateway) -> Result<Vec<Port>, NoMemory>
     ensures ports { IfOk result (λ v. v.items ≡ owned_by (Some gateway.now)) }
@@ -205,7 +207,7 @@ fn told_ports(gateway: &Gateway) -> Result<Vec<Port>, NoMemory>
 }
 
 impl Half {
-    /// Ends it, and gives its memory back.
+    /// Ends the gateway, and frees its memory.
     pub(crate) fn end(self) {
         let Half {
             gateway,
@@ -217,7 +219,7 @@ impl Half {
         }
     }
 
-    /// It takes what it is handed; one that is down takes nothing.
+    /// Has the gateway take an event in a step. A gateway that is down takes nothing, and answers Done.
     pub(crate) fn hand(
         &mut self,
         alloc: Global,
@@ -230,7 +232,7 @@ impl Half {
         ensures err { OnErr result (self.new ≡ self.old) }
         ensures unnoted { OnErr result (trace.new.items ≡ trace.old.items) }
         ensures untold { OnErr result (out.new ≡ out.old) }
-        // One that is down takes no memory.
+        // A gateway that is down takes no memory.
         ensures short { OnErr result (IsUnstepped self.old.gateway event.entry) }
     {
         match &mut self.gateway {
@@ -242,7 +244,7 @@ impl Half {
         }
     }
 
-    /// It goes down.
+    /// Puts the gateway down, as a crash does, and frees its memory. What it sent stays.
     pub(crate) fn stop(&mut self)
         ensures { self.new ≡ record self.old { gateway = None } }
     {
@@ -251,7 +253,7 @@ impl Half {
         }
     }
 
-    /// It comes up, in the life of that number.
+    /// Puts the gateway up, in the life of that boot number.
     pub(crate) fn start(&mut self, gateway: Gateway, boot: u64)
         ensures { self.new ≡ record self.old { gateway = Some gateway; boot = boot } }
     {
@@ -261,14 +263,15 @@ impl Half {
         self.boot = boot;
     }
 
-    /// The number of its last boot, or 0.
+    /// Returns the number of the gateway's last boot, or 0 where it never booted.
     pub(crate) fn boot(&self) -> u64
         ensures { result ≡ self.now.boot }
     {
         self.boot
     }
 
-    /// It takes the datagram of this number among those that the other one ever sent.
+    /// Has the gateway take a datagram that the other one ever sent, by its number. Answers NoSuchDatagram where there
+    /// is none.
     pub(crate) fn receive(
         &mut self,
         alloc: Global,
@@ -293,7 +296,7 @@ impl Half {
         Ok(self.hand(alloc, trace, Event::Datagram(bytes), out)?)
     }
 
-    /// The datagram of this number among those that it ever sent, counted from 1.
+    /// Returns the datagram of this number among those that the gateway ever sent, counted from 1, or None.
     pub(crate) fn datagram(&self, number: u64) -> Option<&[u8]>
         ensures { option_map (λ b. b.now) result ≡ kth number self.now.sent }
     {
@@ -306,8 +309,7 @@ impl Half {
         }
     }
 
-    /// Reminds the prover that the entries of a table have distinct keys; it does nothing when it
-    /// runs.
+    /// Reminds the prover that the entries of a table have distinct keys. The call does nothing when it runs.
     pub(crate) fn recall(&self)
         ensures { HasKeys self.now.gateway }
     {
@@ -316,7 +318,7 @@ impl Half {
         }
     }
 
-    /// The pairs of its table, none while it is down.
+    /// Returns the pairs of the gateway's table, or none while it is down.
     pub(crate) fn pairs(&self, alloc: Global) -> Result<Vec<Pair>, NoMemory>
         ensures pairs { IfOk result (λ v. v.items ≡ pairs_of is_pair self.now.gateway) }
         ensures unlisted { OnErr result (IsUnpaired self.now.gateway) }
@@ -327,7 +329,7 @@ impl Half {
         }
     }
 
-    /// The pairs that translate.
+    /// Returns the pairs with which the gateway translates, or none while it is down.
     pub(crate) fn translating(&self, alloc: Global) -> Result<Vec<Pair>, NoMemory>
         ensures pairs { IfOk result (λ v. v.items ≡ pairs_of translates self.now.gateway) }
         ensures unlisted { OnErr result (IsUntranslated self.now.gateway) }
@@ -338,7 +340,7 @@ impl Half {
         }
     }
 
-    /// The ports that it owns.
+    /// Returns the ports that the gateway owns, or none where it isn't synced.
     pub(crate) fn owned(&self, alloc: Global) -> Result<Vec<Port>, NoMemory>
         ensures ports { IfOk result (λ v. v.items ≡ owned_by self.now.gateway) }
         ensures unlisted { OnErr result (IsUnowned self.now.gateway) }
@@ -349,7 +351,7 @@ impl Half {
         }
     }
 
-    /// Whether it is up and its table loaded.
+    /// Whether the gateway is up and its table loaded.
     pub(crate) fn synced(&self) -> bool
         ensures { result ≡ synced_at self.now.gateway }
     {
@@ -359,7 +361,7 @@ impl Half {
         }
     }
 
-    /// Its clock's moment, 0 while it is down.
+    /// Returns the time of the gateway's clock in centiseconds, or 0 while it is down.
     pub(crate) fn moment(&self) -> u64
         ensures { result ≡ moment_of self.now.gateway }
     {
@@ -369,7 +371,7 @@ impl Half {
         }
     }
 
-    /// Whether it is up.
+    /// Whether the gateway is up.
     pub(crate) fn up(&self) -> bool
         ensures { result ≡ is_up self.now.gateway }
     {

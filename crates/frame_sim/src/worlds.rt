@@ -1,4 +1,4 @@
-//! The world of a script: two gateways, what happens to them, and the trace of their notes.
+//! The world of a script: two gateways, the events that they take, and the trace of their notes.
 ghost use Rattle.std.specs.Prelude.{◌≡◌, ◌<◌, ◌≤◌, ◌+◌, ◌++◌, ◌∷◌, [], true, length, option_map, vec_len, vec_capacity, IfOk, IsTrue, OnOk, OnErr, if◌then◌else◌};
 ghost use Rattle.bindings.specs.Entries.{is_pair, translates};
 ghost use Rattle.spec_trace.specs.OneBox.{IsOneBox};
@@ -31,8 +31,8 @@ use std::alloc::Global;
 use std::marker::Model;
 use std::slice;
 
-/// Two gateways on one inside and one outside network, all that they sent to each other, and all that
-/// they noted.
+/// Two gateways on one inside and one outside network, all datagrams that they sent to each other, and all notes that
+/// they made.
 #[derive(Drop)]
 pub struct World<'a> {
     alloc: Global,
@@ -63,7 +63,7 @@ impl<'a> Model for World<'a> {
     }) };
 }
 
-/// Tells a note more. It alone has the name for it that there is no room.
+/// Appends a note to the output. NoMemory from this call, and from no other, is named `WasUntold`.
 #[tactic(auto, unfolding(crate::specs::Lacks::WasUntold))]
 fn tell(out: &mut Out, note: &Note) -> Result<(), NoMemory>
     ensures ok { OnOk result (out.new ≡ with_note out.old note.now) }
@@ -79,7 +79,7 @@ fn tell(out: &mut Out, note: &Note) -> Result<(), NoMemory>
     Ok(())
 }
 
-/// Room on the trace for a note more. It alone has the name for it that there is none.
+/// Reserves a place on the trace for one more note. NoMemory from this call, and from no other, is named `WasUntraced`.
 #[tactic(auto, unfolding(crate::specs::Lacks::WasUntraced))]
 fn room_on_trace(trace: &mut Vec<Note>, note: &Note) -> Result<(), NoMemory>
     ensures items { trace.new.items ≡ trace.old.items }
@@ -90,7 +90,7 @@ fn room_on_trace(trace: &mut Vec<Note>, note: &Note) -> Result<(), NoMemory>
     Ok(reserve(trace, 1)?)
 }
 
-/// Notes it on the trace, too.
+/// Appends a note to the trace and to the output; on NoMemory to neither.
 fn note_both(trace: &mut Vec<Note>, out: &mut Out, note: &Note) -> Result<(), NoMemory>
     ensures trace { OnOk result (trace.new.items ≡ trace.old.items ++ note.now ∷ []) }
     ensures out { OnOk result (out.new ≡ with_note out.old note.now) }
@@ -107,7 +107,8 @@ fn note_both(trace: &mut Vec<Note>, out: &mut Out, note: &Note) -> Result<(), No
     Ok(())
 }
 
-/// Room for the steps of events. It alone has the name for it that there is none.
+/// Returns an empty list with the capacity for the steps of these events. NoMemory from this call, and from no other,
+/// is named `WasUnrun`.
 #[tactic(auto, unfolding(crate::specs::Lacks::WasUnrun))]
 fn room_for_steps(alloc: Global, events: &[WorldEvent]) -> Result<Vec<Step>, NoMemory>
     ensures empty { IfOk result (λ steps. steps.items ≡ []) }
@@ -118,8 +119,8 @@ fn room_for_steps(alloc: Global, events: &[WorldEvent]) -> Result<Vec<Step>, NoM
     Ok(with_room(alloc, events.len())?)
 }
 
-/// A gateway that begins, by the fixed hashers: a script's run is the same each time. It alone has the name for it that there
-/// is no memory for one.
+/// Returns a gateway as it begins, with the fixed hash keys, so that a script's run is the same each time. NoMemory
+/// from this call, and from no other, is named `WasUnbegun`.
 #[tactic(auto, unfolding(crate::specs::Lacks::WasUnbegun))]
 fn begin(
     alloc: Global,
@@ -138,7 +139,7 @@ fn begin(
 }
 
 impl<'a> World<'a> {
-    /// Gateway 0 founded with boot 1, and gateway 1 down.
+    /// Returns a world with gateway 0 founded with boot 1, and gateway 1 down.
     pub fn new(alloc: Global, settings: &'a Settings) -> Result<World<'a>, NoMemory>
         ensures founding { IfOk result (λ w. w ≡ founding settings.now) }
         ensures unbegun { OnErr result (WasUnbegun settings.now Zero 1) }
@@ -174,8 +175,7 @@ impl<'a> World<'a> {
         }
     }
 
-    /// Ends it, and gives its memory back. A caller that lets a world go by this call alone proves
-    /// nothing of its parts.
+    /// Ends the world, and frees its memory. A caller that drops a world by this call only proves nothing of its parts.
     pub fn end(self) {
         let World {
             alloc: _,
@@ -188,7 +188,7 @@ impl<'a> World<'a> {
         one.end();
     }
 
-    /// Reminds the prover of what each world keeps; it does nothing when it runs.
+    /// Reminds the prover of what each world keeps. The call does nothing when it runs.
     pub fn recall(&self)
         ensures fits { Fits self.now.trace }
         ensures kept { Kept (Holds self.now) self.now.trace }
@@ -206,24 +206,24 @@ impl<'a> World<'a> {
         self.one.recall();
     }
 
-    /// All notes so far, the oldest first.
+    /// Returns all notes so far, the oldest first.
     pub fn trace(&self) -> &[Note]
         ensures { result.now ≡ self.now.trace }
     {
         self.trace.as_slice()
     }
 
-    /// The pairs of a gateway's table by protocol (icmp first) and port, without proposals given up;
-    /// none while it is down.
+    /// Returns the pairs of a gateway's table by protocol (icmp first) and port, without proposals given up, or none
+    /// while the gateway is down. Answers NoMemory where the list can't grow.
     pub fn table(&self, id: GatewayId) -> Result<Vec<Pair>, NoMemory>
         ensures pairs { IfOk result (λ v. v.items ≡ pairs_of is_pair (gateway_at self.now id)) }
-        // Of one that is down there is none to list, and no memory is taken.
+        // A gateway that is down has no pairs to list, and takes no memory.
         ensures unlisted { OnErr result (IsUnpaired (gateway_at self.now id)) }
     {
         self.half(id).pairs(self.alloc)
     }
 
-    /// The pairs with which a gateway translates, in the same order.
+    /// Returns the pairs with which a gateway translates, in the order of `table`.
     pub fn translating(&self, id: GatewayId) -> Result<Vec<Pair>, NoMemory>
         ensures pairs { IfOk result (λ v. v.items
             ≡ pairs_of translates (gateway_at self.now id)) }
@@ -232,7 +232,7 @@ impl<'a> World<'a> {
         self.half(id).translating(self.alloc)
     }
 
-    /// The ports that a gateway owns, rising; none where it isn't synced.
+    /// Returns the ports that a gateway owns, in rising order, or none where it isn't synced.
     pub fn owned(&self, id: GatewayId) -> Result<Vec<Port>, NoMemory>
         ensures ports { IfOk result (λ v. v.items ≡ owned_by (gateway_at self.now id)) }
         ensures unlisted { OnErr result (IsUnowned (gateway_at self.now id)) }
@@ -254,14 +254,16 @@ impl<'a> World<'a> {
         self.half(id).up()
     }
 
-    /// The datagram of this number, counted from 1, that a gateway can be handed: one that the other sent.
+    /// Returns the datagram of this number, counted from 1, among those that the other gateway sent, or None. `Deliver`
+    /// gives it to this gateway.
     pub fn datagram(&self, id: GatewayId, number: u64) -> Option<&[u8]>
         ensures { option_map (λ b. b.now) result ≡ datagram_for self.now id number }
     {
         self.half(id.other()).datagram(number)
     }
 
-    /// Takes one event. What the gateway sends and notes is appended to `out`.
+    /// Takes one event, and answers its outcome. Appends to `out` what the gateway sends and notes. On an `Err` the
+    /// world and `out` are as before.
     pub fn apply(&mut self, event: &WorldEvent, out: &mut Out) -> Result<Outcome, WorldFault>
         ensures { Answers self.old event.now out.old result out.new self.new }
     {
@@ -280,7 +282,8 @@ impl<'a> World<'a> {
         }
     }
 
-    /// Takes the events in order, and gives a step for each. An `Err` applies none.
+    /// Takes the events in order, and returns a step for each. Answers NoMemory, without taking an event, where there
+    /// is no memory for the list of steps.
     pub fn run(&mut self, events: &[WorldEvent]) -> Result<Vec<Step>, NoMemory>
         ensures fits { Fits self.new.trace }
         ensures kept { Kept (Holds self.new) self.new.trace }
@@ -304,7 +307,7 @@ impl<'a> World<'a> {
         Ok(steps)
     }
 
-    /// What one event gives.
+    /// Takes one event, and returns its step.
     pub fn step(&mut self, event: &WorldEvent) -> Step
         ensures { Gives self.old event.now result self.new }
     {
@@ -313,7 +316,7 @@ impl<'a> World<'a> {
         Step { answer, out }
     }
 
-    /// It alone has the name for what was answered where the world was to take an event.
+    /// Takes one event by `apply`. The answer of this call, and of no other, is named `WasTaken`.
     #[tactic(auto, unfolding(crate::specs::Runs::WasTaken))]
     fn told_to_take(&mut self, event: &WorldEvent, out: &mut Out) -> Result<Outcome, WorldFault>
         ensures answers { Answers self.old event.now out.old result out.new self.new }
@@ -322,7 +325,7 @@ impl<'a> World<'a> {
         self.apply(event, out)
     }
 
-    /// One of the two takes what it is handed.
+    /// Has one of the two gateways take an event in a step.
     fn hand(&mut self, id: GatewayId, event: Event<'_>, out: &mut Out) -> Result<Outcome, NoMemory>
         requires { IsHanded self.old id event }
         ensures takes { IfOk result (λ o. TakesAt self.old id (gateway_at self.old id) event.entry
@@ -343,7 +346,7 @@ impl<'a> World<'a> {
         }
     }
 
-    /// One of the two takes a datagram that the other sent.
+    /// Has one of the two gateways take a datagram that the other sent.
     fn deliver(&mut self, id: GatewayId, number: u64, out: &mut Out) -> Result<Outcome, WorldFault>
         ensures { Answers self.old (events.Deliver id number) out.old result out.new self.new }
     {
@@ -360,7 +363,7 @@ impl<'a> World<'a> {
         }
     }
 
-    /// The operator's word, if it is true.
+    /// Gives one of the two gateways the operator's word, if the word is true.
     fn pass_word(
         &mut self,
         id: GatewayId,

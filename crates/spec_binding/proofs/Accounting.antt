@@ -1,4 +1,4 @@
--- A ledger accounts for the trace, whatever becomes of it.
+-- A ledger that accounts for the trace does so after a row too.
 use Rattle.std.proofs.Common.{◌≡◌, ℕ, ◌+◌, ◌≤◌, Bool, true, false, cond, ◌&&◌, Some, inl, inr, List, [], ◌∷◌, ◌++◌, reverse, refl, sym, ap, ◌∙◌, append_assoc}
 use Rattle.std.proofs.lemmas.Bool.{and_parts, and_from, both_ways}
 use Rattle.std.proofs.lemmas.List.{reverse-append}
@@ -67,7 +67,7 @@ by-protocol Udp use_at now h = h
 pub idle-by : (g : GatewayId) (pair : Pair) (now : ℕ) (notes : List Note) → HaveRested (least_rest pair.key.protocol) now (uses_of g notes pair) → IsIdle g pair now notes
 idle-by g pair now notes rested use_at is = by-protocol pair.key.protocol use_at now (rested use_at (listed g pair use_at notes is))
 
--- ---- by what is kept of a life
+-- ---- what is kept of a life
 
 pub rested-idle : (now : ℕ) (es : List Entry) (ls : List Activity) (k : Key) (uses : List ℕ) → Knows now es ls k uses → rests_at es ls k now ≡ true → HaveRested (least_rest k.protocol) now uses
 rested-idle now es ls k uses a h =
@@ -83,7 +83,7 @@ rested-listed now l h k x is a found among =
     let both : (may_go (is_lone l.book.stage) x.state && is_idle k.protocol w.0 now) ≡ true = sym (listed-is (is_lone l.book.stage) now l.book.entries l.lives k x w.0 is.keys found (slot-key l.book.entries k x found) w.1) ∙ among in
     accounts-idle k.protocol w.0 now (uses_of l.book.id h x.pair) w.2 (and_parts (may_go (is_lone l.book.stage) x.state) (is_idle k.protocol w.0 now) both).1
 
--- an entry that doesn't translate has rested
+-- a pair that doesn't translate has rested since each use
 pub rested-still : (now : ℕ) (l : Ledger) (h : List Note) (x : Entry) → Accounts now l h → slot_of l.book.entries x.pair.key ≡ Some x → translates x.state ≡ false → HaveRested (least_rest x.pair.key.protocol) now (uses_of l.book.id h x.pair)
 rested-still now l h x a found off =
     a.uses.rested x.pair (λ t.
@@ -101,7 +101,7 @@ reversed-join ns ns2 h = ap (λ (z : List Note). z ++ h) (reverse-append ns ns2)
 
 -- ---- a row
 
--- what a row leaves of both
+-- after a row, with its notes, the ledger accounts for the trace
 pub record Stays (now : ℕ) (l : Ledger) (h : List Note) (r : Transition) : Type 0 where
   pub uses : KnowUses now (changed r.change l.book).entries (lives_after now r.change l.book.entries l.lives) (uses_of l.book.id (reverse (noted_by l.book.id now r.what) ++ h))
   pub idle : Idle (reverse (noted_by l.book.id now r.what) ++ h)

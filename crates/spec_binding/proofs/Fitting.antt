@@ -1,4 +1,4 @@
--- What each row changes fits, and what is pushed has a spelling.
+-- The change of each row fits, and each record that is pushed is well-formed.
 use Rattle.std.proofs.Common.{◌≡◌, Bool, true, false, cond, not, ◌&&◌, IsTrue, is_none, Option, Some, None, refl, ap, ◌∙◌}
 use Rattle.std.specs.Prelude.{IfSome}
 use Rattle.std.proofs.lemmas.Bool.{and_parts, not-true}
@@ -30,7 +30,7 @@ use Rattle.spec_binding.specs.Rows.{accept_row, accepted_row, answering, ask_row
 use Rattle.spec_binding.proofs.Moves.{may-give, ranges-port}
 use Rattle.spec_binding.proofs.Wishing.{at-key, chosen-says}
 
--- the change fits, and the answer has a spelling
+-- the change of the row fits, and its answer is well-formed
 pub record IsSound (c : Book) (r : Transition) : Type 0 where
   pub fits : Fits c r.change
   pub answer : IfSome r.answer IsWellFormedRecord

@@ -1,4 +1,4 @@
--- What holds of every book is kept.
+-- A book stays a book after each change, row and reset.
 use Rattle.std.proofs.Common.{◌≡◌, ℕ, zero, suc, ◌+◌, ◌-◌, ◌<◌, ◌≤◌, ◌==◌, Bool, true, false, cond, ◌&&◌, ◌||◌, nat_le, nat_lt, IsTrue, Option, Some, None, inl, inr, List, [], ◌∷◌, ◌++◌, map, refl, sym, ap, subst, ◌∙◌, arith}
 use Rattle.std.specs.List.{filter, AllByRecursion, range_with_len}
 use Rattle.std.proofs.lemmas.Bool.{and_parts, and_from, both_ways, cases_Bool, cond-true, cond-false, eqb-true, false_from_ne_true, le-leb, leb-true, or_cases}
@@ -52,7 +52,7 @@ use Rattle.spec_binding.proofs.Slots.{keys-revived, one-revived, one-set, was-th
 use Rattle.spec_binding.proofs.Taking.{fails, serves-of}
 use Rattle.spec_binding.proofs.Unbroken.{machine_runs, runs-rising}
 
--- ---- records that have a spelling
+-- ---- records that are well-formed
 
 all-first : (xs ys : List Record) → AllByRecursion IsWellFormedRecord (xs ++ ys) → AllByRecursion IsWellFormedRecord xs
 all-first [] ys h = tt
@@ -89,7 +89,7 @@ fed-formed b records rest is comes = all-first records rest (subst (AllByRecursi
 
 -- ---- other entries
 
--- what is asked of each entry
+-- what holds of each entry of a book
 abbrev pub IsPlaced : Book → Key → Entry → Type 0
 IsPlaced c k x = IsTrue (in_ranges c k.port.0) × IsWellFormedPair x.pair
 
@@ -155,7 +155,7 @@ keeps-drop c k is synced =
     (one-set c.entries (without k c.entries) k None is.endpoints (λ q. slot-without k c.entries q) (λ x y q some. absurd (cc)))
     (set-placed c is (without k c.entries) k None (λ q. slot-without k c.entries q) (λ x some. absurd (cc)))
 
--- where the own proposal is given up, its endpoint is new
+-- after a Yield, the peer's pair for the endpoint is the only one that serves it
 keeps-yield : (c : Book) (q : Key) (p : Pair) → IsBook c → is_synced c.stage ≡ true → GivesWay c q p → IsBook (changed (Yield q p) c)
 keeps-yield c q p is synced g =
     let c2 : Book = record c { entries = with_state q state.Doomed c.entries } in
@@ -380,7 +380,7 @@ rises-filter low p (x ∷ xs) r = at (p x) (rises-filter (place_of x.pair) p xs 
 order-revived : (es : List Entry) → AreInOrder es → AreInOrder (revived_entries es)
 order-revived es r = rises-map 0 woken_entry (filter (λ e. is_pair e.state) es) (λ x. refl) (rises-filter 0 (λ e. is_pair e.state) es r)
 
--- with its entries revived, in a synced stage, and this batch to come
+-- a book stays a book where its entries are revived, in a synced stage and with this batch to come
 revived-keeps : (b : Book) (s : Stage) (rs : List Record) → IsBook b → is_synced b.stage ≡ true → is_synced s ≡ true → AllByRecursion IsWellFormedRecord rs → (is_any rs ≡ true → s ≡ Paired) → IsBook (record (revived b) { stage = s; coming = rs })
 revived-keeps b s rs is synced after_it formed paired = record {
   zero = is.zero;
@@ -428,7 +428,7 @@ restart-keeps b is = at (is_synced b.stage) refl
     at true synced = revived-keeps b Paired (restart_batch b) is synced refl (batch-formed b is) (λ w. refl)
     at false unsynced = empty-keeps b.id b.zero b.one b.limit is.zero is.one is.highest.0 is.highest.1
 
--- each entry then is an agreed pair
+-- after a greater boot was heard, each entry is an agreed pair
 pub restart-agrees : (b : Book) → IsBook b → (k : Key) (x : Entry) → slot_of (restarted b).entries k ≡ Some x → (is_settled x.state ≡ true) × (is_pair x.state ≡ true)
 restart-agrees b is k x = at (is_synced b.stage)
   where

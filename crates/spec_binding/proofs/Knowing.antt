@@ -1,4 +1,4 @@
--- What entries with their lives know of the uses of their pairs, as they change.
+-- What entries with their lives know of the uses of their pairs, after each change of both.
 use Rattle.std.proofs.Common.{◌≡◌, ℕ, suc, ◌+◌, ◌≤◌, nat_le, Bool, true, false, cond, ◌&&◌, Option, Some, None, inl, inr, List, [], ◌∷◌, length, map, refl, sym, ap, subst, ◌∙◌, arith}
 use Rattle.std.specs.List.{insert}
 use Rattle.std.specs.Option.{option_map}
@@ -27,7 +27,7 @@ use Rattle.bindings.specs.Revivals.{lives_of_pairs, revived_entries, revived_slo
 use Rattle.bindings.proofs.Offered.{either_slot, restated, slot-without, find-some, length-insert, length-lives_without, life-turned, put-begins, put-keeps, without-keeps, length-put, length-revived, life-revived, slot-revived, slot-key, slot-put, length-turn}
 use Rattle.spec_binding.specs.Uses.{IsTranslated, KnowUses, Knows}
 
--- ---- an order of numbers holds where it can't fail
+-- ---- an order of numbers holds where it can't fail to hold
 
 stable : (a b : ℕ) → ((a ≤ b → ⊥) → ⊥) → a ≤ b
 stable a b h = elim (cases_Bool (nat_le a b)) [
@@ -35,7 +35,7 @@ stable a b h = elim (cases_Bool (nat_le a b)) [
   | inr more ↦ absurd (h (λ le. both_ways (nat_le a b) more (le-leb a b le)))
 ]
 
--- so uses have rested where they have with a fact, and without it
+-- uses have rested, where they have whether a fact holds or not
 rested-by : (rest now : ℕ) (uses : List ℕ) (A : Type 0) → ((A → ⊥) → HaveRested rest now uses) → (A → HaveRested rest now uses) → HaveRested rest now uses
 rested-by rest now uses A without_it with_it use_at among =
     stable (use_at + rest) now (λ bad. bad (without_it (λ a. bad (with_it a use_at among)) use_at among))
@@ -66,7 +66,7 @@ length-with f k (e ∷ es) (l ∷ ls) same = at (has_key k e) (length-with f k e
     at true rest = same
     at false rest = ap suc rest
 
--- another key's life stays
+-- the life of another key stays the same
 life-beside : (f : Activity → Activity) (k : Key) (es : List Entry) (ls : List Activity) (q : Key) → same_key k q ≡ false → life_in es (lives_with f k es ls) q ≡ life_in es ls q
 life-beside f k [] ls q other = refl
 life-beside f k (e ∷ es) [] q other = refl
@@ -78,7 +78,7 @@ life-beside f k (e ∷ es) (l ∷ ls) q other = at (has_key k e) refl (life-besi
         cond-false (has_key q e) (Some (f l)) (life_in es ls q) off ∙ sym (cond-false (has_key q e) (Some l) (life_in es ls q) off)
     at false here rest = ap (cond (has_key q e) (Some l)) rest
 
--- and the key's own is changed
+-- the life of the key itself is changed
 life-here : (f : Activity → Activity) (k : Key) (es : List Entry) (ls : List Activity) (life : Activity) → life_in es ls k ≡ Some life → life_in es (lives_with f k es ls) k ≡ Some (f life)
 life-here f k [] ls life h = cc
 life-here f k (e ∷ es) [] life h = cc
@@ -88,7 +88,7 @@ life-here f k (e ∷ es) (l ∷ ls) life h = at (has_key k e) refl h (life-here 
     at true here is rest = cond-true (has_key k e) (Some (f l)) (life_in es ls k) here ∙ ap (λ (z : Activity). Some (f z)) (let both : Some l ≡ Some life = is in let one : l ≡ life = cc in one)
     at false here is rest = cond-false (has_key k e) (Some l) (life_in es (lives_with f k es ls) k) here ∙ rest is
 
--- ---- what is known stays as the lists change
+-- ---- what is known is still known after the lists change
 
 pub know-later : (since now : ℕ) (es : List Entry) (ls : List Activity) (u : Pair → List ℕ) → since ≤ now → KnowUses since es ls u → KnowUses now es ls u
 know-later since now es ls u le w = record {
@@ -104,7 +104,8 @@ know-as now es ls u v same w = record {
   rested = λ p no_. subst (λ (z : List ℕ). HaveRested (least_rest p.key.protocol) now z) (sym (same p)) (w.rested p no_);
 }
 
--- where each entry then knows of its uses, and what translates no more has rested
+-- entries know of their uses, where each entry does, and each pair that translates no more has
+-- rested
 know-then : (now : ℕ) (es es2 : List Entry) (ls ls2 : List Activity) (u : Pair → List ℕ) → length ls2 ≡ length es2 → ((k : Key) (x : Entry) → slot_of es2 k ≡ Some x → Knows now es2 ls2 k (u x.pair))
     → ((p : Pair) → IsTranslated es p → (IsTranslated es2 p → ⊥) → HaveRested (least_rest p.key.protocol) now (u p)) → KnowUses now es ls u → KnowUses now es2 ls2 u
 know-then now es es2 ls ls2 u alike known lets w = record {
@@ -153,7 +154,7 @@ know-add now es ls u e by_install free w =
       accounts-came e.pair.key.protocol by_install now (u e.pair) (w.rested e.pair (free-untranslated es e.pair free)),
     )
 
--- what stood at the key of an entry before
+-- the entry that the key had before, of the same pair
 pub record WasAt (es : List Entry) (q : Key) (y : Entry) : Type 0 where
   pub entry : Entry
   pub found : slot_of es q ≡ Some entry
@@ -223,7 +224,7 @@ know-drop now es ls u k x keys found lets w =
     ])
     w
 
--- a life begins anew at a pair that has rested
+-- a life may begin anew at a pair that has rested
 pub know-renew : (now : ℕ) (es : List Entry) (ls : List Activity) (u : Pair → List ℕ) (k : Key) (x : Entry) → slot_of es k ≡ Some x → HaveRested (least_rest k.protocol) now (u x.pair)
     → KnowUses now es ls u → KnowUses now es (lives_with (life_renewed now) k es ls) u
 know-renew now es ls u k x found rested w =
@@ -244,7 +245,7 @@ know-renew now es ls u k x found rested w =
         let a = w.known k x found in
         (renewed now a.0, (life_renewed now a.1.0, life-here (life_renewed now) k es ls a.1.0 a.1.1, agrees-renewed k.protocol a.0 a.1.0 now a.1.2), accounts-renewed k.protocol a.0 now (u x.pair) rested)
 
--- each key's life is changed
+-- where each life is changed, the life of each key is
 life-each : (f : Activity → Activity) (es : List Entry) (ls : List Activity) (k : Key) (life : Activity) → life_in es ls k ≡ Some life → life_in es (map f ls) k ≡ Some (f life)
 life-each f [] ls k life h = cc
 life-each f (e ∷ es) [] k life h = cc
@@ -254,7 +255,7 @@ life-each f (e ∷ es) (l ∷ ls) k life h = at (has_key k e) refl h (life-each 
     at true here is rest = cond-true (has_key k e) (Some (f l)) (life_in es (map f ls) k) here ∙ ap (λ (z : Activity). Some (f z)) (let both : Some l ≡ Some life = is in let one : l ≡ life = cc in one)
     at false here is rest = cond-false (has_key k e) (Some (f l)) (life_in es (map f ls) k) here ∙ rest is
 
--- each life begins anew, while its pair may be in use
+-- each life may begin anew, where its pair is taken to be in use
 pub know-anew : (now : ℕ) (es : List Entry) (ls : List Activity) (u : Pair → List ℕ) → KnowUses now es ls u → KnowUses now es (map (life_renewed now) ls) u
 know-anew now es ls u w = record {
   alike = length-map ls (life_renewed now) ∙ w.alike;
@@ -264,7 +265,7 @@ know-anew now es ls u w = record {
   rested = w.rested;
 }
 
--- a pair that translates carries a packet: of the uses v it has one more than of u
+-- a pair that translates carries a packet: `v` has one use of it more than `u`
 pub know-carry : (since : ℕ) (es : List Entry) (ls : List Activity) (u v : Pair → List ℕ) (k : Key) (x : Entry) (p : Packet) → slot_of es k ≡ Some x → translates x.state ≡ true → since ≤ p.at
     → v x.pair ≡ p.at ∷ u x.pair → ((q : Pair) → (q ≡ x.pair → ⊥) → v q ≡ u q) → KnowUses since es ls u → KnowUses p.at es (lives_with (life_carried k.protocol p) k es ls) v
 know-carry since es ls u v k x p found live le more others w = record {
@@ -304,7 +305,7 @@ translating-pair state.Live h = (refl, refl)
 translating-pair state.Closing h = cc
 translating-pair state.Held h = (refl, refl)
 
--- pairs are revived
+-- entries whose pairs are revived know of the same uses
 pub know-revived : (now : ℕ) (es : List Entry) (ls : List Activity) (u : Pair → List ℕ) → HasDistinctKeys es → KnowUses now es ls u → KnowUses now (revived_entries es) (lives_of_pairs es ls) u
 know-revived now es ls u keys w =
     know-then now es (revived_entries es) ls (lives_of_pairs es ls) u (length-revived es ls w.alike)

@@ -129,7 +129,7 @@ taken-mute b rests r h = at (is_synced b.stage) (is_promised b)
     at true false = synced-mute b rests r h
     at false p = refl
 
--- ---- stages, and what is to come
+-- ---- stages, and the records to come
 
 stage-together : (s : Stage) (r : Record) → is_lone s ≡ false → is_lone (stage_after s r) ≡ false
 stage-together s (rec.Install p) h = h
@@ -168,12 +168,12 @@ taken-promised b rests r synced promised =
     cond-true (is_synced b.stage) (after b (row_of b rests r)) (unsynced_after b r) synced
     ∙ ap (after b) (cond-true (is_promised b) quiet (synced_row b rests r) promised)
 
--- ---- the batch stays
+-- ---- the batch is the same
 
 same-batch : (b : Book) → IsSameBatch b b
 same-batch b = record { pairs = refl; owned = refl }
 
--- one that isn't settled is no part of it
+-- an entry that isn't settled is no part of the batch
 put-unsettled : (e : Entry) (es : List Entry) → is_settled e.state ≡ false → pairs_in is_settled (put_in e es) ≡ pairs_in is_settled es
 put-unsettled e [] h = ap (map (λ (x : Entry). x.pair)) (cond-false (is_settled e.state) (e ∷ []) [] h)
 put-unsettled e (x ∷ xs) h = at (nat_lt (place_of e.pair) (place_of x.pair)) (put-unsettled e xs h)
@@ -187,7 +187,7 @@ put-unsettled e (x ∷ xs) h = at (nat_lt (place_of e.pair) (place_of x.pair)) (
     at true ih = ap (map (λ (x : Entry). x.pair)) (cond-false (is_settled e.state) (e ∷ filter (λ e. is_settled e.state) (x ∷ xs)) (filter (λ e. is_settled e.state) (x ∷ xs)) h)
     at false ih = after_first (is_settled x.state) ih
 
--- a settled entry that stays settled is the same part of it
+-- an entry that stays settled is the same part of the batch
 turn-settled : (k : Key) (s : EntryState) (es : List Entry) (x : Entry) → is_settled s ≡ true → HasDistinctKeys es → slot_of es k ≡ Some x → is_settled x.state ≡ true → pairs_in is_settled (with_state k s es) ≡ pairs_in is_settled es
 turn-settled k s [] x new d found old = refl
 turn-settled k s (y ∷ ys) x new d found old = at (has_key k y) refl (λ more. turn-settled k s ys x new d.1 more old)

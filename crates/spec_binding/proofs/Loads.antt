@@ -37,7 +37,7 @@ use Rattle.spec_binding.proofs.Parts.{act-step}
 use Rattle.spec_binding.proofs.Slots.{held-state, slots-at, slots-none, slots-put}
 use Rattle.spec_binding.proofs.Taking.{IsReading, Makes, is-unbound, reads}
 
--- an endpoint that no pair of the table has isn't served
+-- where no pair of the table has the endpoint, no entry serves it
 none-of : (c : Book) (e : Endpoint) → IsBook c → IsUnbound (slots_of c.entries) e → is_none (entry_of c.entries e) ≡ true
 none-of c e is new = at (entry_of c.entries e) refl
   where
@@ -47,7 +47,7 @@ none-of c e is new = at (entry_of c.entries e) refl
         let serving = entry-serves c.entries e x h in
         absurd (new x.pair.key (ap machine.held (slots-at c.entries x.pair.key x (found-slot _ c.entries x is.keys h)) ∙ held-state x.state x.pair.endpoint serving.0 ∙ ap Some serving.1))
 
--- what is put lies in the ranges, and is new
+-- a pair that is put is on a port of the ranges, and new
 pub record IsFresh (l : Load) (p : Pair) : Type 0 where
   pub inside : in_either l.zero l.one p.key.port.0 ≡ true
   pub key : slot_of l.entries p.key ≡ None
@@ -107,7 +107,7 @@ other-test a b = elim (cases_Bool (nat_lt b a)) [
   | inr ge ↦ le-leb a b (ltb-false b a ge) ∙ ap not (sym ge)
 ]
 
--- the two words for a port of a run
+-- both definitions of a port within a run agree
 pub within-run : (first last p : ℕ) → is_within first last p ≡ in_run first last p
 within-run first last p = ap (λ b. b && nat_le p last) (other-test first p) ∙ ap (λ b. not (nat_lt p first) && b) (other-test p last)
 
@@ -174,7 +174,7 @@ module _ (now : ℕ) (c : Book) (e : Link) (h : List Record) (n : ℕ) (letters 
           (and_from (in_ranges c p.key.port.0) (is_none (slot_of c.entries p.key) && is_none (entry_of c.entries p.endpoint)) inside
           (and_from (is_none (slot_of c.entries p.key)) (is_none (entry_of c.entries p.endpoint)) (none-at c.entries p.key free) (none-of c p.endpoint is new)))))
 
-  -- nothing is promised yet
+  -- an unsynced gateway has no batch promised
   no-promise : IsBook c → Stands c e h → promised_of e ≡ None
   no-promise is stands = at c.coming (λ any. both_ways (is_synced c.stage) unsynced (ap is_synced (is.promised any))) stands.coming
     where

@@ -1,4 +1,4 @@
--- What is listed: falling lists, ports that are granted, and those that become owned.
+-- Lists of ports: falling ones, those that are granted, and those that become owned.
 use Rattle.std.proofs.Common.{◌≡◌, ℕ, zero, suc, ◌+◌, ◌-◌, ◌<◌, ◌≤◌, ◌==◌, Bool, true, false, cond, not, ◌&&◌, ◌||◌, is_none, Option, Some, None, inl, inr, List, [], ◌∷◌, map, take, refl, sym, ap, ◌∙◌, arith, IsTrue}
 use Rattle.std.specs.List.{filter}
 use Rattle.std.proofs.lemmas.Bool.{and_parts, both_ways, cases_Bool, eq-eqb, eqb-true, false_from_ne_true, leb-true, ne_eqb, not-true, or_cases}
@@ -25,7 +25,7 @@ use Rattle.spec_binding.specs.Books.{Book, in_ranges, owns}
 use Rattle.spec_binding.specs.Machine.{machine_slot, slots_of}
 use Rattle.spec_binding.specs.Rows.{falling, is_gained, is_theirs, with_gained}
 
--- the machine's word for the same
+-- both definitions of a number in a list agree
 pub has-listed : (p : ℕ) (xs : List ℕ) → has p xs ≡ is_listed p xs
 has-listed p [] = refl
 has-listed p (x ∷ xs) = at (p == x) (x == p) (turned p x) (has-listed p xs)
@@ -85,7 +85,7 @@ distinct-falling h (suc k) le = (first h k le, distinct-falling (h - 1) k (omega
     first h zero le = refl
     first h (suc k) le = falling-below (h - 1) (suc k) h (omega (arith, le))
 
--- numbers as ports, and back
+-- ports made of numbers have these numbers
 pub numbers-back : (ps : List ℕ) → map (λ (p : Port). p.0) (map (λ p. (let q : Port = record { 0 = p } in q)) ps) ≡ ps
 numbers-back [] = refl
 numbers-back (p ∷ ps) = ap (λ z. p ∷ z) (numbers-back ps)
@@ -131,11 +131,11 @@ vacant-is es p h k e =
 
 -- ---- what becomes owned
 
--- it can be got if it isn't owned
+-- whether a port could become owned: it is in the ranges and has no entry
 abbrev pub fit : Book → ℕ → Bool
 fit b p = in_ranges b p && is_vacant b.entries p
 
--- p is the port that is got
+-- a granted port that could become owned is owned afterwards
 now-got : (o g f : Bool) → f ≡ true → (true || (g && f)) ≡ (o || f)
 now-got true g f h = refl
 now-got false g f h = sym h
@@ -152,7 +152,7 @@ got-fit true false v h = absurd (both_ways false refl h)
 got-fit false true v h = h
 got-fit false false v h = absurd (both_ways false refl h)
 
--- only the owned ports change
+-- gaining ports changes only the owned ports
 pub gained-is : (b : Book) (ps : List ℕ) → with_gained b ps ≡ record b { owned = (with_gained b ps).owned }
 gained-is b [] = refl
 gained-is b (p ∷ ps) = at (is_gained b p) (gained-is (record b { owned = own_in p b.owned }) ps) (gained-is b ps)
@@ -210,7 +210,7 @@ as-box false false true true = refl
 as-box false false true false = refl
 as-box false false false v = refl
 
--- those of the granted ports that can be become owned
+-- a port is owned after a Grant where it was owned, or was granted and could become owned
 pub gained-box : (p : ℕ) (b : Book) (gs : List ℕ) → owns (with_gained b gs) p ≡ cond (is_gained b p && is_listed p gs) true (owns b p)
 gained-box p b gs = owns-gained p b gs ∙ as-box (owns b p) (is_listed p gs) (in_ranges b p) (is_vacant b.entries p)
 
@@ -233,7 +233,7 @@ below-highest z o p n hz ho h = elim (or_cases (in_bounds z p) (in_bounds o p) h
   | inr b ↦ (let le = bounds-high o p b in omega (arith, le, ho))
 ]
 
--- a gained port is new among the owned ones, which go on rising
+-- the owned ports with a gained one are still in rising order
 pub rise-gained : (b : Book) (gs : List ℕ) → AreBounds b.zero → AreBounds b.one → AreRising b.owned → AreRising (with_gained b gs).owned
 rise-gained b [] az ao rises = rises
 rise-gained b (g ∷ gs) az ao rises = at (is_gained b g) refl (λ more. rise-gained (record b { owned = own_in g b.owned }) gs az ao more) (rise-gained b gs az ao rises)

@@ -1,4 +1,4 @@
--- Ports that are wanted, granted and gained, as acts of the machine; and any record at a synced gateway.
+-- Wants and Grants, and any record at a synced gateway, as acts of the machine.
 use Rattle.std.proofs.Common.{◌≡◌, ℕ, suc, ◌+◌, ◌-◌, ◌==◌, ◌≤◌, ◌^◌, is_none, Bool, true, false, cond, not, ◌&&◌, Some, None, List, [], ◌∷◌, ◌++◌, length, map, take, refl, sym, ap, subst, ◌∙◌, arith}
 use Rattle.std.specs.List.{filter}
 use Rattle.std.proofs.lemmas.Bool.{and_parts, cond-false, eq-eqb, ne_eqb, or_left, or_right}
@@ -35,7 +35,7 @@ use Rattle.spec_binding.proofs.Taking.{IsReading, Makes, RowSteps, accept-steps,
 
 -- ---- what is granted
 
--- a port of the ranges can be used
+-- each port of the ranges is a port that can be used
 pub ranges-port : (b : Book) (p : ℕ) → IsBook b → in_ranges b p ≡ true → IsPort p
 ranges-port b p is h = (above-none b.zero b.one p is.zero is.one h, below-highest b.zero b.one p (2 ^ 16) is.highest.0.1 is.highest.1.1 h)
 
@@ -92,7 +92,7 @@ module _ (now : ℕ) (c : Book) (e : Link) (h : List Record) (n : ℕ) (letters 
         at true b = refl
         at false b = refl
 
-    -- a Want is taken
+    -- taking a Want is an act of the machine
     want-steps : IsBook c → IsReading c e h n letters machine.Want → RowSteps now c e h n letters words (want_row c)
     want-steps is g =
         let may = may-give c is in
@@ -117,7 +117,7 @@ module _ (now : ℕ) (c : Book) (e : Link) (h : List Record) (n : ℕ) (letters 
         is_none_at : Key → Bool
         is_none_at k = is_none (slot_of c.entries k)
 
-    -- a Grant is taken while a Want is open
+    -- taking a Grant while a Want is open is an act of the machine
     gain-steps : (ports : List ℕ) → c.wants ≡ true → IsReading c e h n letters (machine.Grant ports) → Makes now c e h n letters words (record (with_gained c ports) { wants = false }) None None
     gain-steps ports wants g =
         let a = box_at c e h n in
@@ -143,7 +143,7 @@ module _ (now : ℕ) (c : Book) (e : Link) (h : List Record) (n : ℕ) (letters 
         })
         refl (λ m. refl))
 
-    -- a Grant is taken while none is open
+    -- taking a Grant while no Want is open is an act of the machine
     lose-steps : (ports : List ℕ) → c.wants ≡ false → IsReading c e h n letters (machine.Grant ports) → RowSteps now c e h n letters words quiet
     lose-steps ports wants g =
         act-step (ranges_of c) c.id now (box_at c e h n) (box_at c e (h ++ []) (suc n)) (LosePorts g.letter g.offset ports) letters words []
@@ -178,7 +178,7 @@ module _ (now : ℕ) (c : Book) (e : Link) (h : List Record) (n : ℕ) (letters 
         let ne : (e.promised == 0) ≡ false = ne_eqb e.promised 0 (λ z. let bad : suc (length rs) ≡ 0 = count ∙ z in cc) in
         (e.acknowledged + length e.fed + e.promised - 1, cond-false (e.promised == 0) None (Some (e.acknowledged + length e.fed + e.promised - 1)) ne)
 
-    -- any record at a synced gateway
+    -- taking any record at a synced gateway is an act of the machine
     pub row-steps : IsBook c → Stands c e h → (r : Record) (rests : Bool) → IsReading c e h n letters (machine_record r) → RowSteps now c e h n letters words (row_of c rests r)
     row-steps is stands r rests g = at (is_promised c) refl
       where

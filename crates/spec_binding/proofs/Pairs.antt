@@ -1,4 +1,4 @@
--- The pairs of a table as a list, each once.
+-- The pairs of a table as a list, each pair once.
 use Rattle.std.proofs.Common.{◌≡◌, Bool, true, false, cond, Option, Some, None, ◌⊎◌, inl, inr, List, [], ◌∷◌, ◌++◌, map, reverse, refl, sym, ap, subst, ◌∙◌}
 use Rattle.std.specs.List.{filter}
 use Rattle.std.proofs.lemmas.Bool.{cond-true, cond-false}
@@ -22,14 +22,14 @@ use Rattle.spec_pair.specs.Batch.{AreApart}
 use Rattle.spec_pair.specs.Mapped.{slot_in}
 use Rattle.spec_binding.specs.Machine.{machine_slot, slots_of}
 
--- an entry at a key, in a state that passes
+-- the table has the pair at its key, in a state that passes the test
 pub record IsAt (test : EntryState → Bool) (es : List Entry) (p : Pair) : Type 0 where
   pub entry : Entry
   pub found : slot_of es p.key ≡ Some entry
   pub passes : test entry.state ≡ true
   pub pair : entry.pair ≡ p
 
--- behind an entry of another key
+-- a pair of a table is in the table with another key's entry before it
 behind : (test : EntryState → Bool) (x : Entry) (xs : List Entry) (p : Pair) → slot_of xs x.pair.key ≡ None → IsAt test xs p → IsAt test (x ∷ xs) p
 behind test x xs p free at =
     let found : slot_of xs p.key ≡ Some at.entry = at.found in
@@ -40,7 +40,7 @@ ahead : (test : EntryState → Bool) (x : Entry) (xs : List Entry) (p : Pair) �
 ahead test x xs p passes same =
     record { entry = x; found = cond-true (same_key x.pair.key p.key) (Some x) (slot_of xs p.key) (key-true x.pair.key p.key (ap (λ (q : Pair). q.key) (sym same))); passes = passes; pair = sym same }
 
--- a listed pair is at its key
+-- a listed pair is in the table at its key
 pub listed-at : (test : EntryState → Bool) (es : List Entry) (p : Pair) → HasDistinctKeys es → In p (pairs_in test es) → IsAt test es p
 listed-at test [] p d h = absurd h
 listed-at test (x ∷ xs) p d h = at (test x.state) refl h (λ i. listed-at test xs p d.1 i)
@@ -49,7 +49,7 @@ listed-at test (x ∷ xs) p d h = at (test x.state) refl h (λ i. listed-at test
     at true passes h ih = elim h [ inl same ↦ ahead test x xs p passes same | inr i ↦ behind test x xs p d.0 (ih i) ]
     at false passes h ih = behind test x xs p d.0 (ih h)
 
--- an entry at a key is listed
+-- an entry at a key, in a state that passes the test, is listed
 pub at-listed : (test : EntryState → Bool) (es : List Entry) (k : Key) (x : Entry) → slot_of es k ≡ Some x → test x.state ≡ true → In x.pair (pairs_in test es)
 at-listed test [] k x h passes = cc
 at-listed test (y ∷ ys) k x h passes = at (test y.state) refl (λ found. at-listed test ys k x found passes)
@@ -58,7 +58,7 @@ at-listed test (y ∷ ys) k x h passes = at (test y.state) refl (λ found. at-li
     at true is ih = elim (find-some (has_key k y) y (slot_of ys k) x h) [ inl w ↦ inl (ap (λ (e : Entry). e.pair) (sym w.1)) | inr w ↦ inr (ih w.1) ]
     at false is ih = elim (find-some (has_key k y) y (slot_of ys k) x h) [ inl w ↦ (let bad : test x.state ≡ false = ap (λ (e : Entry). test e.state) (sym w.1) ∙ is in cc) | inr w ↦ ih w.1 ]
 
--- the pairs in states that pass are those at whose keys a word on slots says their endpoint
+-- the pairs in states that pass the test are those whose slots have an endpoint by `word`
 pub those : (test : EntryState → Bool) (word : machine.Slot → Option Endpoint) → ((s : EntryState) (e : Endpoint) → word (slot_in s e) ≡ cond (test s) (Some e) None) → word machine.Free ≡ None
     → (es : List Entry) → HasDistinctKeys es → (p : Pair) → (In p (pairs_in test es) → word (slots_of es p.key) ≡ Some p.endpoint) × (word (slots_of es p.key) ≡ Some p.endpoint → In p (pairs_in test es))
 those test word says none es d p = (there, back (slot_of es p.key) refl)
@@ -94,14 +94,14 @@ back-says state.Live e = refl
 back-says state.Closing e = refl
 back-says state.Held e = refl
 
--- without its first entry a table still serves no endpoint twice
+-- a table without its first entry still serves no endpoint twice
 one-tail : (x : Entry) (xs : List Entry) → slot_of xs x.pair.key ≡ None → IsOneToOne (x ∷ xs) → IsOneToOne xs
 one-tail x xs free one k q y z hy hz py pz same = one k q y z (past k y hy) (past q z hz) py pz same
   where
     past : (k : Key) (y : Entry) → slot_of xs k ≡ Some y → slot_of (x ∷ xs) k ≡ Some y
     past k y h = cond-false (same_key x.pair.key k) (Some x) (slot_of xs k) (key-false x.pair.key k (λ (s : x.pair.key ≡ k). let bad : slot_of xs k ≡ None = ap (slot_of xs) (sym s) ∙ free in cc)) ∙ h
 
--- the pairs have distinct keys and endpoints
+-- the listed pairs have distinct keys and distinct endpoints
 pub apart : (es : List Entry) → HasDistinctKeys es → IsOneToOne es → AreApart (pairs_in is_pair es)
 apart [] d one = tt
 apart (x ∷ xs) d one = at (is_pair x.state) refl (apart xs d.1 (one-tail x xs d.0 one))
@@ -119,7 +119,7 @@ apart (x ∷ xs) d one = at (is_pair x.state) refl (apart xs d.1 (one-tail x xs 
     at true pair ih = (differ pair, ih)
     at false pair ih = ih
 
--- one of a list turned round is one of the list
+-- a value of two lists joined is in one of them
 pub in-append : {A : Type 0} (p : A) (xs ys : List A) → (In p (xs ++ ys) → In p xs ⊎ In p ys) × (In p xs ⊎ In p ys → In p (xs ++ ys))
 in-append p [] ys = (λ h. inr h, λ h. elim h [ inl a ↦ absurd a | inr b ↦ b ])
 in-append p (x ∷ xs) ys =

@@ -1,4 +1,4 @@
--- Parts of a step: of one act or none, one behind the other, and with the datagram at the end.
+-- Parts of a step: of one act or none, one after the other, and with the letter at the end.
 use Rattle.std.proofs.Common.{◌≡◌, ℕ, zero, suc, ◌+◌, ◌-◌, ◌<◌, ◌≤◌, ◌==◌, max, Bool, true, false, cond, Option, Some, None, inl, inr, List, [], ◌∷◌, ◌++◌, length, take, drop, reverse, refl, sym, ap, subst, ◌∙◌, arith}
 use Rattle.std.proofs.lemmas.Bool.{cases_eq, cond-true, cond-false, eq-eqb, eqb-false, ltb-false, ne_eqb}
 use Rattle.std.proofs.lemmas.List.{reverse-append, append-nil, length-append, length-drop}
@@ -25,7 +25,7 @@ use Rattle.spec_binding.specs.declared.setups.Stage.TheVariants.{Paired}
 use Rattle.spec_binding.specs.Machine.{IsSameHouse, Stands, Works, box_at, letter_of, machine_records, promised_of, ranges_of}
 use Rattle.spec_binding.specs.Rows.{answered, pushed_by}
 
--- one act, which the machine allows and after which the boxes tell the same
+-- one act that the machine allows, after which the boxes agree, is a step
 pub act-step : (r : Ranges) (i : GatewayId) (now : ℕ) (a b : Box) (x : Act) (letters : List Letter) (words : List ℕ) (notes : List Note) → MayAct r i a x → ReadsOnly letters words x → AreSame b (box_after r i a x) → reverse notes ≡ act_notes i now x ++ [] → ((m : List Letter) → letters_by a x ++ m ≡ m) → IsStep r i now a b letters words [] (reverse notes) [] []
 act-step r i now a b x letters words notes may only same noted silent = record {
   acts = x ∷ [];
@@ -35,7 +35,7 @@ act-step r i now a b x letters words notes may only same noted silent = record {
   mail_is = sym (silent []);
 }
 
--- what is answered is pushed
+-- a list of pushed records agrees with the end after an answer is pushed
 pub agrees-answer : (h rest : List Record) (e : Link) (o : Option Record) → Agrees h rest e → Agrees (h ++ pushed_by o) rest (answered e o)
 agrees-answer h rest e None a = subst (λ (x : List Record). Agrees x rest e) (sym (append-nil h)) a
 agrees-answer h rest e (Some r) a = pushed_agrees h rest e r a
@@ -68,7 +68,7 @@ works-alike now letters words b e e2 n h stands boot known promised = record {
 pub works-nothing : (now : ℕ) (letters : List Letter) (words : List ℕ) (b : Book) (e : Link) (n : ℕ) (h : List Record) → Stands b e h → Works now letters words b e n b e n [] h
 works-nothing now letters words b e n h stands = works-alike now letters words b e e n h stands refl refl refl
 
--- what is acknowledged leaves what is promised as it is
+-- a datagram that acknowledges records leaves how many may be sent as it is
 acknowledged-promised : (e : Link) (k : ℕ) → k ≤ handed_count e → promised_of (acknowledged_to e k) ≡ promised_of e
 acknowledged-promised e k le = at (e.promised == 0) le
   where
@@ -91,7 +91,7 @@ heard-works now b e e2 n h bytes t d stands is same =
     (ap (λ (x : Link). x.known) is.after ∙ ap (λ (x : Link). x.known) met_is)
     (ap promised_of is.after ∙ ap promised_of met_is ∙ acknowledged-promised e d.delivered session.delivered)
 
--- ---- records of a batch are handed in
+-- ---- records of a batch are fed to the link
 
 promise-goes : (p k a f f2 : ℕ) → k < p → f2 ≡ f + k → (let o : Option ℕ = cond (p - k == 0) None (Some (a + f2 + (p - k) - 1)) in o) ≡ cond (p == 0) None (Some (a + f + p - 1))
 promise-goes p k a f f2 less fed =
@@ -117,7 +117,7 @@ module _ (now : ℕ) (b : Book) (e : Link) (n : ℕ) (h records rest : List Reco
   fed-stands : Stands (record b { coming = rest }) (with_fed e records) h
   fed-stands = fed_agrees h records rest e (subst (λ (x : List Record). Agrees h x e) comes stands)
 
-  -- the machine sees nothing of it
+  -- feeding records that aren't the last is no act of the machine
   unseen : promised_of (with_fed e records) ≡ promised_of e → Works now [] [] b e n (record b { coming = rest }) (with_fed e records) n [] h
   unseen same = record {
     house = record { id = refl; zero = refl; one = refl; limit = refl };
@@ -127,7 +127,7 @@ module _ (now : ℕ) (b : Book) (e : Link) (n : ℕ) (h records rest : List Reco
         (record { up = refl; boot = refl; synced = refl; lone = refl; peer = refl; table = λ k. refl; sent = refl; taken = refl; loading = refl; owned = λ p. refl; wants = refl; named = refl; promised = same });
   }
 
-  -- the last one is handed in
+  -- feeding the last record is the act HandIn
   last-one : (e.promised ≡ 0 → ⊥) → length rest ≡ 0 → Works now [] [] b e n (record b { coming = rest }) (with_fed e records) n [] h
   last-one some none =
       let total = count in
@@ -175,7 +175,7 @@ module _ (now : ℕ) (b : Book) (e : Link) (n : ℕ) (h records rest : List Reco
       less zero k p some total = absurd (some refl)
       less (suc r) k p some total = omega (arith, total)
 
--- ---- one part behind the other
+-- ---- one part after the other
 
 pub works-join : (now : ℕ) (letters : List Letter) (words : List ℕ) (b b2 b3 : Book) (e e2 e3 : Link) (n n2 n3 : ℕ) (ns ns2 : List Note) (h : List Record)
     → (a : Works now letters words b e n b2 e2 n2 ns h) → Works now letters words b2 e2 n2 b3 e3 n3 ns2 a.history → Works now letters words b e n b3 e3 n3 (ns ++ ns2) h
@@ -201,7 +201,7 @@ works-more now letters letters2 words words2 b b2 e e2 n n2 ns h sent said w = r
   step = more_is_handed (ranges_of b) b.id now (box_at b e h n) (box_at b2 e2 w.history n2) letters letters2 words words2 [] (reverse ns) [] [] sent said w.step;
 }
 
--- ---- the datagram at the end
+-- ---- the letter at the end
 
 take-map : (n : ℕ) (rs : List Record) → machine_records (take n rs) ≡ take n (machine_records rs)
 take-map zero rs = refl
@@ -225,7 +225,7 @@ letter-is b e h n before count d is =
     ∙ ap (λ (x : ℕ). made e.boot e.known x (machine_records d.records.items)) first
     ∙ ap (made e.boot e.known before) records
 
--- what was handed in may be sent
+-- records that were pushed or fed may be sent
 may-send : (e : Link) (m upto : ℕ) → upto ≤ handed_count e → promised_of e ≡ Some m → upto ≤ m
 may-send e m upto le is = at (e.promised == 0) refl le is
   where
@@ -250,7 +250,7 @@ sends now b e e2 h n before count d letters words is handed boot known promised 
   mail_is = ap (λ (z : Letter). z ∷ []) (letter-is b e h n before count d is);
 }
 
--- a part of a step, and the datagram behind it
+-- a part of a step, with the letter that is sent after it, is a step
 pub works-sent : (now : ℕ) (letters : List Letter) (words : List ℕ) (b b2 : Book) (e e2 e3 : Link) (n n2 before count : ℕ) (ns : List Note) (h : List Record) (d : Datagram)
     → (w : Works now letters words b e n b2 e2 n2 ns h) → IsLetter w.history e2 before count d → before + count ≤ handed_count e2 → e3.boot ≡ e2.boot → e3.known ≡ e2.known → promised_of e3 ≡ promised_of e2
     → IsStep (ranges_of b) b.id now (box_at b e h n) (box_at b2 e3 w.history n2) letters words [] (reverse ns) [] (letter_of d ∷ [])

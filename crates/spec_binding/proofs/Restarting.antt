@@ -1,4 +1,4 @@
--- A greater boot of the peer, and the operator's word, as acts of the machine.
+-- A greater boot of the peer that is heard, and the operator's word, as acts of the machine.
 use Rattle.std.proofs.Common.{◌≡◌, ℕ, suc, ◌+◌, ◌-◌, ◌<◌, ◌==◌, true, false, Bool, cond, IsTrue, Option, Some, None, inl, List, [], ◌∷◌, ◌++◌, length, drop, map, reverse, refl, sym, ap, subst, ◌∙◌, arith}
 use Rattle.std.proofs.lemmas.Bool.{cond-true, cond-false, eq-eqb, ne_eqb}
 use Rattle.std.proofs.lemmas.List.{reverse-append, append-nil, length-append, length-drop}
@@ -36,7 +36,7 @@ use Rattle.spec_binding.proofs.Parts.{act-step}
 use Rattle.spec_binding.proofs.Slots.{slots-revived}
 use Rattle.spec_binding.proofs.Unbroken.{machine_runs, runs-owned, runs-rising}
 
--- ---- the batch as the machine has it
+-- ---- the batch as the machine's records
 
 owners-map : (rs : List PortBounds) (tail : List Record) → machine_records (owners_of rs ++ tail) ≡ owners (machine_runs rs) (machine_records tail)
 owners-map [] tail = refl
@@ -67,7 +67,7 @@ batch-count b =
     ap suc (owners-count (runs_of b.owned) (puts_of (revived_entries b.entries) ++ rec.Done ∷ [])
     ∙ ap (λ n. length (machine_runs (runs_of b.owned)) + n) (puts-count ps ∙ ap (λ (z : List Pair). length z + 1) (settled-pairs b.entries)))
 
--- ---- the end of the link as the session begins
+-- ---- the end of the link at the beginning of a session
 
 pub record IsBare (e : Link) : Type 0 where
   pub acknowledged : e.acknowledged ≡ 0
@@ -133,7 +133,7 @@ lie-within c is k e h = at (slot_of c.entries k) refl h
 
 -- ---- the acts
 
--- a synced gateway hears a greater boot
+-- a synced gateway that hears a greater boot does the act Hear
 hears : (now : ℕ) (c : Book) (e e1 : Link) (h : List Record) (n : ℕ) (l : Letter) → IsBook c → is_synced c.stage ≡ true → Agrees [] [] e1 → e.boot ≡ e1.boot → e.known < e1.known → l.boot ≡ e1.known
     → IsStep (ranges_of c) c.id now (box_at c e h n) (box_at (begun_anew c) (with_promised e1 (length (restart_batch c))) (restart_batch c) 0) (l ∷ []) [] [] (reverse (retaken c.id now (back_in c.entries))) [] []
 hears now c e e1 h n l is synced bare boot greater from =
@@ -157,7 +157,7 @@ hears now c e e1 h n l is synced bare boot greater from =
     (retaken-back c.id now (back_in c.entries) ∙ sym (append-nil (retakes c.id now (reverse (back_in c.entries)))))
     (λ m. refl)
 
--- one that isn't synced hears one
+-- an unsynced gateway that hears a greater boot does the act HearAnew
 hears-anew : (now : ℕ) (c : Book) (e e1 : Link) (h : List Record) (n : ℕ) (l : Letter) → is_synced c.stage ≡ false → Agrees [] [] e1 → e.boot ≡ e1.boot → e.known < e1.known → l.boot ≡ e1.known
     → IsStep (ranges_of c) c.id now (box_at c e h n) (box_at (empty_book c.id c.zero c.one c.limit) e1 [] 0) (l ∷ []) [] [] [] [] []
 hears-anew now c e e1 h n l unsynced bare boot greater from =
@@ -189,7 +189,7 @@ restart-works now b e e1 n h l is bare boot greater from = at (is_synced b.stage
         }
     at false unsynced = record { house = record { id = refl; zero = refl; one = refl; limit = refl }; history = []; agrees = bare; step = hears-anew now b e e1 h n l unsynced bare boot greater from }
 
--- the operator's word
+-- the operator's word is the act PeerOff
 pub word-works : (now : ℕ) (b : Book) (e e1 : Link) (n number : ℕ) (h : List Record) → IsBook b → is_synced b.stage ≡ true → Agrees [] [] e1 → e.boot ≡ e1.boot → e1.known ≡ number
     → Works now [] (number ∷ []) b e n (put_alone b) e1 0 (retaken b.id now (back_in b.entries)) h
 word-works now b e e1 n number h is synced bare boot known = record {

@@ -1,4 +1,4 @@
--- Whatever becomes of a ledger, it accounts for the trace with what is noted of it.
+-- A ledger that accounts for the trace does so after each call, with the notes of the call.
 use Rattle.std.proofs.Common.{◌≡◌, ℕ, ◌≤◌, Bool, true, false, cond, ◌&&◌, is_some, Option, Some, None, inl, inr, List, [], ◌∷◌, ◌++◌, reverse, refl, sym, ap, subst, ◌∙◌, arith}
 use Rattle.std.specs.List.{AllByRecursion, insert}
 use Rattle.std.proofs.lemmas.Bool.{and_from, and_parts, both_ways, cases_Bool, cond-true, cond-false, false_from_ne_true, or_left, or_right}
@@ -160,7 +160,7 @@ wished-accounts now l h full e is a = at (is_synced l.book.stage) refl
         subst (λ (w : PortRequest). Accounts now (ledger_after now w.row.change l) (reverse (noted_by l.book.id now w.row.what) ++ h)) (sym still) a
 
 module _ (l : Ledger) (h : List Note) (k : Key) (p : Packet) (a : Accounts p.at l h) where
-  -- with what is noted of it
+  -- after a packet, the ledger accounts for the trace with the row's note
   abbrev pub Carried : Transition → Type 0
   Carried r = Accounts p.at (record l { lives = cond (is_some r.what) (lives_with (life_carried k.protocol p) k l.book.entries l.lives) l.lives }) (reverse (noted_by l.book.id p.at r.what) ++ h)
 
@@ -224,7 +224,7 @@ alone-accounts now l h is a = record { uses = know-anew now (revived_entries l.b
 
 -- ---- the idle pairs of a tick
 
--- what stands at a key then stood there before, with the same pair
+-- an entry that a key has after a removal was there before, with the same pair
 dropped-was : (b : Book) (k q : Key) (y : Entry) → slot_of (without k b.entries) q ≡ Some y → WasAt b.entries q y
 dropped-was b k q y there = elim (cases_Bool (same_key k q)) [
   | inl gone ↦ absurd (let bad : None ≡ Some y = sym (slot-without k b.entries q ∙ cond-true (same_key k q) None (slot_of b.entries q) gone) ∙ there in cc)
@@ -249,7 +249,7 @@ idle-was b ask k q y = at (is_synced b.stage) (slot_of b.entries k)
     at true None there = record { entry = y; found = there; pair = refl }
     at true (Some x) there = released-was b (is_lone b.stage) ask x x.state q y there
 
--- a release is no use
+-- a release adds no use
 released-uses : (lone ask : Bool) (x : Pair) (s : EntryState) (g i : GatewayId) (now : ℕ) (h : List Note) (p : Pair) → uses_of g (reverse (noted_by i now (released_row lone ask x s).what) ++ h) p ≡ uses_of g h p
 released-uses lone ask x state.Pending g i now h p = refl
 released-uses lone ask x state.Doomed g i now h p = refl
@@ -268,7 +268,7 @@ idle-uses b ask k g i now h p = at (is_synced b.stage) (slot_of b.entries k)
     at true None = refl
     at true (Some x) = released-uses (is_lone b.stage) ask x.pair x.state g i now h p
 
--- the pairs of these keys have rested
+-- each pair of these keys has rested
 abbrev AllRest : ℕ → List Key → Ledger → List Note → Type 0
 AllRest now keys l h = (k : Key) (x : Entry) → is_among k keys ≡ true → slot_of l.book.entries k ≡ Some x → HaveRested (least_rest k.protocol) now (uses_of l.book.id h x.pair)
 

@@ -1,4 +1,4 @@
--- What a table has at each port after a change, and what it keeps.
+-- What a table has at each port after a change, and what the change keeps.
 use Rattle.std.proofs.Common.{◌≡◌, Bool, true, false, cond, Option, Some, None, inl, inr, List, [], ◌∷◌, map, refl, sym, ap, ◌∙◌}
 use Rattle.std.specs.List.{filter}
 use Rattle.std.proofs.lemmas.Bool.{cond-true, cond-false, cases_Bool}
@@ -22,7 +22,7 @@ over : (b : Bool) (o p : Option Entry) → machine_slot (cond b o p) ≡ cond b 
 over true o p = refl
 over false o p = refl
 
--- from slots to the machine's slots
+-- where one key's entry changes, the machine's table changes at that key alone
 pub slots-set : (es2 es : List Entry) (k : Key) (o : Option Entry) → ((q : Key) → slot_of es2 q ≡ set_at (slot_of es) k o q) → (q : Key) → slots_of es2 q ≡ machine.set_at (slots_of es) k (machine_slot o) q
 slots-set es2 es k o h q = ap machine_slot (h q) ∙ over (same_key k q) o (slot_of es q)
 
@@ -42,7 +42,7 @@ slots-at es k x h = ap machine_slot h
 pub slots-none : (es : List Entry) (k : Key) → slot_of es k ≡ None → slots_of es k ≡ machine.Free
 slots-none es k h = ap machine_slot h
 
--- ---- the slots once the peer begins anew
+-- ---- the slots after the peer begins anew
 
 pub keys-revived : (es : List Entry) → HasDistinctKeys es → HasDistinctKeys (revived_entries es)
 keys-revived es d = keys-map woken_entry (filter (λ e. is_pair e.state) es) (λ x. refl) (keys-filter (λ e. is_pair e.state) es d)
@@ -73,7 +73,7 @@ slots-revived (x ∷ xs) q d = at (is_pair x.state) (same_key x.pair.key q) refl
         ih ∙ ap (λ (o : Option Entry). revived (machine_slot o)) free ∙ sym (gone-slot x.state x.pair.endpoint pair)
     at false false pair here ih = ih
 
--- an entry then was one before, of the same pair
+-- the entry that the key had before, of the same pair
 pub record WasThere (es : List Entry) (q : Key) (y : Entry) : Type 0 where
   pub entry : Entry
   pub found : slot_of es q ≡ Some entry
@@ -102,7 +102,7 @@ was-there (x ∷ xs) q y d h = at (is_pair x.state) (same_key x.pair.key q) refl
 
 -- ---- endpoints
 
--- a state whose pair is held
+-- a slot holds an endpoint exactly where its state is one of a pair
 pub state-held : (s : EntryState) (e x : Endpoint) → machine.held (slot_in s e) ≡ Some x → (is_pair s ≡ true) × (e ≡ x)
 state-held state.Pending e x t = (refl, cc)
 state-held state.Doomed e x t = cc
@@ -117,7 +117,7 @@ held-state state.Live e t = refl
 held-state state.Closing e t = refl
 held-state state.Held e t = refl
 
--- where no other key serves what the entry at a key now serves, no two keys serve one endpoint
+-- where no other key serves the endpoint that a key now serves, no two keys serve one endpoint
 pub one-set : (es es2 : List Entry) (k : Key) (o : Option Entry) → IsOneToOne es → ((q : Key) → slot_of es2 q ≡ set_at (slot_of es) k o q)
     → ((x y : Entry) (q : Key) → o ≡ Some x → is_pair x.state ≡ true → slot_of es q ≡ Some y → is_pair y.state ≡ true → x.pair.endpoint ≡ y.pair.endpoint → k ≡ q) → IsOneToOne es2
 one-set es es2 k o one is new a b x y hx hy px py same =

@@ -39,7 +39,7 @@ use Rattle.spec_binding.proofs.Knowing.{know-add, know-as, know-drop, know-renew
 use Rattle.spec_binding.proofs.Members.{gained-is}
 use Rattle.spec_binding.proofs.Wishing.{at-key, chosen-says}
 
--- the place of a pair is the same, whatever the states
+-- the place of a pair in the table doesn't depend on states
 pub turned-place : (p : Pair) (q : Key) (s : EntryState) (es : List Entry) → place_in p (with_state q s es) ≡ place_in p es
 turned-place p q s [] = refl
 turned-place p q s (x ∷ xs) = at (has_key q x) (turned-place p q s xs)
@@ -59,14 +59,14 @@ module _ (now : ℕ) (l : Ledger) (h : List Note) (is : IsBook l.book) (a : Acco
   released-idle : (p : Pair) → HaveRested (least_rest p.key.protocol) now (uses_of l.book.id h p) → Idle (reverse (noted_by l.book.id now (Some (happens.Released p))) ++ h)
   released-idle p rested = (idle-by l.book.id p now h rested, a.idle)
 
-  -- a pair that rests is let go
+  -- a pair that rests may be removed
   dropped-stays : (x : Entry) → slot_of l.book.entries x.pair.key ≡ Some x → HaveRested (least_rest x.pair.key.protocol) now (uses_of l.book.id h x.pair) → (answer : Option Record) → Stays now l h (row (Drop x.pair.key) answer (Some (happens.Released x.pair)))
   dropped-stays x found rested answer = record {
     uses = noted-released (without x.pair.key l.book.entries) (lives_after now (Drop x.pair.key) l.book.entries l.lives) x.pair (know-drop now l.book.entries l.lives (uses_of l.book.id h) x.pair.key x is.keys found (λ t. rested) a.uses);
     idle = released-idle x.pair rested;
   }
 
-  -- an entry that doesn't translate leaves
+  -- where an entry that doesn't translate is removed, the uses are still known
   gone-uses : (x : Entry) → slot_of l.book.entries x.pair.key ≡ Some x → translates x.state ≡ false → KnowUses now (without x.pair.key l.book.entries) (lives_after now (Drop x.pair.key) l.book.entries l.lives) (uses_of l.book.id h)
   gone-uses x found off = know-drop now l.book.entries l.lives (uses_of l.book.id h) x.pair.key x is.keys found (λ t. absurd (both_ways (translates x.state) off t)) a.uses
 
@@ -115,7 +115,7 @@ module _ (now : ℕ) (l : Ledger) (h : List Note) (is : IsBook l.book) (a : Acco
       }
   stayed-stays x state.Held at found = stays-quiet now l h a
 
-  -- an entry comes
+  -- where an entry is added, the uses are still known
   added-uses : (s : EntryState) (p : Pair) (by_install : Bool) → slot_of l.book.entries p.key ≡ None → KnowUses now (put_in (entry_in s p) l.book.entries) (insert l.lives (place_in p l.book.entries) (life_begun by_install now)) (uses_of l.book.id h)
   added-uses s p by_install free = know-add now l.book.entries l.lives (uses_of l.book.id h) (entry_in s p) by_install free a.uses
 

@@ -37,7 +37,7 @@ use Rattle.spec_binding.specs.Rows.{row, quiet, answering, ending, is_theirs, gi
 use Rattle.spec_binding.proofs.Parts.{act-step}
 use Rattle.spec_binding.proofs.Slots.{slots-at, slots-none, slots-put, slots-turn, slots-drop, state-held}
 
--- what is not found by one test fails it
+-- a value that fails every match of one test, and is found by another, fails the one
 pub fails : {X : Type 0} (p r : X → Bool) (xs : List X) (x : X) → find p xs ≡ None → find r xs ≡ Some x → p x ≡ false
 fails p r [] x none h = cc
 fails p r (y ∷ ys) x none h =
@@ -47,7 +47,7 @@ fails p r (y ∷ ys) x none h =
 pub serves-of : (e : Endpoint) (x : Entry) → is_pair x.state ≡ true → x.pair.endpoint ≡ e → serves e x ≡ true
 serves-of e x pair one = and_from (is_pair x.state) (same_endpoint x.pair.endpoint e) pair (endpoint-true x.pair.endpoint e one)
 
--- an endpoint without a pair is new to the table
+-- an endpoint without a pair is new to the machine's table
 pub is-unbound : (es : List Entry) (e : Endpoint) → entry_of es e ≡ None → IsUnbound (slots_of es) e
 is-unbound es e none q h = at (slot_of es q) refl h
   where
@@ -59,25 +59,25 @@ is-unbound es e none q h = at (slot_of es q) refl h
         let yes : serves e x ≡ true = serves-of e x parts.0 parts.1 in
         cc
 
--- a letter that was handed in has this record next
+-- one of the letters that were given has this record next
 pub record IsReading (c : Book) (e : Link) (h : List Record) (n : ℕ) (letters : List Letter) (q : MachineRecord) : Type 0 where
   pub letter : Letter
   pub offset : ℕ
   pub next : StandsNext (box_at c e h n) letter offset q
   pub inside : In letter letters
 
--- as much may be sent, between the same boots
+-- both ends have the same boots, and as many records may be sent
 pub record Speaks (e e2 : Link) : Type 0 where
   pub boot : e2.boot ≡ e.boot
   pub known : e2.known ≡ e.known
   pub promised : promised_of e2 ≡ promised_of e
 
 module _ (now : ℕ) (c : Book) (e : Link) (h : List Record) (n : ℕ) (letters : List Letter) (words : List ℕ) where
-  -- the way to this book, with this answer and note, is a step of the machine that takes one record
+  -- the change to this book, with this answer and note, is a part of a step that takes one record
   abbrev pub Makes : Book → Option Record → Option NoteKind → Type 0
   Makes c2 o w = IsStep (ranges_of c) c.id now (box_at c e h n) (box_at c2 (answered e o) (h ++ pushed_by o) (suc n)) letters words [] (reverse (noted_by c.id now w)) [] []
 
-  -- the row is one
+  -- the row is a part of a step that takes one record
   abbrev pub RowSteps : Transition → Type 0
   RowSteps r = Makes (after c r) r.answer r.what
 

@@ -1,4 +1,4 @@
--- The unbroken runs of the owned ports, as the machine has them.
+-- The unbroken runs of the owned ports, as the machine's runs.
 use Rattle.std.proofs.Common.{◌≡◌, ℕ, suc, ◌<◌, ◌≤◌, Bool, true, false, cond, not, ◌&&◌, ◌||◌, ◌==◌, nat_lt, IsTrue, inl, inr, List, [], ◌∷◌, map, refl, sym, ap, subst, ◌∙◌, arith}
 use Rattle.std.proofs.lemmas.Bool.{and_parts, eqb-true, eq-eqb, le-ltb, ltb-false, not-true, or_cases, or_left, or_right, cases_eq}
 use Rattle.bindings.specs.declared.entries.PortBounds.{PortBounds}
@@ -10,7 +10,7 @@ use Rattle.spec_binding.proofs.Members.{has-listed}
 abbrev pub machine_run : PortBounds → Run
 machine_run r = record { first = r.lowest.0; last = r.highest.0 }
 
--- the runs of a list
+-- the machine's runs for a list of ranges
 abbrev pub machine_runs : List PortBounds → List Run
 machine_runs rs = map machine_run rs
 
@@ -30,7 +30,7 @@ same-bool true false f g = sym (f refl)
 same-bool false true f g = g refl
 same-bool false false f g = refl
 
--- a run that grows by the next port
+-- a run that grows by the next port has that port more
 grows : (first last p : ℕ) → first ≤ last → in_run first (suc last) p ≡ (in_run first last p || (p == suc last))
 grows first last p le = same-bool _ _ there back
   where
@@ -76,7 +76,7 @@ runs-name p first last (q ∷ qs) le = at (q == suc last) refl (λ f h. runs-nam
     at false gap ih =
         ap (λ (b : Bool). in_run first last p || b) (ih q (omega arith) ∙ ap (λ (b : Bool). b || has p qs) (single q p) ∙ or-cond false (p == q) (has p qs))
 
--- the runs name just the owned ports
+-- the runs name exactly the owned ports
 runs-have : (owned : List ℕ) (p : ℕ) → in_runs p (machine_runs (runs_of owned)) ≡ has p owned
 runs-have [] p = refl
 runs-have (q ∷ qs) p = runs-name p q q qs (omega arith) ∙ ap (λ (b : Bool). b || has p qs) (single q p) ∙ or-cond false (p == q) (has p qs)
@@ -117,7 +117,7 @@ runs-rise ranges low first last (q ∷ qs) less le rise inside more = at (q == s
           (λ p h. more p (rest-in p h)),
     )
 
--- they rise, within the ranges
+-- the runs rise, within the ranges
 runs-rise-all : (ranges : ℕ → Bool) (owned : List ℕ) → RiseAbove 0 owned → ((p : ℕ) → has p owned ≡ true → IsTrue (ranges p)) → AreRising ranges 0 (machine_runs (runs_of owned))
 runs-rise-all ranges [] rise inside = tt
 runs-rise-all ranges (q ∷ qs) rise inside = runs-rise ranges 0 q q qs rise.0 (omega arith) rise.1
@@ -128,7 +128,7 @@ runs-rise-all ranges (q ∷ qs) rise inside = runs-rise ranges 0 q q qs rise.0 (
     put p true h = refl
     put p false h = h
 
--- in the words of a book
+-- the runs name exactly the ports that a book owns
 pub runs-owned : (owned : List ℕ) (p : ℕ) → in_runs p (machine_runs (runs_of owned)) ≡ is_listed p owned
 runs-owned owned p = runs-have owned p ∙ has-listed p owned
 

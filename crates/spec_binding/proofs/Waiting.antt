@@ -28,9 +28,9 @@ use Rattle.spec_binding.proofs.Keeping.{taken-keeps, unserved}
 use Rattle.spec_binding.proofs.Members.{gained-is}
 use Rattle.spec_binding.proofs.Wishing.{at-key}
 
--- ---- by slots
+-- ---- waits by slots
 
--- some key has a proposal of the endpoint's
+-- some key has an own proposal for the endpoint
 record Waits (es : List Entry) (e : Endpoint) : Type 0 where
   key : Key
   entry : Entry
@@ -109,7 +109,7 @@ set-loses es es2 k x o found slots settled = record {
   ];
 }
 
--- another entry comes, which is no proposal
+-- where an entry that is no proposal is added besides, the key's proposal is still the only one lost
 more-loses : (es es1 es2 : List Entry) (k k2 : Key) (x z : Entry) → Loses es es1 k x → slot_of es1 k2 ≡ None → ((q : Key) → slot_of es2 q ≡ set_at (slot_of es1) k2 (Some z) q) → (z.state ≡ state.Pending → ⊥) → Loses es es2 k x
 more-loses es es1 es2 k k2 x z l free slots settled = record {
   found = l.found;
@@ -127,7 +127,7 @@ more-loses es es1 es2 k k2 x z l free slots settled = record {
 
 -- ---- rows
 
--- the row ends just the waits that its change ends
+-- the row ends exactly the waits that its change ends
 record Ends (b : Book) (r : Transition) : Type 0 where
   ended : (e : Endpoint) → r.ended ≡ Some e → Waits b.entries e × (Waits (changed r.change b).entries e → ⊥)
   only : (e : Endpoint) → Waits b.entries e → (Waits (changed r.change b).entries e → ⊥) → r.ended ≡ Some e
@@ -147,7 +147,7 @@ lost-ends b r k x is some pending l = record {
 quiet-ends : (b : Book) → Ends b quiet
 quiet-ends b = kept-ends b quiet refl refl
 
--- the entry at the key was no proposal
+-- where the entry at the key was no proposal, no wait ends
 other-ends : (b : Book) (r : Transition) (k : Key) (x : Entry) → r.ended ≡ None → (x.state ≡ state.Pending → ⊥) → Loses b.entries (changed r.change b).entries k x → Ends b r
 other-ends b r k x none settled l = record {
   ended = λ e h. absurd (let bad : None ≡ Some e = sym none ∙ h in cc);
@@ -218,7 +218,7 @@ module _ (b : Book) (is : IsBook b) where
   ways i state.Closing g = cc
   ways i state.Held g = cc
 
-  -- the own proposal gives way
+  -- where the own proposal gives way, the wait of its endpoint ends
   yielded : (p : Pair) (x : Entry) → slot_of b.entries x.pair.key ≡ Some x → slot_of b.entries p.key ≡ None → Loses b.entries (put_in (entry_in state.Held p) (with_state x.pair.key state.Doomed b.entries)) x.pair.key x
   yielded p x found free =
       more-loses b.entries (with_state x.pair.key state.Doomed b.entries) (put_in (entry_in state.Held p) (with_state x.pair.key state.Doomed b.entries)) x.pair.key p.key x (entry_in state.Held p)
@@ -231,7 +231,7 @@ module _ (b : Book) (is : IsBook b) where
           (false_from_ne_true (same_key x.pair.key p.key) (λ same. let clash : slot_of b.entries p.key ≡ Some x = ap (slot_of b.entries) (sym (key-eq x.pair.key p.key same)) ∙ found in cc))
           ∙ free
 
-  -- a pair comes that the peer proposed
+  -- where the peer's pair is added, no wait ends
   added-ends : (p : Pair) → slot_of b.entries p.key ≡ None → Ends b (row (Add (entry_in state.Held p)) (Some (rec.Accept p.key)) (Some (happens.Retaken p)))
   added-ends p free = record {
     ended = λ e h. absurd (cc);
@@ -312,7 +312,7 @@ module _ (b : Book) (is : IsBook b) where
       at true = quiet-ends b
       at false = synced-ends r rests
 
--- at a synced gateway a record ends the waits of just those endpoints that waited before it and don't after it
+-- at a synced gateway a record ends the waits of exactly those endpoints that waited before it and don't after it
 pub ends-waits : (b : Book) (rests : Bool) (r : Record) (e : Endpoint) → IsBook b → IsWellFormedRecord r → is_synced b.stage ≡ true
     → (taken_ended b rests r ≡ Some e) ↔ ((is_waiting b e ≡ true) × (is_waiting (taken_book b rests r) e ≡ false))
 ends-waits b rests r e is formed synced = (

@@ -81,7 +81,7 @@ module _ (now : ℕ) (c : Book) (e : Link) (h : List Record) (n : ℕ) (letters 
   pub rest-row : WishSteps quiet
   rest-row = record { acts = []; follows = tt; box_is = ap (λ (s : List machine.MachineRecord). record (box_at c e h n) { sent = s }) sent-none; trace_is = refl; mail_is = refl }
 
-  -- a pair on a port that was chosen
+  -- a pair may begin on a port that was chosen for it
   record MayBegin (p : Pair) : Type 0 where
     owned : owns c p.key.port.0 ≡ true
     free : slot_of c.entries p.key ≡ None
@@ -107,7 +107,7 @@ module _ (now : ℕ) (c : Book) (e : Link) (h : List Record) (n : ℕ) (letters 
       refl
       (λ m. refl)
 
-  -- a Want is pushed where none is open
+  -- pushing a Want where none is open is an act of the machine
   want-row : is_synced c.stage ≡ true → is_lone c.stage ≡ false → c.wants ≡ false → WishSteps (row change_of.Want (Some rec.Want) None)
   want-row synced lone none =
       let r : Transition = row change_of.Want (Some rec.Want) None in
@@ -160,7 +160,7 @@ module _ (now : ℕ) (c : Book) (e : Link) (h : List Record) (n : ℕ) (letters 
       at true synced = by-steps synced full x (entry_of c.entries x) refl
       at false unsynced = rest-row
 
-  -- ---- an idle pair, and one that is used
+  -- ---- an idle pair, and a pair that is used
 
   drops : (x : Entry) → is_synced c.stage ≡ true → is_lone c.stage ≡ true → machine.translated (slots_of c.entries x.pair.key) ≡ Some x.pair.endpoint → WishSteps (row (Drop x.pair.key) None (Some (happens.Released x.pair)))
   drops x synced lone there =

@@ -17,7 +17,7 @@ use Rattle.spec_binding.proofs.Moves.{row-steps}
 use Rattle.spec_binding.proofs.Parts.{agrees-answer}
 use Rattle.spec_binding.proofs.Taking.{IsReading, Makes}
 
--- it is the same gateway, and as much of a batch is to come
+-- both books are of the same gateway, with the same records of a batch to come
 pub record Keeps (b b2 : Book) : Type 0 where
   pub house : IsSameHouse b b2
   pub coming : b2.coming ≡ b.coming

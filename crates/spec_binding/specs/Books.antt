@@ -1,4 +1,4 @@
--- What the binding protocol knows of a gateway: its book.
+-- The book: what a gateway knows for the binding protocol.
 use Rattle.std.specs.Prelude.{◌≡◌, ℕ, Bool, true, false, IsTrue, List, [], ◌∷◌, Option, Some, ◌+◌, ◌-◌}
 use Rattle.nat_types.specs.declared.gateways.GatewayId.{GatewayId}
 use Rattle.nat_types.specs.declared.pairs.Key.{Key}
@@ -17,9 +17,10 @@ use Rattle.resync.specs.Loading.{Load}
 use Rattle.spec_binding.specs.declared.setups.Stage.{Stage}
 use Rattle.spec_binding.specs.declared.setups.Stage.TheVariants.{Unsynced, Paired, Lone}
 
--- Who it is, both ranges, the most pairs that one inside address may have, how far it is, whether Begin was taken and not yet Done, the last port that an Owner named,
--- its entries, the ports that it owns (loading: is to own), whether a Want of its is open, and the records of a promised
--- batch that are still to be handed in.
+-- The book of a gateway: who it is, the ranges of both gateways, the most pairs that one inside address may have, its
+-- stage, whether it has taken Begin and not yet Done, the last port that an Owner named, its entries, the ports that it
+-- owns (while it loads, the ports that it is to own), whether it has a Want open, and the records of a promised batch
+-- that aren't fed to the link yet.
 pub record Book : Type 0 where
   pub id : GatewayId
   pub zero : PortBounds
@@ -33,32 +34,36 @@ pub record Book : Type 0 where
   pub wants : Bool
   pub coming : List Record
 
+-- whether a gateway in this stage is synced
 abbrev pub is_synced : Stage → Bool
 is_synced Unsynced = false
 is_synced Paired = true
 is_synced Lone = true
 
+-- whether a gateway in this stage is lone
 abbrev pub is_lone : Stage → Bool
 is_lone Unsynced = false
 is_lone Paired = false
 is_lone Lone = true
 
--- a batch is promised, and not handed in whole yet
+-- whether a list of records has any
 abbrev pub is_any : List Record → Bool
 is_any [] = false
 is_any (r ∷ rs) = true
 
+-- whether a batch is promised, and records of it are still to be fed to the link
 abbrev pub is_promised : Book → Bool
 is_promised b = is_any b.coming
 
--- the port lies in one of the two ranges
+-- whether the port is in one of the two ranges
 abbrev pub in_ranges : Book → ℕ → Bool
 in_ranges b port = in_either b.zero b.one port
 
+-- whether the gateway owns the port
 abbrev pub owns : Book → ℕ → Bool
 owns b port = is_listed port b.owned
 
--- a gateway without a table, whose peer may be known
+-- the book of a gateway without a table
 abbrev pub empty_book : GatewayId → PortBounds → PortBounds → Option ℕ → Book
 empty_book id zero one limit = record {
   id = id;
@@ -74,18 +79,19 @@ empty_book id zero one limit = record {
   coming = [];
 }
 
--- the ports of a range, rising
+-- the ports of a range, in rising order
 abbrev pub ports_of : PortBounds → List ℕ
 ports_of range = range_with_len range.lowest.0 (range.highest.0 + 1 - range.lowest.0)
 
--- gateway 0 as it is founded: alone, with range zero
+-- the book of gateway 0 as it is founded: lone, with the ports of range zero
 abbrev pub founded_book : PortBounds → PortBounds → Option ℕ → Book
 founded_book zero one limit = record (empty_book Zero zero one limit) { stage = Lone; owned = ports_of zero }
 
--- the table that is loaded
+-- the table that is being loaded, as a part of the book
 abbrev pub load_of : Book → Load
 load_of b = record { zero = b.zero; one = b.one; begun = b.begun; named = b.named; entries = b.entries; owned = b.owned }
 
+-- the book with another table that is being loaded
 abbrev pub with_load : Book → Load → Book
 with_load b l = record b { begun = l.begun; named = l.named; entries = l.entries; owned = l.owned }
 
@@ -102,11 +108,11 @@ pub record IsBook (b : Book) : Type 0 where
   pub coming : AllByRecursion IsWellFormedRecord b.coming
   pub rising : AreRising b.owned
   pub owned : (port : ℕ) → owns b port ≡ true → IsTrue (in_ranges b port)
-  -- synced, it doesn't load; and without Begin it has nothing
+  -- a synced gateway isn't loading; an unsynced one that has not taken Begin has nothing
   pub loaded : is_synced b.stage ≡ true → b.begun ≡ false
   pub bare : is_synced b.stage ≡ false → b.begun ≡ false → (b.entries ≡ []) × (b.owned ≡ [])
   -- only a synced gateway that isn't lone has a Want open, or a batch promised
   pub closed : b.wants ≡ true → b.stage ≡ Paired
   pub promised : is_promised b ≡ true → b.stage ≡ Paired
-  -- unsynced before Begin, no port is named
+  -- at an unsynced gateway that has not taken Begin, no port is named
   pub unnamed : is_synced b.stage ≡ false → b.begun ≡ false → b.named ≡ 0

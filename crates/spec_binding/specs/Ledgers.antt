@@ -1,4 +1,5 @@
--- A book with what its pairs carried, and what each call makes of both.
+-- The ledger: a book with the life of each of its pairs, and what each call makes of both. The life of a pair is what
+-- the pair carried since its entry began.
 use Rattle.std.specs.Prelude.{ℕ, ◌-◌, Bool, true, false, not, is_some, nat_le, ◌&&◌, ◌||◌, List, [], ◌∷◌, ◌++◌, map, Option, Some, None, if◌then◌else◌}
 use Rattle.std.specs.List.{insert}
 use Rattle.nat_types.specs.declared.pairs.EntryState.{EntryState}
@@ -22,13 +23,14 @@ use Rattle.spec_binding.specs.Books.{Book, is_synced, load_of}
 use Rattle.spec_binding.specs.Resets.{restarted, put_alone}
 use Rattle.spec_binding.specs.Rows.{answered, carry_row, changed, idle_row, is_full, noted_by, row_of, taken_book}
 
--- the entries of the book, and the life of each, in the same order; and by what their table hashes, which nothing changes
+-- The ledger of a gateway: its book, the life of each entry, in the order of the entries, and the values by which their
+-- table hashes, which nothing changes.
 pub record Ledger : Type 0 where
   pub book : Book
   pub lives : List Activity
   pub hashers : Hashers
 
--- the peer's pair comes by Install
+-- whether an entry in this state is the peer's pair
 abbrev pub is_held : EntryState → Bool
 is_held Pending = false
 is_held Doomed = false
@@ -36,7 +38,8 @@ is_held Live = false
 is_held Closing = false
 is_held Held = true
 
--- the lives after a change: that of a new entry begins, a No begins one anew, one that is dropped goes
+-- the lives after a change: a new entry gets a new life, a No (Renew) begins one anew, and a removed entry's life goes
+-- with it
 abbrev pub lives_after : ℕ → Change → List Entry → List Activity → List Activity
 lives_after now Keep es ls = ls
 lives_after now (Add e) es ls = insert ls (place_in e.pair es) (life_begun (is_held e.state) now)
@@ -48,64 +51,66 @@ lives_after now Want es ls = ls
 lives_after now (Give g) es ls = ls
 lives_after now (Gain g) es ls = ls
 
+-- the ledger after a change at time `now`
 abbrev pub ledger_after : ℕ → Change → Ledger → Ledger
 ledger_after now c l = record l { book = changed c l.book; lives = lives_after now c l.book.entries l.lives }
 
--- the pair of an Ask is idle, or came by Install and carried nothing since
+-- whether the pair of an Ask is idle, or came by Install and carried nothing since
 abbrev pub rests_for : ℕ → Ledger → Record → Bool
 rests_for now l (Ask k) = rests_at l.book.entries l.lives k now || is_unused_at l.book.entries l.lives k
 rests_for now l r = false
 
--- the lives of a table that is loaded: a record out of place changes nothing
+-- the lives after a record at a gateway that loads: a record out of place changes nothing
 abbrev pub lives_loaded : ℕ → Record → List Entry → List Activity → Option Load → List Activity
 lives_loaded now r es ls None = ls
 lives_loaded now r es ls (Some l) = lives_taken now r es ls
 
--- a record is taken
+-- the lives after a record is taken
 abbrev pub taken_lives : ℕ → Ledger → Record → List Activity
 taken_lives now l r =
     if is_synced l.book.stage
     then lives_after now (row_of l.book (rests_for now l r) r).change l.book.entries l.lives
     else lives_loaded now r l.book.entries l.lives (loaded (load_of l.book) r)
 
+-- the ledger after a record is taken at time `now`
 abbrev pub taken_ledger : ℕ → Ledger → Record → Ledger
 taken_ledger now l r = record l { book = taken_book l.book (rests_for now l r) r; lives = taken_lives now l r }
 
--- the pair of a key carries a packet, where it translates
+-- the ledger after the pair of a key carries a packet, where that pair translates
 abbrev pub carried_ledger : Key → Packet → Ledger → Ledger
 carried_ledger k p l = record l {
   lives = if is_some (carry_row l.book k).what then lives_with (life_carried k.protocol p) k l.book.entries l.lives else l.lives;
 }
 
--- a greater boot of the peer is heard
+-- the ledger after a greater boot of the peer is heard
 abbrev pub restarted_ledger : Ledger → Ledger
 restarted_ledger l = record l {
   book = restarted l.book;
   lives = if is_synced l.book.stage then lives_of_pairs l.book.entries l.lives else [];
 }
 
--- the operator says that the peer is off: the life of each pair begins anew
+-- the ledger after the operator says that the peer is off: the life of each pair begins anew
 abbrev pub alone_ledger : ℕ → Ledger → Ledger
 alone_ledger now l = record l { book = put_alone l.book; lives = map (life_renewed now) (lives_of_pairs l.book.entries l.lives) }
 
 -- ---- the idle pairs of a tick
 
--- the peer was heard at most 300 centiseconds ago
+-- whether the peer was heard at most 300 centiseconds before `now`
 abbrev pub is_heard : Option ℕ → ℕ → Bool
 is_heard None now = false
 is_heard (Some last) now = nat_le (now - last) 300
 
--- an idle pair's end may be asked for: the peer was heard lately, and the link isn't full
+-- whether an idle pair's end may be asked for: the peer was heard lately, and the link isn't full
 abbrev pub may_ask : ℕ → Link → Bool
 may_ask now e = is_heard e.heard now && not (is_full e)
 
--- a ledger, its end of the link, and what was noted
+-- the result of letting idle pairs go: a ledger, its end of the link, and the notes made
 pub record LetGo : Type 0 where
   pub ledger : Ledger
   pub link : Link
   pub notes : List Note
 
--- idle pairs are let go one after another, each by what the ones before left
+-- the idle pairs of these keys are let go one after another, each after the ones before
 abbrev pub let_go : ℕ → List Key → Ledger → Link → LetGo
 let_go now [] l e = record { ledger = l; link = e; notes = [] }
 let_go now (k ∷ ks) l e =

@@ -1,4 +1,5 @@
--- A book and its end of the link as the pair machine sees them.
+-- A book and its end of the link, as the pair machine sees them. An end of the link is the state (`Link`) that a
+-- gateway keeps for it.
 use Rattle.std.specs.Prelude.{◌≡◌, ℕ, ◌+◌, ◌-◌, ◌==◌, true, List, [], length, cond, map, reverse, Option, Some, None}
 use Rattle.nat_types.specs.declared.pairs.Key.{Key}
 use Rattle.nat_types.specs.declared.notes.Note.{Note}
@@ -15,25 +16,26 @@ use Rattle.spec_pair.specs.Ownership.{Ranges, moving}
 use Rattle.spec_pair.specs.Step.{IsStep}
 use Rattle.spec_binding.specs.Books.{Book, is_synced, is_lone, in_ranges, owns}
 
--- the slot of an entry
+-- the machine's slot for an entry, or for none
 abbrev pub machine_slot : Option Entry → machine.Slot
 machine_slot None = machine.Free
 machine_slot (Some entry) = slot_in entry.state entry.pair.endpoint
 
--- what a table has at each outside port
+-- the machine's table: the slot at each outside port
 abbrev pub slots_of : List Entry → Key → machine.Slot
 slots_of entries key = machine_slot (slot_of entries key)
 
--- the records of the link
+-- the machine's records for records of the link
 abbrev pub machine_records : List Record → List machine.MachineRecord
 machine_records h = map machine_record h
 
--- while a batch is promised, all of it but Done may be sent
+-- how many records may be sent while a batch is promised, which is all of the batch but Done; None where none is
+-- promised
 abbrev pub promised_of : Link → Option ℕ
 promised_of e = cond (e.promised == 0) None (Some (e.acknowledged + length e.fed + e.promised - 1))
 
--- A book beside its end of the link, where h is what was pushed or promised in the session and so many of the peer's
--- records are taken. The count stands apart, since the link counts the records of a datagram at once.
+-- The box of a book and its end of the link, where `h` has the records pushed or promised in the session, and `n` of
+-- the peer's records are taken. The number is given apart because the link counts all records of a datagram at once.
 abbrev pub box_at : Book → Link → List Record → ℕ → Box
 box_at b e h n = record {
   up = true;
@@ -51,34 +53,36 @@ box_at b e h n = record {
   promised = promised_of e;
 }
 
--- the ranges as the machine has them: gateway 0 is founded with range zero, and ports move
+-- the machine's ranges: gateway 0 is founded with range zero, and ports move
 abbrev pub ranges_of : Book → Ranges
 ranges_of b = moving (in_ranges b) (in_bounds b.zero)
 
--- h is the list of all records pushed or promised in this session, of which those are to come that the book says
+-- `h` has all records pushed or promised in this session, the last of which are those that the book has still to feed
 abbrev pub Stands : Book → Link → List Record → Type 0
 Stands b e h = Agrees h b.coming e
 
--- a datagram as the machine has it
+-- the machine's letter for a datagram
 abbrev pub letter_of : Datagram → Letter
 letter_of d = record { boot = d.boot; to = d.receiver_boot; first = d.first - 1; records = machine_records d.records.items }
 
--- The record stands in the letter at this offset, and is the one behind so many that are taken: of the known peer to this boot.
+-- A record comes in its turn: the letter, of the known peer to this boot, has the record at this offset, and it is the
+-- first that isn't among the `n` taken.
 pub record IsTurn (e : Link) (n : ℕ) (l : Letter) (offset : ℕ) (r : Record) : Type 0 where
   pub boot : l.boot ≡ e.known
   pub to : l.to ≡ e.boot
   pub number : l.first + offset ≡ n
   pub stands : nth l.records offset ≡ Some (machine_record r)
 
--- both are of one gateway, in one founding
+-- both books are of one gateway of one founding
 pub record IsSameHouse (b b2 : Book) : Type 0 where
   pub id : b2.id ≡ b.id
   pub zero : b2.zero ≡ b.zero
   pub one : b2.one ≡ b.one
   pub limit : b2.limit ≡ b.limit
 
--- From h, what was pushed before, a part of a step leads the book and its end of the link, of which so many records are
--- taken, there: a list of pushed records that agrees then, and acts of the machine with these notes.
+-- A part of a step, from book `b` and end `e`, where `h` was pushed and `n` records of the peer are taken, to book
+-- `b2`, end `e2` and `n2`. There is a list of records with which `e2` agrees, and acts of the machine that make exactly
+-- these notes lead from the one box to the other.
 pub record Works (now : ℕ) (letters : List Letter) (words : List ℕ) (b : Book) (e : Link) (n : ℕ) (b2 : Book) (e2 : Link) (n2 : ℕ) (notes : List Note) (h : List Record) : Type 0 where
   pub house : IsSameHouse b b2
   pub history : List Record

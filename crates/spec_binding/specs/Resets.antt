@@ -1,4 +1,4 @@
--- What a greater boot of the peer, and the operator's word that it is off, make of a book.
+-- What a greater boot of the peer, and the operator's word that the peer is off, make of a book.
 use Rattle.std.specs.Prelude.{ℕ, false, List, [], length, map, if◌then◌else◌}
 use Rattle.nat_types.specs.declared.gateways.GatewayId.{GatewayId}
 use Rattle.nat_types.specs.declared.notes.NoteKind.TheVariants.{Retaken}
@@ -13,40 +13,42 @@ use Rattle.resync.specs.Batch.{batch_of}
 use Rattle.spec_binding.specs.declared.setups.Stage.TheVariants.{Paired, Lone}
 use Rattle.spec_binding.specs.Books.{Book, is_synced, empty_book}
 
--- the pairs that translate again then
+-- the pairs that translate again after a reset
 abbrev pub back_in : List Entry → List Pair
 back_in es = pairs_in comes_back es
 
--- their notes
+-- the notes Retaken of these pairs, at time `now`
 abbrev pub retaken : GatewayId → ℕ → List Pair → List Note
 retaken i now ps = map (λ p. record { by = i; at = now; what = Retaken p }) ps
 
--- what was proposed or asked to be closed translates, proposals given up are no more, and a Want is closed
+-- the book after a reset: pairs that were proposed or asked to be closed translate, proposals given up are removed, and
+-- no Want is open
 abbrev pub revived : Book → Book
 revived b = record b { entries = revived_entries b.entries; wants = false; coming = [] }
 
--- the batch of a synced gateway then
+-- the batch that a synced gateway has for a greater boot of the peer
 abbrev pub restart_batch : Book → List Record
 restart_batch b = batch_of b.owned (revived_entries b.entries)
 
--- a synced gateway then isn't alone, and its batch is promised
+-- the book of a synced gateway after it heard a greater boot: it isn't lone, and its batch is promised
 abbrev pub begun_anew : Book → Book
 begun_anew b = record (revived b) { stage = Paired; coming = restart_batch b }
 
--- once a greater boot of the peer is heard
+-- the book after a greater boot of the peer was heard
 abbrev pub restarted : Book → Book
 restarted b =
     if is_synced b.stage
     then begun_anew b
     else empty_book b.id b.zero b.one b.limit
 
+-- the notes made when a greater boot of the peer is heard
 abbrev pub restart_notes : Book → ℕ → List Note
 restart_notes b now = (if is_synced b.stage then retaken b.id now (back_in b.entries) else [])
 
--- the batch is promised
+-- the end of the link after a greater boot of the peer was heard: a synced gateway's batch is promised
 abbrev pub restart_link : Book → Link → Link
 restart_link b e = (if is_synced b.stage then with_promised e (length (restart_batch b)) else e)
 
--- once the operator says that the peer is off
+-- the book after the operator said that the peer is off
 abbrev pub put_alone : Book → Book
 put_alone b = record (revived b) { stage = Lone }

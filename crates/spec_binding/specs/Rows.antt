@@ -1,4 +1,5 @@
--- The record table: what a record, or a wish of the own side, makes of a book, what is answered and what is noted.
+-- The record table: what a record, a wish of the own side, an idle pair or a packet makes of a book, what is answered
+-- and what is noted. A row is the decision on one of these (`Transition`).
 use Rattle.std.specs.Prelude.{ℕ, ◌+◌, ◌-◌, ◌/◌, zero, suc, min, Bool, true, false, ◌&&◌, not, is_none, nat_le, nat_lt, Option, Some, None, List, [], ◌∷◌, length, take, map, if◌then◌else◌}
 use Rattle.std.specs.List.{filter}
 use Rattle.addresses.specs.declared.internet.Ip.{Ip}
@@ -38,29 +39,29 @@ use Rattle.spec_binding.specs.declared.changes.Want.{Want}
 use Rattle.spec_binding.specs.declared.changes.PortRequest.{PortRequest}
 use Rattle.spec_binding.specs.Books.{Book, is_synced, is_lone, is_promised, in_ranges, owns, load_of, with_load}
 
--- a change that is answered and noted, and by which no wait ends
+-- a row with this change, answer and note, by which no endpoint's wait ends
 abbrev pub row : Change → Option Record → Option NoteKind → Transition
 row change answer what = record { change = change; answer = answer; what = what; ended = None }
 
--- one by which the packets of an endpoint needn't wait any more
+-- the row, by which the packets of the endpoint needn't wait any more
 abbrev pub ending : Endpoint → Transition → Transition
 ending e r = record r { ended = Some e }
 
--- nothing changes
+-- the row that changes, answers and notes nothing
 abbrev pub quiet : Transition
 quiet = row Keep None None
 
--- nothing changes, and this is answered
+-- the row that changes nothing and answers this record
 abbrev pub answering : Record → Transition
 answering answer = row Keep (Some answer) None
 
 -- ---- Install, Accept, Refuse
 
--- the port is the sender's, or nobody's: it lies in the ranges and isn't owned here
+-- whether the port is the sender's, or nobody's: it is in the ranges, and this gateway doesn't own it
 abbrev pub is_theirs : Book → ℕ → Bool
 is_theirs b port = in_ranges b port && not (owns b port)
 
--- the own proposal gives way to the peer's for the same endpoint
+-- whether an own proposal gives way to the peer's for the same endpoint: gateway 1's does
 abbrev pub gives_way : GatewayId → EntryState → Bool
 gives_way i Pending = same i One
 gives_way i Doomed = false
@@ -68,6 +69,7 @@ gives_way i Live = false
 gives_way i Closing = false
 gives_way i Held = false
 
+-- the row of an Install on a free port of the peer's, by the own entry of its endpoint
 abbrev pub proposed_row : Book → Pair → Option Entry → Transition
 proposed_row b p None = row (Add (entry_in Held p)) (Some (Accept p.key)) (Some (Retaken p))
 proposed_row b p (Some x) =
@@ -75,12 +77,14 @@ proposed_row b p (Some x) =
     then ending p.endpoint (row (Yield x.pair.key p) (Some (Accept p.key)) (Some (Retaken p)))
     else answering (Refuse p.key)
 
+-- the row of an Install
 abbrev pub install_row : Book → Pair → Transition
 install_row b p =
     if is_theirs b p.key.port.0 && is_none (slot_of b.entries p.key)
     then proposed_row b p (entry_of b.entries p.endpoint)
     else answering (Refuse p.key)
 
+-- the row of an Accept, by the state of the entry at its key
 abbrev pub accepted_row : Pair → EntryState → Transition
 accepted_row p Pending = ending p.endpoint (row (Turn p.key Live) None (Some (Retaken p)))
 accepted_row p Doomed = quiet
@@ -88,10 +92,12 @@ accepted_row p Live = quiet
 accepted_row p Closing = quiet
 accepted_row p Held = quiet
 
+-- the row of an Accept, by the entry at its key
 abbrev pub accept_row : Option Entry → Transition
 accept_row None = quiet
 accept_row (Some x) = accepted_row x.pair x.state
 
+-- the row of a Refuse, by the state of the entry at its key
 abbrev pub refused_row : Pair → EntryState → Transition
 refused_row p Pending = ending p.endpoint (row (Drop p.key) None None)
 refused_row p Doomed = row (Drop p.key) None None
@@ -99,13 +105,15 @@ refused_row p Live = quiet
 refused_row p Closing = quiet
 refused_row p Held = quiet
 
+-- the row of a Refuse, by the entry at its key
 abbrev pub refuse_row : Option Entry → Transition
 refuse_row None = quiet
 refuse_row (Some x) = refused_row x.pair x.state
 
 -- ---- Ask, Yes, No
 
--- rests says that the pair is idle, or came by Install and was never used here since
+-- the row of an Ask, by the state of the entry at its key; `rests` says that the pair is idle, or came by Install and
+-- was never used here since
 abbrev pub asked_row : Pair → Bool → EntryState → Transition
 asked_row p rests Pending = answering (Yes p.key)
 asked_row p rests Doomed = answering (Yes p.key)
@@ -116,10 +124,12 @@ asked_row p rests Held =
     then row (Drop p.key) (Some (Yes p.key)) (Some (Released p))
     else answering (No p.key)
 
+-- the row of an Ask, by the entry at its key; an Ask for a pair that isn't there is answered by Yes
 abbrev pub ask_row : Key → Bool → Option Entry → Transition
 ask_row k rests None = answering (Yes k)
 ask_row k rests (Some x) = asked_row x.pair rests x.state
 
+-- the row of a Yes, by the state of the entry at its key
 abbrev pub left_row : Pair → EntryState → Transition
 left_row p Pending = quiet
 left_row p Doomed = quiet
@@ -127,10 +137,12 @@ left_row p Live = quiet
 left_row p Closing = row (Drop p.key) None None
 left_row p Held = quiet
 
+-- the row of a Yes, by the entry at its key
 abbrev pub yes_row : Option Entry → Transition
 yes_row None = quiet
 yes_row (Some x) = left_row x.pair x.state
 
+-- the row of a No, by the state of the entry at its key
 abbrev pub stayed_row : Pair → EntryState → Transition
 stayed_row p Pending = quiet
 stayed_row p Doomed = quiet
@@ -138,48 +150,53 @@ stayed_row p Live = quiet
 stayed_row p Closing = row (Renew p.key) None (Some (Retaken p))
 stayed_row p Held = quiet
 
+-- the row of a No, by the entry at its key
 abbrev pub no_row : Option Entry → Transition
 no_row None = quiet
 no_row (Some x) = stayed_row x.pair x.state
 
 -- ---- Want, Grant
 
--- so many ports from the highest down
+-- `count` ports from the highest down
 abbrev pub falling : ℕ → ℕ → List ℕ
 falling highest zero = []
 falling highest (suc count) = highest ∷ falling (highest - 1) count
 
--- all ports from the highest of both ranges to the lowest
+-- all ports from the highest of both ranges down to the lowest
 abbrev pub ports_down : Book → List ℕ
 ports_down b = falling (highest_of b.zero b.one) (highest_of b.zero b.one + 1 - lowest_of b.zero b.one)
 
--- the spare ports, in falling order
+-- the spare ports, owned and without an entry, in falling order
 abbrev pub spares : Book → List ℕ
 spares b = filter (is_spare b.entries b.owned) (ports_down b)
 
--- so many are granted of so many spare ports: at most 16, and at most half of them
+-- how many ports are granted of `f` spare ports: at most 16, and at most half of them
 abbrev pub share : ℕ → ℕ
 share f = min 16 (f / 2)
 
--- the greatest of them, in falling order
+-- the ports that are granted: the greatest spare ones, in falling order
 abbrev pub granted : Book → List ℕ
 granted b = take (share (length (spares b))) (spares b)
 
+-- port numbers as the ports of a Grant
 abbrev pub as_ports : List ℕ → Granted
 as_ports ports = record { ports = map (λ p. record { 0 = p }) ports }
 
+-- the port numbers of a Grant
 abbrev pub numbers_of : Granted → List ℕ
 numbers_of g = map (λ p. p.0) g.ports
 
+-- the row of a Want
 abbrev pub want_row : Book → Transition
 want_row b = row (Give (as_ports (granted b))) (Some (Grant (as_ports (granted b)))) None
 
--- one that comes without a Want open changes nothing
+-- the row of a Grant; a Grant that comes without a Want open changes nothing
 abbrev pub grant_row : Book → Granted → Transition
 grant_row b g = (if b.wants then row (Gain g) None None else quiet)
 
 -- ---- the row of a record at a synced gateway
 
+-- the row of a record at a synced gateway that has no batch promised
 abbrev pub synced_row : Book → Bool → Record → Transition
 synced_row b rests (Install p) = install_row b p
 synced_row b rests (Accept k) = accept_row (slot_of b.entries k)
@@ -194,15 +211,17 @@ synced_row b rests record_of.Want = want_row b
 synced_row b rests (Grant g) = grant_row b g
 synced_row b rests (Owner first last) = quiet
 
--- while its batch is promised, a record changes nothing
+-- the row of a record at a synced gateway; while its batch is promised, a record changes nothing
 abbrev pub row_of : Book → Bool → Record → Transition
 row_of b rests r = (if is_promised b then quiet else synced_row b rests r)
 
 -- ---- wishes of the own side
 
+-- an answer to a packet, with its row
 abbrev pub wish : Want → Transition → PortRequest
 wish answer row = record { answer = answer; row = row }
 
+-- the wish of a packet whose endpoint has an entry, by its state
 abbrev pub known_wish : Pair → EntryState → PortRequest
 known_wish p Pending = wish want.TheVariants.Wait quiet
 known_wish p Doomed = wish want.TheVariants.NotNow quiet
@@ -210,20 +229,23 @@ known_wish p Live = wish (want.TheVariants.Port p.key.port) quiet
 known_wish p Closing = wish want.TheVariants.NotNow quiet
 known_wish p Held = wish (want.TheVariants.Port p.key.port) quiet
 
+-- the pair of an endpoint on this outside port
 abbrev pub new_pair : Endpoint → Port → Pair
 new_pair e port = record { key = record { protocol = e.protocol; port = port }; endpoint = e }
 
--- where no port is free: ports are asked for, where the gateway isn't lone, no Want is open and the link isn't full
+-- whether ports are asked for where no port is free: the gateway isn't lone, no Want is open and the link isn't full
 abbrev pub may_want : Book → Bool → Bool
 may_want b full = not (is_lone b.stage) && (not b.wants && not full)
 
+-- the row where no port is free
 abbrev pub none_row : Book → Bool → Transition
 none_row b full = (if may_want b full then row change_of.Want (Some record_of.Want) None else quiet)
 
--- the pair is proposed to the peer
+-- the row that proposes the pair to the peer
 abbrev pub proposal : Pair → Transition
 proposal p = row (Add (entry_in Pending p)) (Some (Install p)) None
 
+-- the wish of a packet whose endpoint has no pair, with the port that is free for it, or none
 abbrev pub new_wish : Book → Bool → Endpoint → Option Port → PortRequest
 new_wish b full e None = wish want.TheVariants.NoPort (none_row b full)
 new_wish b full e (Some port) =
@@ -233,31 +255,32 @@ new_wish b full e (Some port) =
     then wish want.TheVariants.NotNow quiet
     else wish want.TheVariants.Wait (proposal (new_pair e port)))
 
--- the port that an endpoint without a pair is given
+-- the port that an endpoint without a pair gets, if one is free
 abbrev pub port_for : Book → Endpoint → Option Port
 port_for b e = chosen_port b.entries b.owned b.zero b.one e.protocol (parity_of e.port.0)
 
--- so many pairs are the limit, or more
+-- whether a number of pairs is the limit or more
 abbrev pub reached : Option ℕ → ℕ → Bool
 reached None pairs = false
 reached (Some limit) pairs = nat_le limit pairs
 
--- an inside address has as many pairs as it may have, or more: those of both gateways count
+-- whether an inside address has as many pairs as it may have, or more; the pairs of both gateways count
 abbrev pub is_at_limit : Book → Ip → Bool
 is_at_limit b address = reached b.limit (pairs_of address b.entries)
 
--- the endpoint has no pair: one is made, where its address isn't at the limit
+-- the wish of a packet whose endpoint has no pair: a pair is made, where its address isn't at the limit
 abbrev pub unknown_wish : Book → Bool → Endpoint → PortRequest
 unknown_wish b full e =
     if is_at_limit b e.address
     then wish want.TheVariants.HostLimit quiet
     else new_wish b full e (port_for b e)
 
+-- the wish of a packet at a synced gateway, by the entry of its endpoint
 abbrev pub wish_by : Book → Bool → Endpoint → Option Entry → PortRequest
 wish_by b full e (Some x) = known_wish x.pair x.state
 wish_by b full e None = unknown_wish b full e
 
--- what comes of a packet's wish for a port; full says that the link is
+-- the answer to a packet of an endpoint that wishes for a port, and its row; `full` says that the link is full
 abbrev pub wish_of : Book → Bool → Endpoint → PortRequest
 wish_of b full e =
     if is_synced b.stage
@@ -266,11 +289,11 @@ wish_of b full e =
 
 -- ---- an idle pair, at a tick
 
--- the peer is asked whether the pair may be deleted
+-- the row that asks the peer whether the pair may be deleted
 abbrev pub asking : Pair → Transition
 asking p = row (Turn p.key Closing) (Some (Ask p.key)) (Some (Released p))
 
--- alone it is dropped; else its owner asks, where asking is in place
+-- the row of an idle pair: a lone gateway drops it, and else its owner asks the peer, where `ask` says that it may
 abbrev pub released_row : Bool → Bool → Pair → EntryState → Transition
 released_row lone ask p Pending = quiet
 released_row lone ask p Doomed = quiet
@@ -281,15 +304,18 @@ released_row lone ask p Live =
 released_row lone ask p Closing = quiet
 released_row lone ask p Held = (if lone then row (Drop p.key) None (Some (Released p)) else quiet)
 
+-- the row of an idle pair, by the entry at its key
 abbrev pub release_row : Bool → Bool → Option Entry → Transition
 release_row lone ask None = quiet
 release_row lone ask (Some x) = released_row lone ask x.pair x.state
 
+-- the row of the idle pair at a key
 abbrev pub idle_row : Book → Bool → Key → Transition
 idle_row b ask k = (if is_synced b.stage then release_row (is_lone b.stage) ask (slot_of b.entries k) else quiet)
 
 -- ---- a packet that is translated
 
+-- the row of a packet that is translated, by the state of its pair's entry
 abbrev pub used_row : Pair → EntryState → Transition
 used_row p Pending = quiet
 used_row p Doomed = quiet
@@ -297,27 +323,31 @@ used_row p Live = row Keep None (Some (Used p))
 used_row p Closing = quiet
 used_row p Held = row Keep None (Some (Used p))
 
+-- the row of a packet that is translated, by the entry of its pair
 abbrev pub use_row : Option Entry → Transition
 use_row None = quiet
 use_row (Some x) = used_row x.pair x.state
 
+-- the row of a packet that is translated with the pair of a key
 abbrev pub carry_row : Book → Key → Transition
 carry_row b k = (if is_synced b.stage then use_row (slot_of b.entries k) else quiet)
 
 -- ---- what a row does
 
--- the ports but these
+-- the owned ports without these
 abbrev pub without_ports : List ℕ → List ℕ → List ℕ
 without_ports ports owned = filter (λ p. not (is_listed p ports)) owned
 
--- a granted port that becomes owned: it lies in the ranges, isn't owned, and has no entry
+-- whether a granted port becomes owned: it is in the ranges, isn't owned, and has no entry
 abbrev pub is_gained : Book → ℕ → Bool
 is_gained b port = is_theirs b port && is_vacant b.entries port
 
+-- the book after these ports were granted to its gateway
 abbrev pub with_gained : Book → List ℕ → Book
 with_gained b [] = b
 with_gained b (p ∷ ps) = with_gained (if is_gained b p then record b { owned = own_in p b.owned } else b) ps
 
+-- the book after a change
 abbrev pub changed : Change → Book → Book
 changed Keep b = b
 changed (Add e) b = record b { entries = put_in e b.entries }
@@ -329,59 +359,70 @@ changed change_of.Want b = record b { wants = true }
 changed (Give g) b = record b { owned = without_ports (numbers_of g) b.owned }
 changed (Gain g) b = record (with_gained b (numbers_of g)) { wants = false }
 
+-- the book after a row
 abbrev pub after : Book → Transition → Book
 after b r = changed r.change b
 
--- fewer than 65 places are free: nothing is proposed, nothing is asked and no ports are wanted
+-- whether the link is full: it has fewer than 65 free places, so no pair is proposed, no pair's end is asked for and no
+-- ports are wanted
 abbrev pub is_full : Link → Bool
 is_full e = nat_lt (free_places e) 65
 
--- the records that are pushed
+-- the records that an answer pushes: one or none
 abbrev pub pushed_by : Option Record → List Record
 pushed_by None = []
 pushed_by (Some r) = r ∷ []
 
+-- the end of the link after an answer, or none, was pushed
 abbrev pub answered : Link → Option Record → Link
 answered e None = e
 answered e (Some r) = with_pushed e r
 
--- the notes
+-- the notes that a row makes at time `now`: one or none
 abbrev pub noted_by : GatewayId → ℕ → Option NoteKind → List Note
 noted_by i now None = []
 noted_by i now (Some what) = (record { by = i; at = now; what = what }) ∷ []
 
 -- ---- a record at a gateway that isn't synced
 
--- with Done it is synced, and the peer has to agree to new pairs
+-- the stage after a record that loads: by Done the gateway is synced, and the peer has to agree to new pairs
 abbrev pub stage_after : Stage → Record → Stage
 stage_after s Done = Paired
 stage_after s r = s
 
+-- the book after a record was taken into the table that is loaded, or was out of place
 abbrev pub load_taken : Book → Record → Option Load → Book
 load_taken b r None = b
 load_taken b r (Some l) = record (with_load b l) { stage = stage_after b.stage r }
 
+-- the book of an unsynced gateway after a record; a record out of place changes nothing
 abbrev pub unsynced_after : Book → Record → Book
 unsynced_after b r = load_taken b r (loaded (load_of b) r)
 
+-- the note of a record that was taken into the table that is loaded, if any
 abbrev pub load_what : Record → Option Load → Option NoteKind
 load_what (Put p) (Some l) = Some (Retaken p)
 load_what Done (Some l) = Some Synced
 load_what r l = None
 
+-- the note that an unsynced gateway makes at a record, if any
 abbrev pub unsynced_what : Book → Record → Option NoteKind
 unsynced_what b r = load_what r (loaded (load_of b) r)
 
 -- ---- a record, wherever it comes
 
+-- the book after a record is taken, at any gateway
 abbrev pub taken_book : Book → Bool → Record → Book
 taken_book b rests r = (if is_synced b.stage then after b (row_of b rests r) else unsynced_after b r)
 
+-- the record that is pushed in answer, if any
 abbrev pub taken_answer : Book → Bool → Record → Option Record
 taken_answer b rests r = (if is_synced b.stage then (row_of b rests r).answer else None)
 
+-- the note that is made, if any
 abbrev pub taken_what : Book → Bool → Record → Option NoteKind
 taken_what b rests r = (if is_synced b.stage then (row_of b rests r).what else unsynced_what b r)
 
+-- the endpoint whose packets needn't wait any more, if any
 abbrev pub taken_ended : Book → Bool → Record → Option Endpoint
 taken_ended b rests r = (if is_synced b.stage then (row_of b rests r).ended else None)

@@ -1,4 +1,4 @@
--- The uses that notes show of a pair, and what a ledger knows of them.
+-- The uses of a pair that notes show, and what a ledger knows of them.
 use Rattle.std.specs.Prelude.{◌≡◌, ℕ, ◌&&◌, cond, true, false, Some, List, [], ◌∷◌, length}
 use Rattle.nat_types.specs.declared.gateways.GatewayId.{GatewayId}
 use Rattle.nat_types.specs.declared.pairs.Key.{Key}
@@ -17,7 +17,7 @@ use Rattle.spec_trace.specs.Past.{Idle}
 use Rattle.spec_binding.specs.Books.{is_synced}
 use Rattle.spec_binding.specs.Ledgers.{Ledger}
 
--- the moments at which a gateway used a pair in its present life, after one more note
+-- the times at which gateway `g` used the pair in its present life, after one more note
 abbrev pub uses_after : GatewayId → Pair → GatewayId → ℕ → NoteKind → List ℕ → List ℕ
 uses_after g pair by at (Used noted) uses = cond (same g by && same_pair pair noted) (at ∷ uses) uses
 uses_after g pair by at (Released noted) uses = uses
@@ -26,31 +26,31 @@ uses_after g pair by at Synced uses = uses
 uses_after g pair by at Crashed uses = uses
 uses_after g pair by at (Booted number) uses = cond (same g by) [] uses
 
--- the same, the newest note first
+-- the times at which gateway `g` used the pair in its present life; the newest note is first
 abbrev pub uses_of : GatewayId → List Note → Pair → List ℕ
 uses_of g [] pair = []
 uses_of g (note ∷ notes) pair = uses_after g pair note.by note.at note.what (uses_of g notes pair)
 
--- a key's entry has a past that accounts for these uses
+-- a key's entry has a past that accounts for these uses, given by their times
 abbrev pub Knows : ℕ → List Entry → List Activity → Key → List ℕ → Type 0
 Knows now es ls key uses = (past : History) × HasPast es ls key past × AccountsFor key.protocol now past uses
 
--- the pair stands in the table, and translates
+-- the table has the pair, and translates with it
 pub record IsTranslated (es : List Entry) (p : Pair) : Type 0 where
   pub entry : Entry
   pub found : slot_of es p.key ≡ Some entry
   pub pair : entry.pair ≡ p
   pub translates : translates entry.state ≡ true
 
--- Entries with their lives account for uses: each entry has a past that does so for its pair, and the uses of each pair
--- that doesn't translate have rested.
+-- Entries with their lives account for uses: each entry has a past that accounts for the uses of its pair, and a pair
+-- that doesn't translate has rested since each of its uses.
 pub record KnowUses (now : ℕ) (es : List Entry) (ls : List Activity) (uses : Pair → List ℕ) : Type 0 where
   pub alike : length ls ≡ length es
   pub known : (key : Key) (x : Entry) → slot_of es key ≡ Some x → Knows now es ls key (uses x.pair)
   pub rested : (p : Pair) → (IsTranslated es p → ⊥) → HaveRested (least_rest p.key.protocol) now (uses p)
 
--- A ledger accounts for a trace, the newest note first: its entries do so for the uses that the notes show in the
--- gateway's present life, of which there are none before it is synced; and each release so far came where its pair was
+-- A ledger accounts for a trace, the newest note first: its entries account for the uses that the notes show in the
+-- gateway's present life, an unsynced gateway has used nothing in it, and each release so far came where its pair was
 -- idle.
 pub record Accounts (now : ℕ) (l : Ledger) (notes : List Note) : Type 0 where
   pub uses : KnowUses now l.book.entries l.lives (uses_of l.book.id notes)

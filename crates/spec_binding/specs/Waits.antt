@@ -7,7 +7,7 @@ use Rattle.bindings.specs.declared.entries.Entry.{Entry}
 use Rattle.bindings.specs.Entries.{entry_of}
 use Rattle.spec_binding.specs.Books.{Book}
 
--- an own proposal that the peer hasn't answered
+-- whether an entry in this state is an own proposal that the peer hasn't answered
 abbrev pub is_pending : EntryState → Bool
 is_pending Pending = true
 is_pending Doomed = false
@@ -15,10 +15,11 @@ is_pending Live = false
 is_pending Closing = false
 is_pending Held = false
 
+-- whether the entry, if any, is an own proposal that the peer hasn't answered
 abbrev pub waits_by : Option Entry → Bool
 waits_by None = false
 waits_by (Some x) = is_pending x.state
 
--- the endpoint's pair is proposed, and the peer hasn't answered yet
+-- whether the endpoint's pair is proposed and not answered yet, so that its packets wait
 abbrev pub is_waiting : Book → Endpoint → Bool
 is_waiting b e = waits_by (entry_of b.entries e)

@@ -1,4 +1,4 @@
--- What a change needs of the book that it changes.
+-- What a change requires of the book that it changes.
 use Rattle.std.specs.Prelude.{◌≡◌, ℕ, ◌<◌, ◌≤◌, ◌^◌, true, IsTrue, None, Some, length}
 use Rattle.nat_types.specs.Granted.{Granted, IsPort}
 use Rattle.nat_types.specs.declared.pairs.Endpoint.{Endpoint}
@@ -35,7 +35,8 @@ pub record HasPair (b : Book) (k : Key) : Type 0 where
   pub found : slot_of b.entries k ≡ Some entry
   pub pair : is_pair entry.state ≡ true
 
--- the entry of the one key is the endpoint's, and the other key is free and on a port of the ranges
+-- the entry at key `q` is a pair of the endpoint of `p`, and the key of `p` is free and on a port
+-- of the ranges
 pub record GivesWay (b : Book) (q : Key) (p : Pair) : Type 0 where
   pub entry : Entry
   pub found : slot_of b.entries q ≡ Some entry
@@ -45,14 +46,15 @@ pub record GivesWay (b : Book) (q : Key) (p : Pair) : Type 0 where
   pub within : IsTrue (in_ranges b p.key.port.0)
   pub formed : IsWellFormedPair p
 
--- at most 16 ports, each once, owned and without an entry
+-- at most 16 ports are granted, each once, owned and without an entry
 pub record MayGive (b : Book) (g : Granted) : Type 0 where
   pub most : length g.ports ≤ 16
   pub distinct : AreDistinct (numbers_of g)
   pub spare : (port : ℕ) → is_listed port (numbers_of g) ≡ true → is_spare b.entries b.owned port ≡ true
   pub formed : IsWellFormedGrant g
 
--- who the gateway is, how far it is, and what of a batch is still to come is left
+-- the identity, the ranges, the limit, the stage, what was loaded and what of a batch is to come
+-- are the same
 pub record IsBeside (b b2 : Book) : Type 0 where
   pub id : b2.id ≡ b.id
   pub zero : b2.zero ≡ b.zero
@@ -63,12 +65,12 @@ pub record IsBeside (b b2 : Book) : Type 0 where
   pub named : b2.named ≡ b.named
   pub coming : b2.coming ≡ b.coming
 
--- a batch of the one is a batch of the other
+-- both books have the same settled pairs and owned ports, so their batches are the same
 pub record IsSameBatch (b b2 : Book) : Type 0 where
   pub pairs : pairs_in is_settled b2.entries ≡ pairs_in is_settled b.entries
   pub owned : b2.owned ≡ b.owned
 
--- the change can be made, and what holds of every synced book holds of the changed one
+-- the change can be made to the book, and a synced book stays a book by it
 abbrev pub Fits : Book → Change → Type 0
 Fits b Keep = Unit {0}
 Fits b (Add e) = IsNewPair b e.pair

@@ -1,58 +1,63 @@
-//! What comes of a record, a wish or an idle pair.
+//! The result of a record, a wish or an idle pair.
 
 use addresses::Port;
 use bindings::Entry;
 use nat_types::{Endpoint, EntryState, Granted, Key, NoteKind, Pair, Record};
 
-/// What changes in the table, or in what the gateway asked for.
+/// A change of the table, or of what the gateway asked for.
 #[derive(Clone, Copy, Debug, PartialEq, Eq)]
 pub enum Change {
-    /// Nothing.
+    /// Nothing changes.
     Keep,
-    /// One more entry.
+    /// The table gets one more entry.
     Add(Entry),
-    /// The key's entry comes into another state.
+    /// The key's entry gets another state.
     Turn(Key, EntryState),
-    /// The key's entry is Live, and what it carried is forgotten.
+    /// The key's entry becomes Live, and what it carried is forgotten.
     Renew(Key),
-    /// The key's entry leaves.
+    /// The key's entry is removed.
     Drop(Key),
-    /// The own proposal at this key is given up for the peer's pair, which is Held.
+    /// The own proposal at this key is given up, and the peer's pair is added as Held.
     Yield(Key, Pair),
-    /// A Want of the gateway's is open.
+    /// The gateway has a Want open from now on.
     Want,
-    /// These ports are granted: they aren't owned any more.
+    /// The gateway grants these ports to the peer, and doesn't own them any more.
     Give(Granted),
-    /// These ports were granted: those that can be become owned, and the Want is closed.
+    /// The peer granted these ports. Those that are in the ranges, aren't owned and have no entry
+    /// become owned, and the Want is closed.
     Gain(Granted),
 }
 
-/// What comes of it: the change, the record that is pushed, what is noted, and the endpoint whose
-/// packets needn't wait for an answer any more.
+/// The result of a record, a wish or an idle pair.
 #[derive(Clone, Copy, Debug, PartialEq, Eq)]
 pub struct Transition {
+    /// The change of the table, or of what the gateway asked for.
     pub change: Change,
+    /// The record that is pushed to the peer, if any.
     pub answer: Option<Record>,
+    /// The note that is made, if any.
     pub what: Option<NoteKind>,
+    /// The endpoint whose packets needn't wait for the peer's answer any more, if any.
     pub ended: Option<Endpoint>,
 }
 
-/// What a packet of an endpoint has to do.
+/// The answer to a packet that wishes for an outside port.
 #[derive(Clone, Copy, Debug, PartialEq, Eq)]
 pub enum Want {
-    /// It is translated by this port.
+    /// The packet is translated by this port.
     Port(Port),
-    /// It waits for the peer's answer.
+    /// The packet waits for the peer's answer.
     Wait,
-    /// No port is free.
+    /// No port is free for the packet.
     NoPort,
-    /// Its inside address has as many pairs as one may have.
+    /// The packet's inside address has as many pairs as one address may have.
     HostLimit,
-    /// It can't wait: the link is full, or the pair is being closed, or the gateway isn't synced.
+    /// The packet can't wait: the link is full, or the pair is being closed, or the gateway isn't
+    /// synced.
     NotNow,
 }
 
-/// The answer to a packet, and what comes of its wish.
+/// The answer to a packet, and the result of its wish for a port.
 #[derive(Clone, Copy, Debug, PartialEq, Eq)]
 pub struct PortRequest {
     pub answer: Want,

@@ -1,5 +1,4 @@
-//! What holds of each row of the record table, and of what resets a book. Each law is the contract of
-//! a function that does nothing.
+//! The laws of the record table, and of what resets a book. Each law is the contract of a function that does nothing.
 
 ghost use Rattle.std.specs.Prelude.{◌≡◌, ◌↔◌, ℕ, ◌+◌, ◌<◌, ◌≤◌, ◌∷◌, ◌++◌, ◌&&◌, [], suc, List, Bool, true, false};
 ghost use Rattle.std.specs.Prelude.{IfSome, None, Option, Some, length, reverse, slice_get};
@@ -45,7 +44,7 @@ ghost use Rattle.spec_binding.specs.Ledgers.{Ledger, alone_ledger, carried_ledge
 ghost use Rattle.spec_binding.specs.Ledgers.{let_go, restarted_ledger, rests_for, taken_ledger};
 ghost use Rattle.spec_binding.specs.Uses.{Accounts, uses_of};
 
-/// What each row changes fits the book that it is decided on.
+/// The change of each row fits the book for which the row is decided.
 pub fn rows_fit()
     ensures taken { (b : Book) (rests : Bool) (r : Record) → IsBook b → IsWellFormedRecord r
         → Fits b (row_of b rests r).change }
@@ -56,7 +55,8 @@ pub fn rows_fit()
     ensures carried { (b : Book) (k : Key) → IsBook b → Fits b (carry_row b k).change }
 {}
 
-/// What is pushed has a spelling.
+/// Each record that is pushed, promised or fed to the link is well-formed, where the record that came and the packet's
+/// endpoint are.
 pub fn answers_fit()
     ensures taken { (b : Book) (rests : Bool) (r : Record) → IsBook b → IsWellFormedRecord r
         → IfSome (taken_answer b rests r) IsWellFormedRecord }
@@ -82,7 +82,7 @@ pub fn rows_leave()
         → is_lone (taken_book b rests r).stage ≡ false }
     ensures coming { (b : Book) (rests : Bool) (r : Record)
         → (taken_book b rests r).coming ≡ b.coming }
-    // While a batch is promised, a record changes nothing, and nothing else changes the batch.
+    // While a batch is promised, a record changes nothing, and nothing else changes what the batch has.
     ensures promised { (b : Book) (rests : Bool) (r : Record) → is_synced b.stage ≡ true
         → is_promised b ≡ true → taken_book b rests r ≡ b }
     ensures wished { (b : Book) (full : Bool) (e : Endpoint) → is_lone b.stage ≡ false
@@ -90,12 +90,12 @@ pub fn rows_leave()
     ensures idle { (b : Book) (ask : Bool) (k : Key) → IsBook b → is_lone b.stage ≡ false
         → IsSameBatch b (after b (idle_row b ask k)) }
     ensures carried { (b : Book) (k : Key) → IsSameBatch b (after b (carry_row b k)) }
-    // So much room a batch needs on the link.
+    // The most places of the link that a batch needs.
     ensures room { (b : Book)
         → length (restart_batch b) ≤ length b.owned + length b.entries + 2 }
 {}
 
-/// What holds of every book is kept by each change that fits, at a synced gateway, and so by each row.
+/// A book stays a book after each change that fits, at a synced gateway, and so after each row and each reset.
 pub fn books_keep()
     ensures change { (b : Book) (c : Change) → IsBook b → is_synced b.stage ≡ true
         → Fits b c
@@ -108,7 +108,7 @@ pub fn books_keep()
         → IsBook (after b (idle_row b ask k)) }
     ensures carried { (b : Book) (k : Key) → IsBook b → IsBook (after b (carry_row b k)) }
     ensures restarted { (b : Book) → IsBook b → IsBook (restarted b) }
-    // Each entry is an agreed pair then.
+    // After a greater boot of the peer was heard, each entry is an agreed pair.
     ensures agreed { (b : Book) → IsBook b → (key : Key) (x : Entry)
         → slot_of (restarted b).entries key ≡ Some x
         → (is_settled x.state ≡ true) × (is_pair x.state ≡ true) }
@@ -118,7 +118,8 @@ pub fn books_keep()
         → b.coming ≡ records ++ rest → IsBook (record b { coming = rest }) }
 {}
 
-/// A gateway without a table, and the founded one: they are books, and the boxes with which the machine begins.
+/// The book of a gateway without a table and the founded one are books, and are the boxes with which the machine
+/// begins.
 pub fn books_begin()
     ensures empty { (id : GatewayId) (zero one : PortBounds) (limit : Option ℕ) → AreBounds zero
         → AreBounds one → IsPort zero.highest.0 → IsPort one.highest.0
@@ -142,8 +143,8 @@ pub fn waits_end()
         → taken_ended b rests r ≡ None }
 {}
 
-/// A record that comes in its turn is an act of the machine: at a synced gateway that of its row, or where its batch is
-/// promised none but the taking; at one that loads that of the loading.
+/// A record that comes in its turn is an act of the machine. At a synced gateway the act is that of its row, or only
+/// the taking while its batch is promised; at a gateway that loads, the act is that of the loading.
 pub fn record_works()
     ensures { (now : ℕ) (b : Book) (e : Link) (n : ℕ) (h : List Record) (l : Letter)
         (offset : ℕ)
@@ -161,21 +162,22 @@ pub fn wish_works()
         Works now [] [] b e n (after b w) (answered e w.answer) n (noted_by b.id now w.what) h }
 {}
 
-/// An idle pair at a tick is let go by an act of the machine, or nothing happens.
+/// An idle pair at a tick is an act of the machine by which it is let go, or none.
 pub fn idle_works()
     ensures { (now : ℕ) (b : Book) (e : Link) (n : ℕ) (h : List Record) (ask : Bool) (k : Key)
         → Stands b e h → let w = idle_row b ask k in
         Works now [] [] b e n (after b w) (answered e w.answer) n (noted_by b.id now w.what) h }
 {}
 
-/// A packet that is translated is an act of the machine.
+/// A packet that is translated is an act of the machine, or none.
 pub fn carry_works()
     ensures { (now : ℕ) (b : Book) (e : Link) (n : ℕ) (h : List Record) (k : Key)
         → Stands b e h → let w = carry_row b k in
         Works now [] [] b e n (after b w) (answered e w.answer) n (noted_by b.id now w.what) h }
 {}
 
-/// A greater boot of the peer is heard: e is the end before the datagram, e1 the one after it.
+/// A greater boot of the peer that is heard is an act of the machine. `e` is the end before the datagram, `e1` the one
+/// after it.
 pub fn restart_works()
     ensures { (now : ℕ) (b : Book) (e e1 : Link) (n : ℕ) (h : List Record) (l : Letter)
         → IsBook b
@@ -183,7 +185,8 @@ pub fn restart_works()
         → Works now (l ∷ []) [] b e n (restarted b) (restart_link b e1) 0 (restart_notes b now) h }
 {}
 
-/// The operator's word at a synced gateway: e is the end before, e1 the one whose session is closed.
+/// The operator's word at a synced gateway is an act of the machine. `e` is the end before the word, `e1` the one whose
+/// session is closed.
 pub fn word_works()
     ensures { (now : ℕ) (b : Book) (e e1 : Link) (n number : ℕ) (h : List Record) → IsBook b
         → is_synced b.stage ≡ true → Agrees [] [] e1 → e.boot ≡ e1.boot → e1.known ≡ number
@@ -191,7 +194,8 @@ pub fn word_works()
         (retaken b.id now (back_in b.entries)) h }
 {}
 
-/// Records of the promised batch are handed in. The machine sees only that the last one was.
+/// Feeding the link records of the promised batch is an act of the machine only where the last one is fed, and else
+/// none.
 pub fn feed_works()
     ensures { (now : ℕ) (b : Book) (e : Link) (n : ℕ) (h records rest : List Record)
         → IsBook b
@@ -199,8 +203,8 @@ pub fn feed_works()
         → Works now [] [] b e n (record b { coming = rest }) (with_fed e records) n [] h }
 {}
 
-/// Of a datagram that isn't of a greater boot the machine sees nothing until its records are taken.
-/// In general: two ends that speak of the same boots and have as much promised make the same box.
+/// A datagram that isn't of a greater boot is no act of the machine until its records are taken. In general, two ends
+/// with the same boots and the same number of promised records make the same box.
 pub fn heard_works()
     ensures heard { (now : ℕ) (b : Book) (e e1 : Link) (n : ℕ) (h : List Record)
         (bytes : List ℕ)
@@ -212,13 +216,13 @@ pub fn heard_works()
         → Works now [] [] b e n b e1 n [] h }
 {}
 
-/// A part in which nothing happens.
+/// A part of a step in which nothing happens.
 pub fn works_nothing()
     ensures { (now : ℕ) (letters : List Letter) (words : List ℕ) (b : Book) (e : Link) (n : ℕ)
         (h : List Record) → Stands b e h → Works now letters words b e n b e n [] h }
 {}
 
-/// Two parts make one: the second goes on from what was pushed by then.
+/// Two parts of a step make one: the second goes on from the records that were pushed by the first.
 pub fn works_join()
     ensures { (now : ℕ) (letters : List Letter) (words : List ℕ) (b b2 b3 : Book)
         (e e2 e3 : Link) (n n2 n3 : ℕ) (ns ns2 : List Note) (h : List Record)
@@ -227,7 +231,7 @@ pub fn works_join()
         → Works now letters words b e n b3 e3 n3 (ns ++ ns2) h }
 {}
 
-/// A part that was handed these letters and words is one that was handed more.
+/// A part that was given these letters and words is also a part that was given more.
 pub fn works_more()
     ensures { (now : ℕ) (letters letters2 : List Letter) (words words2 : List ℕ) (b b2 : Book)
         (e e2 : Link) (n n2 : ℕ) (ns : List Note) (h : List Record)
@@ -236,8 +240,8 @@ pub fn works_more()
         → Works now letters2 words2 b e n b2 e2 n2 ns h }
 {}
 
-/// With the datagram behind it, of which all was handed in, a part is a step of the machine. e3 is
-/// the end once it is sent.
+/// A part of a step, with the letter that is sent after it, is a step of the machine, where only records that were fed
+/// to the link are in the letter. `e3` is the end once the letter is sent.
 pub fn works_sent()
     ensures sent { (now : ℕ) (letters : List Letter) (words : List ℕ) (b b2 : Book)
         (e e2 e3 : Link) (n n2 before count : ℕ) (ns : List Note) (h : List Record) (d : Datagram)
@@ -253,7 +257,7 @@ pub fn works_sent()
         [] (reverse ns) [] [] }
 {}
 
-/// Each record that a datagram gives comes in its turn, at any end that speaks of the same boots as the one after it.
+/// Each record that a datagram brings comes in its turn, at any end with the same boots as the end after the datagram.
 pub fn records_come()
     ensures turn { (bytes : List ℕ) (e e1 e2 : Link) (now : ℕ) (t : Taken) (d : Datagram)
         → IsTaken bytes e now t e1 d → e2.boot ≡ e1.boot → e2.known ≡ e1.known
@@ -271,9 +275,10 @@ pub fn records_come()
         × ((letter_of d).boot ≡ e1.known) }
 {}
 
-/// A ledger that accounts for a trace (`Accounts`, the newest note first) does so whatever becomes of it, with what is
-/// noted of it put in front; so each release comes where its pair is idle: at least 30,000 cs (UDP), 24,000 cs (TCP) or 6,000 cs (ICMP)
-/// after each use of it by the gateway in the same life. It begins so at each boot of the gateway (`begun`, `founded`).
+/// A ledger that accounts for a trace (`Accounts`, the newest note first) does so after each call, with the notes of
+/// the call put before the others. So each release comes where its pair is idle: at least 30,000 cs (UDP), 24,000 cs
+/// (TCP) or 6,000 cs (ICMP) after each use of it by the gateway in the same life. A ledger accounts for the trace at
+/// each boot of the gateway (`begun`, `founded`).
 pub fn accounts_kept()
     ensures begun { (now : ℕ) (id : GatewayId) (zero one : PortBounds) (limit : Option ℕ)
         (hashers : Hashers) (h : List Note) → ((p : Pair) → uses_of id h p ≡ []) → Idle h
@@ -285,7 +290,7 @@ pub fn accounts_kept()
         Accounts now (record { book = book; lives = []; hashers = hashers }) h }
     ensures later { (since now : ℕ) (l : Ledger) (h : List Note) → since ≤ now
         → Accounts since l h → Accounts now l h }
-    // What the other gateway notes.
+    // The notes `ns` are the other gateway's.
     ensures foreign { (now : ℕ) (l : Ledger) (h ns : List Note)
         → AllByRecursion (λ n. same l.book.id n.by ≡ false) ns → Idle (ns ++ h)
         → Accounts now l h → Accounts now l (ns ++ h) }
@@ -307,7 +312,7 @@ pub fn accounts_kept()
     ensures alone { (now : ℕ) (l : Ledger) (h : List Note) → IsBook l.book → Accounts now l h
         → Accounts now (alone_ledger now l)
         (reverse (retaken l.book.id now (back_in l.book.entries)) ++ h) }
-    // The idle pairs of a tick.
+    // The idle pairs of a tick are let go one after another.
     ensures let_go { (now : ℕ) (l : Ledger) (e : Link) (h : List Note) → IsBook l.book
         → Accounts now l h
         → let keys = idle_keys_in (is_lone l.book.stage) now l.book.entries l.lives in

@@ -1,5 +1,5 @@
-//! One step of the binding protocol: what a record, a wish or an idle pair makes of a gateway's book, as rows, and that
-//! each row is a step of the pair machine.
+//! One step of the binding protocol: what a record, a wish or an idle pair makes of a gateway's book, as rows, and the
+//! laws that each row is a step of the pair machine.
 #![tactic(auto)]
 
 mod changes;

@@ -1,12 +1,13 @@
-//! How far a gateway is.
+//! The stage of a gateway.
 
-/// How far a gateway is with its table.
+/// The stage of a gateway: how far it is with its table.
 #[derive(Clone, Copy, Debug, PartialEq, Eq)]
 pub enum Stage {
-    /// It has no table yet, or loads one.
+    /// The gateway has no table yet, or is loading one.
     Unsynced,
-    /// Synced, and the peer has to agree to each new pair.
+    /// The gateway is synced, and the peer has to agree to each new pair.
     Paired,
-    /// Synced, and alone: since the founding, or the operator's word, no boot of the peer was heard.
+    /// The gateway is synced and alone: it has heard no boot of the peer since the founding, or since the operator's
+    /// word.
     Lone,
 }

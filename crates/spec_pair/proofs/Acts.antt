@@ -1,4 +1,4 @@
--- Deeds in the world.
+-- What deeds change in the world.
 use Rattle.std.proofs.Common.{◌≡◌, ℕ, suc, Bool, true, false, not, List, [], ◌∷◌, ◌++◌, length, ◌⊎◌, ◌+◌, IsTrue, Some, None, refl, sym, ap, subst, ◌∙◌, inl, inr, append_assoc}
 use Rattle.std.proofs.lemmas.Bool.{both_ways, not-true}
 use Rattle.nat_types.proofs.Offered.{same-self}
@@ -55,7 +55,7 @@ module _ (owner : Key → GatewayId) where
   closing_theirs i table ph (Skip r) may nothing was q own = absurd (cc)
 
 module _ (r : Ranges) where
-  -- how far the peer has loaded says only of the other what boot it has
+  -- where a gateway's boot stays the same, the other has loaded as much as before
   pub progress_as : (j : GatewayId) (a a2 b : Box) (os : List Run) (ps : List Pair) → a.boot ≡ a2.boot → Fresh b ⊎ (Naming r j a b os ⊎ Part r j a b os ps) → Fresh b ⊎ (Naming r j a2 b os ⊎ Part r j a2 b os ps)
   progress_as j a a2 b os ps same_boot x = elim x [
     | inl f ↦ inl f
@@ -65,7 +65,7 @@ module _ (r : Ranges) where
     ]
   ]
 
-  -- what a gateway may do by its ports, it may do by the ghost's word
+  -- what a gateway may do by the ports that it owns, it may do by the ghost owner of each key
   pub ghost_may : {i : GatewayId} {a b : Box} {mb : List Letter} {t : List Note} (v : View r i a b mb t) (d : Deed) → MayDo (keyed a.owned) i a.table d → MayDoOwned (owns v.owner i) i a.table d
   ghost_may {i} {a} {b} {mb} {t} v d may = may_as (keyed a.owned) (owns v.owner i) a.table (λ k. ap (is_proper (owns v.owner i k)) (v.talks.here.slots k) ∙ proper-phase (owns v.owner i k) (v.phase k)) v.ports.mine_is (ghost_free r i v.phase v.owner a.owned v.their_owned a.wants v.their_want a.table v.out v.inn v.ports v.talks.here) i d may
 
@@ -116,7 +116,7 @@ module _ (r : Ranges) where
               };
         }
 
-  -- the world after an act of one that is synced, where the actor's view is known
+  -- the invariant after an act of a synced gateway whose view of its peer is known
   pub inv_next : (i : GatewayId) (a b : Box) (ma mb : List Letter) (t t2 : List Note) (table2 : Key → Slot) (sent2 : List MachineRecord) (taken2 : ℕ) (owned2 : ℕ → Bool) (wants2 : Bool) → Inv r i (record { mine = a; theirs = b; my_mail = ma; their_mail = mb; trace = t }) → a.synced ≡ true
       → View r i (with_next a table2 sent2 taken2 owned2 wants2) b mb t2
       → ((l : Letter) → Within l a.sent → Within l sent2)
@@ -163,7 +163,7 @@ module _ (r : Ranges) where
       inv_next i a b ma mb t (noted_by i moment d ++ t) (table_after a.table d) (a.sent ++ pushed_by d) taken2 a.owned a.wants v sa view (λ l w. within_more l a.sent (pushed_by d) w) goes
       (λ g. goes_other_deed moment (other i) i b.table d t (same-not i) g) fits (silent_deed moment i d t (v.here.synced_is ∙ sa) v.silent) (λ j. synced_deed moment j i d t)
 
-  -- the view of a gateway that isn't lone
+  -- a synced gateway that isn't lone has a view of its peer
   pub view_of : (i : GatewayId) (a b : Box) (ma mb : List Letter) (t : List Note) → Side r i a b ma mb t → a.synced ≡ true → a.lone ≡ false → View r i a b mb t
   view_of i a b ma mb t side sa not_lone = elim (side.state sa) [ inl x ↦ let bad : true ≡ false = sym x.lone ∙ not_lone in absurd (cc) | inr v ↦ v ]
 

@@ -84,6 +84,6 @@ apart_at One Zero true = refl
 apart_at One One true = refl
 apart_at i g false = refl
 
--- with fixed ranges it is the other's range, and no run is named
+-- with fixed ranges and no run named, what is left to the other is the other's range
 pub fixed_leaves : (in_ranges : ℕ → Bool) (owner : ℕ → GatewayId) (i : GatewayId) → LeaveRest (fixed in_ranges owner) i (λ p. in_ranges p && same i (owner p)) []
 fixed_leaves in_ranges owner i p = apart_at i (owner p) (in_ranges p)

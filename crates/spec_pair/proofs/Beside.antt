@@ -10,7 +10,7 @@ use Rattle.spec_pair.proofs.Invariant.{Alone, Awaits, Loads, Real, Side, View, W
 use Rattle.spec_pair.proofs.Traced.{Covers, GoesAt, LetsGo}
 
 module _ (r : Ranges) (i : GatewayId) (a b b2 : Box) where
-  -- the mails are as before, and the boot of the other
+  -- a gateway's side holds still where the mails and the other's boot are the same
   pub side_beside : (ma mb : List Letter) (t t2 : List Note) → Side r i a b ma mb t → b2.boot ≡ b.boot
       → is_synced i t2 ≡ a.synced → (a.up ≡ true → GoesAt i a.table t2)
       → (a.synced ≡ true → Alone r i a b2 t2 ⊎ View r i a b2 mb t2)
@@ -30,7 +30,8 @@ module _ (r : Ranges) (i : GatewayId) (a b b2 : Box) where
     awaits = awaits;
   }
 
-  -- what is open was so before, and the other still isn't in its session
+  -- what holds of a lone gateway holds still, where no more is open and the other isn't in its
+  -- session
   pub alone_beside : (t t2 : List Note) → Alone r i a b t → b2.synced ≡ false
       → ((p : Pair) → IsTrue (is_open p t2) → IsTrue (is_open p t)) → (b2.up ≡ true → a.peer ≡ b2.boot → ⊥)
       → Alone r i a b2 t2
@@ -46,7 +47,7 @@ module _ (r : Ranges) (i : GatewayId) (a b b2 : Box) where
     unheard = unheard;
   }
 
-  -- the view stays, and what it says of the other is shown anew
+  -- a gateway's view holds still, where what it says of the other is shown anew
   pub view_beside : (mb mb2 : List Letter) (t t2 : List Note) (x : View r i a b mb t)
       → ((l : Letter) → In l mb2 → l.boot ≡ a.peer → l.to ≡ a.boot → Within l (x.heard ++ x.inn))
       → Covers x.phase t2 → ((g : GatewayId) → LetsGo x.owner g x.phase t2)

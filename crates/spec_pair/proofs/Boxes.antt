@@ -1,4 +1,4 @@
--- Boxes that tell the same are one.
+-- Boxes that agree in every field are equal.
 use Rattle.std.proofs.Common.{◌≡◌, ℕ, Bool, List, Option, ap, ◌∙◌}
 use Rattle.nat_types.specs.declared.pairs.Key.{Key}
 use Rattle.spec_pair.specs.Box.{AreSame, Box}

@@ -1,4 +1,4 @@
--- What a gateway took of a session stood in the letters that the other sent in it.
+-- The records that a gateway took of a session are in the letters that the other sent in it.
 use Rattle.std.proofs.Common.{◌≡◌, ℕ, zero, suc, ◌<◌, ◌≤◌, inl, inr, List, [], ◌∷◌, ◌++◌, Some, length, refl, subst, arith}
 use Rattle.std.proofs.Math.Logic.{∥∥₁_elim}
 use Rattle.std.proofs.Props.{props}
@@ -10,11 +10,11 @@ use Rattle.spec_pair.specs.Ownership.{Ranges}
 use Rattle.spec_pair.specs.Talk.{MachineRecord}
 use Rattle.spec_pair.specs.World.{AreAllowed, Can, EndsBy, IsWorld, MachineEvent, Scene, after_act, after_event, after_events, flip, founding, seen_by}
 
--- where the letters of its session end by some number, it took no more
+-- a gateway took no more records than the letters of its session have
 abbrev pub IsCounted : Box → List Letter → Type 0
 IsCounted b mail = (n : ℕ) → EndsBy b mail n → b.taken ≤ n
 
--- more letters leave it so
+-- a letter of the mail is in a longer mail
 in-more : (l : Letter) (ls mail : List Letter) → In l mail → In l (ls ++ mail)
 in-more l [] mail h = h
 in-more l (x ∷ ls) mail h = inr (in-more l ls mail h)
@@ -60,7 +60,7 @@ module _ (r : Ranges) where
   act-counted i s Crash can h n ends = omega arith
   act-counted i s (Boot m) can h n ends = omega arith
 
-  -- of both
+  -- both gateways took no more records than the letters of their sessions have
   abbrev Counts : Scene → Type 0
   Counts s = IsCounted s.mine s.their_mail × IsCounted s.theirs s.my_mail
 

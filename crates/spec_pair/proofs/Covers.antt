@@ -1,4 +1,4 @@
--- What the notes of a deed do to open pairs and to those let go.
+-- What the notes of a deed change in which pairs are open and which are let go.
 use Rattle.std.proofs.Common.{◌≡◌, ℕ, Bool, true, false, ◌&&◌, cond, List, ◌∷◌, IsTrue, Some, None, refl, sym, ap, ◌∙◌, inl, inr}
 use Rattle.std.proofs.lemmas.Bool.{cases_Bool, both_ways, and_left, and_right, and_from, and_parts}
 use Rattle.nat_types.proofs.Offered.{same-self, pair-eq, pair-self, pair-false}
@@ -20,18 +20,19 @@ pub still : (b x : Bool) → cond b false x ≡ true → x ≡ true
 still true x h = absurd (cc)
 still false x h = h
 
--- the pairs held by both stay so at the one port whose phase changes
+-- each open pair is still held by both, where the one port whose phase changes is held by both as
+-- before
 pub covers_set : (ph : Key → Phase) (t : List Note) (k : Key) (after_act : Phase) → Covers ph t → ((n : Endpoint) → shared (ph k) ≡ Some n → shared after_act ≡ Some n) → Covers (set_at ph k after_act) t
 covers_set ph t k after_act c more p o = elim (cases_key k p.key) [
   | inl e ↦ ap shared (set_same ph k after_act p.key e) ∙ more p.endpoint (ap (λ n. shared (ph n)) e ∙ c p o)
   | inr ne ↦ ap shared (set_other ph k after_act p.key ne) ∙ c p o
 ]
 
--- a release leaves no more open
+-- a release opens no pair
 pub covers_release : (moment : ℕ) (ph : Key → Phase) (t : List Note) (i : GatewayId) (p : Pair) → Covers ph t → Covers ph (note i moment (Released p) ∷ t)
 covers_release moment ph t i p c q o = c q (still (same_pair q p && is_agreed i q t) (is_open q t) o)
 
--- an agreed release closes the pair, so nothing need hold it
+-- an agreed release closes the pair, so nobody has to hold it
 pub covers_agreed : (moment : ℕ) (ph : Key → Phase) (t : List Note) (i : GatewayId) (k : Key) (e : Endpoint) (after_act : Phase) → Covers ph t → shared (ph k) ≡ Some e → is_agreed i (pair_of k e) t ≡ true → Covers (set_at ph k after_act) (note i moment (Released (pair_of k e)) ∷ t)
 covers_agreed moment ph t i k e after_act c held_by agreed q o =
     elim (cases_key k q.key) [
@@ -46,18 +47,18 @@ covers_agreed moment ph t i k e after_act c held_by agreed q o =
       | inr ne ↦ ap shared (set_other ph k after_act q.key ne) ∙ c q (still (same_pair q (pair_of k e) && is_agreed i q t) (is_open q t) o)
     ]
 
--- a pair that both hold may be used
+-- after a use of a pair that both hold, each open pair is held by both
 pub covers_use : (moment : ℕ) (ph : Key → Phase) (t : List Note) (i : GatewayId) (p : Pair) → Covers ph t → shared (ph p.key) ≡ Some p.endpoint → Covers ph (note i moment (Used p) ∷ t)
 covers_use moment ph t i p c held_by q o = elim (cases_Bool (same_pair q p)) [
   | inl s ↦ let e : p ≡ q = sym (pair-eq q p s) in ap (λ x. shared (ph x.key)) (sym e) ∙ held_by ∙ ap (λ x. Some x.endpoint) e
   | inr n ↦ c q (ap (λ b. cond b true (is_open q t)) (sym n) ∙ o)
 ]
 
--- nothing that counts is noted
+-- where no note on a pair is made, the pairs that translate go on as before
 pub goes_quiet : (i : GatewayId) (table table2 : Key → Slot) (t : List Note) → GoesAt i table t → ((q : Key) → translated (table2 q) ≡ translated (table q)) → GoesAt i table2 t
 goes_quiet i table table2 t g same_all p = (λ h. same_all p.key ∙ (g p).0 h, λ h. (g p).1 (sym (same_all p.key) ∙ h))
 
--- another's note
+-- a note of another gateway changes nothing in which pairs go on at this one
 pub goes_other : (moment : ℕ) (j i : GatewayId) (table : Key → Slot) (t : List Note) (p : Pair) → same j i ≡ false → GoesAt j table t → (GoesAt j table (note i moment (Used p) ∷ t)) × (GoesAt j table (note i moment (Released p) ∷ t)) × (GoesAt j table (note i moment (Retaken p) ∷ t))
 goes_other moment j i table t p no_one g =
     let off : (q : Pair) → (same j i && same_pair q p) ≡ false = λ q. and_left (same j i) (same_pair q p) no_one in (
@@ -66,7 +67,7 @@ goes_other moment j i table t p no_one g =
       λ q. (λ h. (g q).0 (ap (λ b. cond b true (goes_on j q t)) (sym (off q)) ∙ h), λ h. ap (λ b. cond b true (goes_on j q t)) (off q) ∙ (g q).1 h),
     )
 
--- a pair begins to translate, or goes on
+-- where a pair begins to translate or goes on, it goes on by the trace
 pub goes_in : (moment : ℕ) (i : GatewayId) (table table2 : Key → Slot) (t : List Note) (k : Key) (e : Endpoint) → GoesAt i table t → translated (table2 k) ≡ Some e → ((q : Key) → (k ≡ q → ⊥) → translated (table2 q) ≡ translated (table q)) → ((n : Endpoint) → translated (table k) ≡ Some n → n ≡ e) → GoesAt i table2 (note i moment (Retaken (pair_of k e)) ∷ t)
 goes_in moment i table table2 t k e g now same_else before p = elim (cases_Bool (same_pair p (pair_of k e))) [
   | inl s ↦ let pe : p ≡ pair_of k e = pair-eq p (pair_of k e) s in
@@ -90,7 +91,7 @@ goes_in moment i table table2 t k e g now same_else before p = elim (cases_Bool 
       ]
 ]
 
--- a pair ceases to translate
+-- where a pair ceases to translate, it goes on no more by the trace
 pub goes_out : (moment : ℕ) (i : GatewayId) (table table2 : Key → Slot) (t : List Note) (k : Key) (e : Endpoint) → GoesAt i table t → translated (table k) ≡ Some e → translated (table2 k) ≡ None → ((q : Key) → (k ≡ q → ⊥) → translated (table2 q) ≡ translated (table q)) → GoesAt i table2 (note i moment (Released (pair_of k e)) ∷ t)
 goes_out moment i table table2 t k e g was now same_else p = elim (cases_key k p.key) [
   | inl at ↦ (
@@ -110,18 +111,18 @@ goes_out moment i table table2 t k e g was now same_else p = elim (cases_key k p
 ]
 
 module _ (owner : Key → GatewayId) where
-  -- what is asked to be closed stays let go, at the one port whose phase changes
+  -- the pairs that a gateway asks to close are still let go, where one port's phase changes
   pub lets_go_set : (j : GatewayId) (ph : Key → Phase) (t : List Note) (k : Key) (after_act : Phase) → LetsGo owner j ph t → ((n : Endpoint) → IsTrue (owns owner j k) → closing after_act ≡ Some n → closing (ph k) ≡ Some n) → LetsGo owner j (set_at ph k after_act) t
   lets_go_set j ph t k after_act l fewer s q e own cl = elim (cases_key k q) [
     | inl at ↦ l s q e own (ap (λ n. closing (ph n)) (sym at) ∙ fewer e (ap (owns owner j) at ∙ own) (ap closing (sym (set_same ph k after_act q at)) ∙ cl))
     | inr ne ↦ l s q e own (ap closing (sym (set_other ph k after_act q ne)) ∙ cl)
   ]
 
-  -- a release lets go of more
+  -- a release lets more pairs go
   pub lets_go_release : (moment : ℕ) (j : GatewayId) (ph : Key → Phase) (t : List Note) (i : GatewayId) (p : Pair) → LetsGo owner j ph t → LetsGo owner j ph (note i moment (Released p) ∷ t)
   lets_go_release moment j ph t i p l s q e own cl = elim (same j i && same_pair (pair_of q e) p) as (λ b. cond b true (has_let_go j (pair_of q e) t) ≡ true) [ true ↦ refl | false ↦ l s q e own cl ]
 
-  -- a note that takes a pair again, which isn't asked to be closed
+  -- a note that takes a pair again changes nothing, where the pair isn't asked to be closed
   pub lets_go_retake : (moment : ℕ) (j : GatewayId) (ph : Key → Phase) (t : List Note) (i : GatewayId) (k : Key) (n : Endpoint) → LetsGo owner j ph t → (IsTrue (owns owner j k) → same j i ≡ true → closing (ph k) ≡ None) → LetsGo owner j ph (note i moment (Retaken (pair_of k n)) ∷ t)
   lets_go_retake moment j ph t i k n l none s q e own cl = elim (cases_Bool (same j i && same_pair (pair_of q e) (pair_of k n))) [
     | inl b ↦ let parts : (same j i ≡ true) × (same_pair (pair_of q e) (pair_of k n) ≡ true) = and_parts (same j i) (same_pair (pair_of q e) (pair_of k n)) b in
@@ -134,7 +135,7 @@ module _ (owner : Key → GatewayId) where
   pub lets_go_use : (moment : ℕ) (j : GatewayId) (ph : Key → Phase) (t : List Note) (i : GatewayId) (k : Key) (n : Endpoint) → LetsGo owner j ph t → (IsTrue (owns owner j k) → same j i ≡ true → closing (ph k) ≡ None) → LetsGo owner j ph (note i moment (Used (pair_of k n)) ∷ t)
   lets_go_use moment j ph t i k n l none s q e own cl = lets_go_retake moment j ph t i k n l none s q e own cl
 
-  -- the pair that i itself begins to close
+  -- the pair that gateway i begins to close is let go
   pub lets_go_close : (moment : ℕ) (i : GatewayId) (ph : Key → Phase) (t : List Note) (k : Key) (n : Endpoint) (after_act : Phase) → LetsGo owner i ph t → closing after_act ≡ Some n → LetsGo owner i (set_at ph k after_act) (note i moment (Released (pair_of k n)) ∷ t)
   lets_go_close moment i ph t k n after_act l now s q e own cl = elim (cases_key k q) [
     | inl at ↦ let en : Some n ≡ Some e = sym now ∙ ap closing (sym (set_same ph k after_act q at)) ∙ cl in

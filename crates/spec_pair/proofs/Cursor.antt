@@ -1,4 +1,4 @@
--- Records that are promised, and handed in later.
+-- Records that are promised first, and may be sent later.
 use Rattle.std.proofs.Common.{◌≡◌, ℕ, true, false, List, [], ◌∷◌, refl, sym, ◌∙◌, inl, inr}
 use Rattle.nat_types.specs.Same.{other}
 use Rattle.nat_types.specs.declared.gateways.GatewayId.{GatewayId}
@@ -12,7 +12,7 @@ use Rattle.spec_pair.specs.World.{Scene, Can, after_act}
 use Rattle.spec_pair.proofs.Acts.{view_of, next_is, progress_as}
 
 module _ (r : Ranges) where
-  -- nothing comes while records are promised
+  -- no record comes while the own batch is promised
   pub inv_ignore : (moment : ℕ) (i : GatewayId) (s : Scene) (l : Letter) (n : ℕ) (q : MachineRecord) → Inv r i s → Can r i s (Ignore l n q) → Inv r i (after_act r i moment s (Ignore l n q))
   inv_ignore moment i s l n q v can =
       let view : View r i s.mine s.theirs s.their_mail s.trace = view_of r i s.mine s.theirs s.my_mail s.their_mail s.trace v.here can.0.0 can.0.1 in

@@ -1,4 +1,4 @@
--- Each deed of a gateway keeps both gateways as the ports' phases say.
+-- Each deed of a gateway keeps both tables and what is under way as the ports' phases say.
 use Rattle.std.proofs.Common.{◌≡◌, true, false, not, List, [], ◌∷◌, ◌++◌, IsTrue, Some, None, refl, sym, ap, subst, ◌∙◌, inl, inr, ◌⊎◌, append-nil}
 use Rattle.std.proofs.lemmas.Bool.{not-true, not-false}
 use Rattle.nat_types.proofs.Offered.{same-eq}
@@ -30,7 +30,7 @@ module _ (owner : Key → GatewayId) where
   not_one i z o = let e : Zero ≡ One = sym z ∙ o in cc
 
   module _ (i : GatewayId) (mine : Key → Slot) (out : List MachineRecord) (theirs : Key → Slot) (inn : List MachineRecord) (ph : Key → Phase) where
-    -- nothing else at this endpoint, where the slot's endpoint is as before
+    -- no other port has the endpoint, where the changed slot's endpoint is as before
     fresh_kept : (mine2 : Key → Slot) (k : Key) (ts : List MachineRecord) → Talks owner i mine out theirs (ts ++ inn) ph → held (mine2 k) ≡ held (mine k) → (q : Key) (e : Endpoint) → (k ≡ q → ⊥) → held (mine2 k) ≡ Some e → held (mine q) ≡ Some e → ⊥
     fresh_kept mine2 k ts t h q e ne a b = ne (t.here.one_each k q e (sym h ∙ a) b)
 
@@ -207,7 +207,7 @@ module _ (owner : Key → GatewayId) where
               (λ one. tt) (λ zero. t.excused_in zero) (λ z. refl)
         ]
 
-    -- an Ask comes for a pair that is held
+    -- an Ask comes only for a pair that the receiver holds
     asked : (k : Key) (e : Endpoint) → Talks owner i mine out theirs (Ask k ∷ inn) ph → mine k ≡ Held e → (owns owner i k ≡ false) × (ph k ≡ Asked e) × (on k inn ≡ [])
     asked k e t may =
         let seen : (owns owner (other i) k ≡ true) × ((n : Endpoint) × (ph k ≡ Asked n) × (on k inn ≡ [])) = when_ask (owns owner (other i) k) k (ph k) k (on k inn) (comes k (Ask k) t (self owner k)) in
@@ -294,7 +294,7 @@ module _ (owner : Key → GatewayId) where
         }
         (λ one. tt) (λ zero. t.excused_in zero) (λ z. refl)
 
-    -- gateway 1 gives its own proposal up for the one that came
+    -- gateway 1 gives its own proposal up for the Install that came
     yields : (k : Key) (e : Endpoint) (q : Key) (before after_act : Phase) → Talks owner i mine out theirs (Install k e ∷ inn) ph → MayDoOwned (owns owner i) i mine (Yield k e q) → ph k ≡ Proposed e → owns owner i k ≡ false → on k inn ≡ [] → (k ≡ q → ⊥)
         → ph q ≡ before → slot_at true after_act ≡ Doomed e → slot_at false before ≡ slot_at false after_act → flight_at true q before ≡ flight_at true q after_act → flight_at false q before ≡ flight_at false q after_act
         → ((n : Endpoint) → after_act ≡ GivenUp n → n ≡ e) → ((n : Endpoint) → before ≡ Accepted n → ⊥)
@@ -375,7 +375,7 @@ module _ (owner : Key → GatewayId) where
           ]
         ]
 
-    -- no Ask comes for what isn't held
+    -- no Ask comes for a pair that isn't held
     no_pass : (k : Key) → Talks owner i mine out theirs (Ask k ∷ inn) ph → ((e : Endpoint) → mine k ≡ Held e → ⊥) → ⊥
     no_pass k t may =
         let seen : (owns owner (other i) k ≡ true) × ((n : Endpoint) × (ph k ≡ Asked n) × (on k inn ≡ [])) = when_ask (owns owner (other i) k) k (ph k) k (on k inn) (comes k (Ask k) t (self owner k)) in

@@ -1,4 +1,4 @@
--- What given-up proposals need, kept through changes.
+-- Each proposal that was given up keeps its excuse: an Accept, under way, of another port for the same endpoint.
 use Rattle.std.proofs.Common.{◌≡◌, Bool, true, false, cond, List, [], ◌∷◌, ◌++◌, IsTrue, refl, sym, ap, ◌∙◌, inl, inr, ◌⊎◌, true≢false}
 use Rattle.std.proofs.lemmas.Bool.{both_ways}
 use Rattle.nat_types.proofs.Offered.{key-true, key-false}
@@ -9,7 +9,7 @@ use Rattle.spec_pair.proofs.Phase.{Phase, Nothing, Proposed, Accepted, Refused, 
 use Rattle.spec_pair.specs.Talk.{MachineRecord, Install, Accept, Refuse, Ask, Yes, No, Begin, Put, Done, Want, Grant, Owner, on, set_at}
 use Rattle.spec_pair.proofs.Set.{set_same, set_other, cases_key}
 
--- fewer are given up, and what excuses them stays
+-- where no more proposals are given up, and each excuse stays, all are excused
 pub excused_more : (ph ph2 : Key → Phase) (rs : List MachineRecord) → Excused ph rs → ((q : Key) (e : Endpoint) → ph2 q ≡ GivenUp e → ph q ≡ GivenUp e) → ((q : Key) (e : Endpoint) → has_accept q rs ≡ true → ph q ≡ Accepted e → ph2 q ≡ Accepted e) → Excused ph2 rs
 excused_more ph ph2 [] x fewer stays = tt
 excused_more ph ph2 (Install k e ∷ rs) x fewer stays =
@@ -63,7 +63,7 @@ has_accept-last q (Want ∷ rs) = has_accept-last q rs
 has_accept-last q (Grant qs ∷ rs) = has_accept-last q rs
 has_accept-last q (Owner fst lst ∷ rs) = has_accept-last q rs
 
--- records at the end
+-- records that are excused by themselves may be pushed
 pub excused_push : (ph : Key → Phase) (rs ss : List MachineRecord) → Excused ph rs → Excused ph ss → Excused ph (rs ++ ss)
 excused_push ph [] ss x y = y
 excused_push ph (Install k e ∷ rs) ss x y = ((λ g. let old : (q : Key) × (ph q ≡ Accepted e) × IsTrue (has_accept q rs) = x.0 g in (old.0, old.1, has_accept-more old.0 rs ss old.2)), excused_push ph rs ss x.1 y)
@@ -79,7 +79,7 @@ excused_push ph (Want ∷ rs) ss x y = excused_push ph rs ss x y
 excused_push ph (Grant qs ∷ rs) ss x y = excused_push ph rs ss x y
 excused_push ph (Owner fst lst ∷ rs) ss x y = excused_push ph rs ss x y
 
--- a port is given up, and the Accept of another for the endpoint comes behind
+-- a proposal that is given up is excused by the Accept that comes after it
 pub excused_give_up : (ph ph2 : Key → Phase) (k : Key) (n : Endpoint) (q : Key) (rs : List MachineRecord) → Excused ph rs → ((x : Key) (e : Endpoint) → ph2 x ≡ GivenUp e → (ph x ≡ GivenUp e) ⊎ (e ≡ n)) → ((x : Key) (e : Endpoint) → has_accept x rs ≡ true → ph x ≡ Accepted e → ph2 x ≡ Accepted e) → ph2 k ≡ Accepted n → Excused ph2 (rs ++ Accept k ∷ [])
 excused_give_up ph ph2 k n q [] x fewer stays here = tt
 excused_give_up ph ph2 k n q (Install a e ∷ rs) x fewer stays here = (
@@ -154,6 +154,6 @@ calm_at false k (Asked e) h = refl
 calm_at false k (Staying e) h = refl
 calm_at false k (Leaving e) h = refl
 
--- none is under way where the port's phase isn't Accepted
+-- no Accept of a port is under way where the port's phase isn't Accepted
 pub calm : (b : Bool) (k : Key) (p : Phase) (rs : List MachineRecord) → on k rs ≡ flight_at b k p → is_accepted p ≡ false → has_accept k rs ≡ true → ⊥
 calm b k p rs h no_accept yes_accept = let none : has_accept k (flight_at b k p) ≡ false = calm_at b k p no_accept in let e : has_accept k rs ≡ has_accept k (flight_at b k p) = accept_on k rs ∙ ap (has_accept k) h in both_ways (has_accept k rs) (e ∙ none) yes_accept

@@ -1,4 +1,4 @@
--- Ports are asked for, granted and taken.
+-- What is kept where ports are asked for, granted and taken.
 use Rattle.std.proofs.Common.{◌≡◌, ℕ, suc, Bool, true, false, cond, List, [], ◌∷◌, ◌++◌, ◌==◌, ◌+◌, ◌≤◌, Some, None, refl, sym, ap, subst, ◌∙◌, inl, inr, ◌⊎◌, append_assoc, arith, eqb-true}
 use Rattle.std.proofs.lemmas.Bool.{both_ways, cases_Bool}
 use Rattle.nat_types.proofs.Offered.{same-self}
@@ -39,7 +39,7 @@ times_in p (q ∷ qs) h = elim (cases_Bool (p == q)) [
 absent : (p q : ℕ) (qs : List ℕ) → (p == q) ≡ true → has q qs ≡ false → has p qs ≡ false
 absent p q qs e h = ap (λ x. has x qs) (eqb-true p q e) ∙ h
 
--- in a list without repeats once or not at all
+-- in a list without repeats a port is at most once
 pub times_once : (p : ℕ) (qs : List ℕ) → AreDistinct qs → times p qs ≤ 1
 times_once p [] d = omega arith
 times_once p (q ∷ qs) d = elim (cases_Bool (p == q)) [
@@ -59,7 +59,7 @@ pub bit_false : (b : Bool) → bit b ≡ 0 → b ≡ false
 bit_false true h = absurd (cc)
 bit_false false h = refl
 
--- a record that is on no port, pushed or taken
+-- a record that is on no port may be pushed or taken
 pub push_plain : (owner : Key → GatewayId) (i : GatewayId) (mine theirs : Key → Slot) (out inn : List MachineRecord) (ph : Key → Phase) (x : MachineRecord) → ((k : Key) → is_on k x ≡ false) → Excused ph (x ∷ []) → Talks owner i mine out theirs inn ph → Talks owner i mine (out ++ x ∷ []) theirs inn ph
 push_plain owner i mine theirs out inn ph x plain excused t = record {
   here = record { slots = t.here.slots; flights = λ k. push_else owner k x out (plain k) ∙ t.here.flights k; one_each = t.here.one_each };
@@ -78,7 +78,7 @@ take_plain owner i mine theirs out inn inn2 ph same_on excused t = record {
   steady = t.steady;
 }
 
--- ports at which nothing stands change hands
+-- ports may change hands where no gateway has an entry at them
 pub talks_hands : (owner owner2 : Key → GatewayId) (i : GatewayId) (mine theirs : Key → Slot) (out inn : List MachineRecord) (ph : Key → Phase) → ((k : Key) → (ph k ≡ Nothing) ⊎ (owner2 k ≡ owner k)) → Talks owner i mine out theirs inn ph → Talks owner2 i mine out theirs inn ph
 talks_hands owner owner2 i mine theirs out inn ph moved t = record {
   here = changes_hands owner owner2 ph i mine out t.here (λ k. elim (moved k) [ inl n ↦ inl n | inr e ↦ inr (ap (same i) (sym e)) ]);
@@ -99,7 +99,7 @@ without_true true o h = absurd (cc)
 without_true false o h = (refl, h)
 
 module _ (r : Ranges) where
-  -- the world after a record was taken or pushed that is on no port: table and notes stay
+  -- the invariant after a record that is on no port was taken or pushed: table and notes stay
   moves : (i : GatewayId) (s : Scene) (sent2 : List MachineRecord) (taken2 : ℕ) (owned2 : ℕ → Bool) (wants2 : Bool) → Inv r i s → s.mine.synced ≡ true
       → View r i (with_next s.mine s.mine.table sent2 taken2 owned2 wants2) s.theirs s.their_mail s.trace → ((l : Letter) → Within l s.mine.sent → Within l sent2)
       → Inv r i (record { mine = with_next s.mine s.mine.table sent2 taken2 owned2 wants2; theirs = s.theirs; my_mail = s.my_mail; their_mail = s.their_mail; trace = s.trace })
@@ -169,7 +169,7 @@ module _ (r : Ranges) where
       }
       (λ l x. within_more l s.mine.sent (Want ∷ []) x)
 
-  -- no batch is under way where the peer's next record is known
+  -- no batch is under way where the peer's next record is known to be another
   no_batch : {A : Type 0} (i : GatewayId) (s : Scene) (w : View r i s.mine s.theirs s.their_mail s.trace) (x : MachineRecord) (rest : List MachineRecord) → w.inn ≡ x ∷ rest → s.theirs.synced ≡ false → s.theirs.up ≡ true → s.mine.peer ≡ s.theirs.boot → A
   no_batch i s w x rest e z u p = let bad : x ∷ rest ≡ [] = sym e ∙ (w.loads z u p).inn_is in absurd (cc)
 
@@ -249,7 +249,7 @@ module _ (r : Ranges) where
   free_slot : (i : GatewayId) (s : Scene) (w : View r i s.mine s.theirs s.their_mail s.trace) (k : Key) → w.phase k ≡ Nothing → s.mine.table k ≡ Free
   free_slot i s w k h = w.talks.here.slots k ∙ ap (slot_at (owns w.owner i k)) h ∙ free_at (owns w.owner i k)
 
-  -- what is granted is nobody's
+  -- a granted port is owned by neither gateway
   granted : (i : GatewayId) (s : Scene) (w : View r i s.mine s.theirs s.their_mail s.trace) (ports : List ℕ) (rest : List MachineRecord) → w.inn ≡ Grant ports ∷ rest → (p : ℕ) → has p ports ≡ true
       → (s.mine.owned p ≡ false) × (w.their_owned p ≡ false) × (r.in_ranges p ≡ true) × (times p ports ≡ 1)
   granted i s w ports rest e p is =

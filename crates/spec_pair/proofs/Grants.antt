@@ -1,4 +1,6 @@
--- Where the ports are, kept through deeds, and the ghost's word on whose each is.
+-- Where the ports are, kept through deeds, and whose each key is by the ghost owner. The ghost
+-- owner of a key is the gateway that the proofs take for its owner, also while its port is on its
+-- way.
 use Rattle.std.proofs.Common.{◌≡◌, ℕ, Bool, true, false, not, List, [], ◌∷◌, ◌++◌, ◌+◌, refl, sym, ap, ◌∙◌, inl, inr, arith}
 use Rattle.std.proofs.lemmas.Bool.{both_ways, cases_Bool}
 use Rattle.nat_types.specs.Same.{other}
@@ -24,7 +26,7 @@ pub grants-append : (xs ys : List MachineRecord) → grants_in (xs ++ ys) ≡ gr
 grants-append [] ys = omega arith
 grants-append (x ∷ xs) ys = let h : grants_in (xs ++ ys) ≡ grants_in xs + grants_in ys = grants-append xs ys in omega arith
 
--- neither Wants nor Grants
+-- the records are neither Wants nor Grants
 abbrev pub Quiet : List MachineRecord → Type 0
 Quiet rs = ((p : ℕ) → gifts p rs ≡ 0) × (wants_in rs ≡ 0) × (grants_in rs ≡ 0)
 
@@ -74,7 +76,7 @@ taken_quiet own i table (Stayed k e) may = (λ p. refl, refl, refl)
 taken_quiet own i table (Pass k) may = (λ p. refl, refl, refl)
 taken_quiet own i table (Skip x) may = lost_quiet own table x may
 
--- a slot that follows from a phase is one that the gateway can have there
+-- a slot that follows from a phase is one that a gateway can have there
 pub proper-phase : (own : Bool) (p : Phase) → is_proper own (slot_at own p) ≡ true
 proper-phase true Nothing = refl
 proper-phase true (Proposed e) = refl
@@ -97,7 +99,7 @@ proper-phase false (Asked e) = refl
 proper-phase false (Staying e) = refl
 proper-phase false (Leaving e) = refl
 
--- What a gateway may do by the ports that it owns, it may do by the ghost's word.
+-- What a gateway may do by the ports that it owns, it may do by the ghost owner of each key.
 module _ (own own2 : Key → Bool) (table : Key → Slot) (proper : (k : Key) → is_proper (own2 k) (table k) ≡ true) (more : (k : Key) → own k ≡ true → own2 k ≡ true) (free : (k : Key) → own2 k ≡ true → own k ≡ false → table k ≡ Free) where
   lost_as : (x : MachineRecord) → IsLost own table x → IsLost own2 table x
   lost_as (Install k e) lost = lost
@@ -116,7 +118,7 @@ module _ (own own2 : Key → Bool) (table : Key → Slot) (proper : (k : Key) �
   lost_as (Grant ports) lost = lost
   lost_as (Owner first last) lost = lost
 
-  -- what an owner's slot tells
+  -- a slot of the table is one that the gateway can have at that key
   told_own : (k : Key) (x : Slot) → table k ≡ x → is_proper (own2 k) x ≡ true
   told_own k x h = ap (is_proper (own2 k)) (sym h) ∙ proper k
 
@@ -136,7 +138,7 @@ module _ (own own2 : Key → Bool) (table : Key → Slot) (proper : (k : Key) �
   may_as i (Pass k) may = may
   may_as i (Skip x) may = lost_as x may
 
--- a deed changes no port at which nothing stands and which the actor doesn't own
+-- a deed changes no port that the actor doesn't own and at which there is no entry
 module _ (owner : Key → GatewayId) (own : Key → Bool) (i : GatewayId) (mine : Key → Slot) (out : List MachineRecord) (theirs : Key → Slot) (inn : List MachineRecord) (ph : Key → Phase) where
   stands : {A : Type 0} (k : Key) (x : MachineRecord) → Talks owner i mine out theirs (x ∷ inn) ph → is_on k x ≡ true → ph k ≡ Nothing → A
   stands k x t is none = let bad : x ∷ on k inn ≡ [] = sym (on_here k x inn is) ∙ t.there.flights k ∙ ap (flight_at (owns owner (other i) k) k) none ∙ none_at (owns owner (other i) k) k in absurd (cc)
@@ -167,7 +169,7 @@ module _ (owner : Key → GatewayId) (own : Key → Bool) (i : GatewayId) (mine 
   stays_idle (Skip x) t may q off none = none
 
 module _ (r : Ranges) where
-  -- where the ghost says that a key is the actor's, though it doesn't own its port, nothing stands
+  -- where the ghost owner of a key is the actor, though it doesn't own the port, there is no entry
   pub ghost_free : (i : GatewayId) (ph : Key → Phase) (owner : Key → GatewayId) (mine theirs : ℕ → Bool) (want want2 : Bool) (table : Key → Slot) (out inn : List MachineRecord) → Whereabouts r i ph owner mine theirs want want2 out inn → Matches owner ph i table out
       → (k : Key) → owns owner i k ≡ true → keyed mine k ≡ false → table k ≡ Free
   ghost_free i ph owner mine theirs want want2 table out inn p m k is off = elim (cases_Bool (keyed theirs k)) [
@@ -207,7 +209,7 @@ module _ (r : Ranges) where
             omega arith);
       }
 
-  -- seen from the other, whose sets agree with these everywhere
+  -- where the ports are, seen from the other gateway
   pub ports_flip : (i : GatewayId) (ph : Key → Phase) (owner : Key → GatewayId) (mine theirs theirs2 : ℕ → Bool) (want want2 want3 : Bool) (out inn : List MachineRecord) → ((p : ℕ) → theirs2 p ≡ theirs p) → want3 ≡ want2
       → Whereabouts r i ph owner mine theirs want want2 out inn → Whereabouts r (other i) ph owner theirs2 mine want3 want inn out
   ports_flip i ph owner mine theirs theirs2 want want2 want3 out inn same_ports same_want x = record {

@@ -1,4 +1,4 @@
--- A port may change hands where nothing stands at it: what a grant needs.
+-- A port may change hands where it has no entry: what a grant needs.
 use Rattle.std.proofs.Common.{◌≡◌, Bool, true, false, List, [], refl, sym, ap, ◌∙◌, inl, inr, ◌⊎◌}
 use Rattle.nat_types.specs.Same.{same}
 use Rattle.nat_types.specs.declared.gateways.GatewayId.{GatewayId}

@@ -30,7 +30,7 @@ use Rattle.spec_pair.proofs.Set.{cases_endpoint}
 flag : {A : Type 0} (b : Bool) → b ≡ true → b ≡ false → A
 flag b h g = absurd (both_ways b g h)
 
--- the phase of a port that is put into the batch, or isn't
+-- the phase of a port after the restart, by the pair that the batch puts at it, or none
 abbrev pub renewed : Option Endpoint → Phase
 renewed None = Nothing
 renewed (Some e) = Shared e
@@ -85,7 +85,7 @@ held-renewed true (Some e) = refl
 held-renewed false None = refl
 held-renewed false (Some e) = refl
 
--- what comes back translates then
+-- a pair that comes back translates at the peer's restart
 back-translated : (s : Slot) (e : Endpoint) → is_back s ≡ Some e → translated (revived s) ≡ Some e
 back-translated Free e h = absurd (cc)
 back-translated (Pending n) e h = h
@@ -130,7 +130,7 @@ goes_other-retakes : (moment : ℕ) (j i : GatewayId) (table : Key → Slot) (ps
 goes_other-retakes moment j i table [] t s g = g
 goes_other-retakes moment j i table (p ∷ ps) t s g = (goes_other moment j i table (retakes i moment ps ++ t) p s (goes_other-retakes moment j i table ps t s g)).2
 
--- among those taken again a pair goes on, and the others as before
+-- a pair that is taken again goes on, and all others as before
 goes-in : (moment : ℕ) (i : GatewayId) (q : Pair) (ps : List Pair) (t : List Note) → In q ps → goes_on i q (retakes i moment ps ++ t) ≡ true
 goes-in moment i q [] t h = absurd h
 goes-in moment i q (p ∷ ps) t h = elim h [
@@ -176,7 +176,7 @@ goes-revived moment i table back t g exact p = elim (some_or_none (is_back (tabl
   ]
 ]
 
--- whose a key is, where its port is i's or else the other's
+-- whose a key is: gateway i's where its port is i's, and else the other's
 mine_by : (i : GatewayId) (b : Bool) → same i (cond b i (other i)) ≡ b
 mine_by Zero true = refl
 mine_by Zero false = refl
@@ -197,7 +197,7 @@ proper-revived own (Live e) h = h
 proper-revived own (Closing e) h = h
 proper-revived own (Held e) h = h
 
--- a port of the ranges is the other's where it isn't the own, and no other port is anyone's
+-- a port of the ranges is owned by one of the two, and no other port by anyone
 split : (own inside : Bool) → (own ≡ true → inside ≡ true) → bit own + (bit (inside && not own) + 0) ≡ bit inside
 split true true h = refl
 split true false h = let bad : false ≡ true = h refl in absurd (cc)

@@ -1,4 +1,5 @@
--- Where one hasn't heard the other's boot it may hear it; where both have, they are in one session.
+-- Where a gateway hasn't heard the other's boot it may hear it; where both have heard, they are in
+-- one session.
 use Rattle.std.proofs.Common.{◌≡◌, ℕ, ◌+◌, ◌<◌, ◌≤◌, Bool, true, false, nat_lt, inl, inr, List, [], ◌∷◌, refl, ap, arith}
 use Rattle.std.proofs.lemmas.Bool.{ltb-false}
 use Rattle.std.proofs.Math.Logic.{∥∥₁_elim}
@@ -23,7 +24,7 @@ not-less m n h = grind (arith, h)
 less : (m n : ℕ) → m < n → nat_lt m n ≡ true
 less m n h = grind (arith, h)
 
--- of two numbers that are 0 or 1
+-- two numbers 0 or 1, whose sum is 0, are both 0
 both-none : (x y : Bool) → as_one x + as_one y ≡ 0 → (x ≡ false) × (y ≡ false)
 both-none true true h = absurd (omega (arith, h))
 both-none true false h = absurd (omega (arith, h))
@@ -62,7 +63,7 @@ module _ (r : Ranges) where
       → unheard (after_act r i moment (hello_sent v) (Hear (hello_of v) back os ps part)) < unheard v
   fewer_heard i moment v back os ps part low = fewer v (box_after r i v.mine (Hear (hello_of v) back os ps part)) low refl refl
 
-  -- one that has heard a gateway that is up isn't lone
+  -- a gateway that has heard the boot of one that is up isn't lone
   with-other : (i : GatewayId) (a b : Box) (ma mb : List Letter) (t : List Note) → Side r i a b ma mb t → b.up ≡ true → a.peer ≡ b.boot → a.synced ≡ true → a.lone ≡ false
   with-other i a b ma mb t side up of synced = elim (side.state synced) [ inl x ↦ absurd (x.unheard up of) | inr v ↦ v.lone ]
 

@@ -1,4 +1,4 @@
--- What holds of each world that can come about.
+-- The invariant: what holds of each world that can come about.
 use Rattle.std.specs.Prelude.{◌≡◌, ℕ, suc, Bool, true, false, not, cond, List, [], ◌∷◌, ◌++◌, ◌==◌, length, ◌<◌, ◌≤◌, ◌+◌, IsTrue, Some, None, ◌⊎◌}
 use Rattle.nat_types.specs.Same.{other}
 use Rattle.nat_types.specs.declared.gateways.GatewayId.{GatewayId}
@@ -14,18 +14,18 @@ use Rattle.spec_pair.specs.Talk.{Slot, Free, Pending, Doomed, Live, Closing, Hel
 use Rattle.spec_pair.proofs.Traced.{Covers, LetsGo, GoesAt}
 use Rattle.spec_pair.specs.World.{Scene}
 
--- the letter's records stand in the history at their numbers
+-- the letter's records are those of the history, at their numbers
 abbrev pub Within : Letter → List MachineRecord → Type 0
 Within l history = (n : ℕ) (r : MachineRecord) → nth l.records n ≡ Some r → nth history (l.first + n) ≡ Some r
 
--- nothing is loaded yet
+-- the box has loaded nothing yet
 pub record Fresh (a : Box) : Type 0 where
   pub table : (q : Key) → a.table q ≡ Free
   pub taken : a.taken ≡ 0
   pub loading : a.loading ≡ false
   pub wants : a.wants ≡ false
 
--- the peer is in the session, and is as it is seen
+-- the peer is in the session, and is as the view says
 pub record Real (a b : Box) (table : Key → Slot) (owned : ℕ → Bool) (want : Bool) (gone heard inn : List MachineRecord) : Type 0 where
   pub table_is : (q : Key) → b.table q ≡ table q
   pub owned_is : (p : ℕ) → b.owned p ≡ owned p
@@ -36,7 +36,7 @@ pub record Real (a b : Box) (table : Key → Slot) (owned : ℕ → Bool) (want 
   pub back : b.peer ≡ a.boot
   pub lone : b.lone ≡ false
 
--- a slot that gateway i can have at a port, by whose it is
+-- whether gateway i can have the slot at a port, by whether the port is its own
 abbrev pub is_proper : Bool → Slot → Bool
 is_proper own Free = true
 is_proper own (Pending e) = own
@@ -45,16 +45,16 @@ is_proper own (Live e) = own
 is_proper own (Closing e) = own
 is_proper own (Held e) = not own
 
--- 1 where it is so
+-- 1 for true and 0 for false
 abbrev pub bit : Bool → ℕ
 bit b = cond b 1 0
 
--- how often a port stands in a list
+-- how often a port is in a list
 abbrev pub times : ℕ → List ℕ → ℕ
 times p [] = 0
 times p (q ∷ qs) = bit (p == q) + times p qs
 
--- how often a port stands in a Grant
+-- how often a port is in a Grant
 abbrev pub gift : ℕ → MachineRecord → ℕ
 gift p (Install k e) = 0
 gift p (Accept k) = 0
@@ -69,12 +69,12 @@ gift p Want = 0
 gift p (Grant ports) = times p ports
 gift p (Owner first last) = 0
 
--- how often it stands in the Grants among these
+-- how often a port is in the Grants among these records
 abbrev pub gifts : ℕ → List MachineRecord → ℕ
 gifts p [] = 0
 gifts p (r ∷ rs) = gift p r + gifts p rs
 
--- a Want counts
+-- 1 for a Want, and 0 for any other record
 abbrev pub is_want : MachineRecord → ℕ
 is_want (Install k e) = 0
 is_want (Accept k) = 0
@@ -89,7 +89,7 @@ is_want Want = 1
 is_want (Grant ports) = 0
 is_want (Owner first last) = 0
 
--- a Grant counts
+-- 1 for a Grant, and 0 for any other record
 abbrev pub is_grant : MachineRecord → ℕ
 is_grant (Install k e) = 0
 is_grant (Accept k) = 0
@@ -104,34 +104,35 @@ is_grant Want = 0
 is_grant (Grant ports) = 1
 is_grant (Owner first last) = 0
 
--- how many Wants are among these
+-- how many Wants are among these records
 abbrev pub wants_in : List MachineRecord → ℕ
 wants_in [] = 0
 wants_in (r ∷ rs) = is_want r + wants_in rs
 
--- how many Grants are
+-- how many Grants are among these records
 abbrev pub grants_in : List MachineRecord → ℕ
 grants_in [] = 0
 grants_in (r ∷ rs) = is_grant r + grants_in rs
 
--- a letter for this life of an unsynced gateway is of the other's present boot, which knows that life
+-- a letter for this life of an unsynced gateway is of the other's present boot, and the other knows that life
 pub record Awaits (a b : Box) (their_mail : List Letter) : Type 0 where
   pub letters : (l : Letter) (n : ℕ) (r : MachineRecord) → In l their_mail → l.to ≡ a.boot → nth l.records n ≡ Some r → (l.boot ≡ b.boot) × (b.peer ≡ a.boot)
   pub fresh : (b.peer ≡ a.boot → ⊥) → Fresh a
 
 module _ (r : Ranges) where
-  -- Where the ports are. The ghost says of each key whose it is, also where its port is on its way or lost: there nothing stands at it.
+  -- Where the ports are. The ghost owner says of each key whose it is, also while its port is on its way or lost, where
+  -- the port has no entry.
   pub record Whereabouts (i : GatewayId) (phase : Key → Phase) (owner : Key → GatewayId) (mine theirs : ℕ → Bool) (want their_want : Bool) (out inn : List MachineRecord) : Type 0 where
     pub mine_is : (k : Key) → keyed mine k ≡ true → owns owner i k ≡ true
     pub theirs_is : (k : Key) → keyed theirs k ≡ true → owns owner i k ≡ false
     pub nobody : (k : Key) → keyed mine k ≡ false → keyed theirs k ≡ false → phase k ≡ Nothing
-    -- each port of the ranges is owned by one, or stands once in a Grant under way
+    -- each port of the ranges is owned by one gateway, or is once in a Grant under way
     pub places : (p : ℕ) → bit (mine p) + (bit (theirs p) + (gifts p out + gifts p inn)) ≡ bit (r.in_ranges p)
-    -- an open Want is under way, or its Grant is
+    -- where a Want is open, it or its Grant is under way, and else neither
     pub my_want : wants_in out + grants_in inn ≡ bit want
     pub their_wants : wants_in inn + grants_in out ≡ bit their_want
 
-  -- some of the runs are named, in the session with a
+  -- b, in the session with a, has taken some of the runs of the batch
   pub record Naming (j : GatewayId) (a b : Box) (os : List Run) : Type 0 where
     pub front : List Run
     pub back : List Run
@@ -144,7 +145,7 @@ module _ (r : Ranges) where
     pub owned : (p : ℕ) → b.owned p ≡ left_to r j front p
     pub named : b.named ≡ last_named 0 front
 
-  -- all of them are, and some of these pairs are loaded
+  -- b has taken all runs of the batch, and loaded some of its pairs
   pub record Part (j : GatewayId) (a b : Box) (os : List Run) (ps : List Pair) : Type 0 where
     pub front : List Pair
     pub back : List Pair
@@ -156,7 +157,7 @@ module _ (r : Ranges) where
     pub owned : (p : ℕ) → b.owned p ≡ left_to r j os p
     pub table : (q : Key) → b.table q ≡ load (keyed (left_to r j os)) empty front q
 
-  -- the peer is to load these, which stand first among the records pushed
+  -- the peer is to load these runs and pairs, whose batch is first among the records pushed
   pub record Loads (i : GatewayId) (a b : Box) (phase : Key → Phase) (owner : Key → GatewayId) (table : Key → Slot) (owned : ℕ → Bool) (want : Bool) (gone heard inn : List MachineRecord) : Type 0 where
     pub os : List Run
     pub ps : List Pair
@@ -172,20 +173,20 @@ module _ (r : Ranges) where
     pub none_closing : (k : Key) → IsTrue (owns owner (other i) k) → closing (phase k) ≡ None
     pub progress : Fresh b ⊎ (Naming (other i) a b os ⊎ Part (other i) a b os ps)
 
-  -- What a synced gateway that isn't lone may take its peer to be: while both are synced it is so. After a crash of
-  -- the peer it is what the peer was, and once a greater boot is heard what it will be when it has loaded the batch.
+  -- What a synced gateway that isn't lone may take its peer to be. While both are synced, the peer is so. After a crash
+  -- of the peer, the peer was so; and once a greater boot is heard, the peer will be so when it has loaded the batch.
   pub record View (i : GatewayId) (a b : Box) (their_mail : List Letter) (t : List Note) : Type 0 where
     pub lone : a.lone ≡ false
     pub phase : Key → Phase
     pub table : Key → Slot
-    -- whose each key is, the ports that the peer owns, and its Want
+    -- the ghost owner of each key, the ports that the peer owns, and whether it has an open Want
     pub owner : Key → GatewayId
     pub their_owned : ℕ → Bool
     pub their_want : Bool
     -- the records that a pushed: those that the peer took, and those under way
     pub gone : List MachineRecord
     pub out : List MachineRecord
-    -- and those that the peer pushed
+    -- the records that the peer pushed: those that a took, and those under way
     pub heard : List MachineRecord
     pub inn : List MachineRecord
     pub sent : a.sent ≡ gone ++ out
@@ -200,7 +201,7 @@ module _ (r : Ranges) where
     pub owes : (m : ℕ) → a.promised ≡ Some m → (inn ≡ []) × (b.synced ≡ false)
     pub loads : b.synced ≡ false → b.up ≡ true → a.peer ≡ b.boot → Loads i a b phase owner table their_owned their_want gone heard inn
 
-  -- what holds of a lone gateway: its table alone covers what is open
+  -- what holds of a lone gateway: its table alone holds each open pair
   pub record Alone (i : GatewayId) (a b : Box) (t : List Note) : Type 0 where
     pub lone : a.lone ≡ true
     pub other_out : b.synced ≡ false
@@ -219,7 +220,7 @@ module _ (r : Ranges) where
     pub goes : a.up ≡ true → GoesAt i a.table t
     pub letters : a.up ≡ true → (a.synced ≡ true → a.lone ≡ false) → (l : Letter) → In l my_mail → l.boot ≡ a.boot → l.to ≡ a.peer → Within l a.sent
     pub boots : (l : Letter) → In l my_mail → (l.boot ≤ a.boot) × (l.to ≤ b.boot)
-    -- what is not handed in isn't sent
+    -- no letter that was sent has a record that is only promised
     pub barred : (m : ℕ) → a.promised ≡ Some m → (l : Letter) → In l my_mail → l.boot ≡ a.boot → l.to ≡ a.peer → (n : ℕ) (q : MachineRecord) → nth l.records n ≡ Some q → l.first + n < m
     pub known : a.up ≡ true → (l : Letter) → In l my_mail → l.boot ≡ a.boot → l.to ≤ a.peer
     pub peer_at : a.peer ≤ b.boot

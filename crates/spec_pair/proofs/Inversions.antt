@@ -1,4 +1,4 @@
--- What a slot or a record under way tells of a port's phase.
+-- What a slot, or a record under way, says of its port's phase.
 use Rattle.std.proofs.Common.{◌≡◌, Bool, true, false, List, [], ◌∷◌, Some, None, refl, inl, inr, ◌⊎◌}
 use Rattle.nat_types.specs.declared.pairs.Endpoint.{Endpoint}
 use Rattle.nat_types.specs.declared.pairs.Key.{Key}
@@ -219,7 +219,7 @@ shared_slot false (Asked e) n h = h
 shared_slot false (Staying e) n h = h
 shared_slot false (Leaving e) n h = absurd (cc)
 
--- what translates at one is held by both
+-- a pair that translates at one gateway is held by both
 pub translated_shared : (own : Bool) (p : Phase) (n : Endpoint) → translated (slot_at own p) ≡ Some n → shared p ≡ Some n
 translated_shared true Nothing n h = absurd (cc)
 translated_shared true (Proposed e) n h = absurd (cc)
@@ -290,7 +290,7 @@ closing-give_up (Asked e) = refl
 closing-give_up (Staying e) = refl
 closing-give_up (Leaving e) = refl
 
--- what translates at its owner isn't closing
+-- a pair that translates at its owner isn't being closed
 pub translated_open : (p : Phase) (n : Endpoint) → translated (owner_slot p) ≡ Some n → closing p ≡ None
 translated_open Nothing n h = refl
 translated_open (Proposed e) n h = refl

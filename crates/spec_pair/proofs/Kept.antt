@@ -1,4 +1,4 @@
--- What is promised of each world that can come about.
+-- The promises hold of each world that can come about.
 use Rattle.std.proofs.Common.{◌≡◌, ℕ, true, ◌||◌, List, [], ◌∷◌, ◌++◌, length, ◌+◌, ◌≤◌, IsTrue, Some, refl, sym, ap, ◌∙◌, inl, inr, ◌↔◌, zero-le, arith}
 use Rattle.std.proofs.lemmas.Bool.{and_parts, both_ways, cases_Bool, or_left, or_right}
 use Rattle.nat_types.specs.declared.gateways.GatewayId.{GatewayId}
@@ -119,7 +119,7 @@ module _ (r : Ranges) where
   none_left p [] h = refl
   none_left p (x ∷ rs) h = absurd (cc)
 
-  -- where both are synced, gateway 0's view of gateway 1 is how it is
+  -- where both are synced, gateway 0's view of gateway 1 is true of gateway 1
   view_of_zero : (s : Scene) → Inv r Zero s → s.mine.synced ≡ true → s.theirs.synced ≡ true → View r Zero s.mine s.theirs s.their_mail s.trace
   view_of_zero s v sa sb = elim (v.here.state sa) [ inl x ↦ absurd (both_ways s.theirs.synced x.other_out sb) | inr x ↦ x ]
 

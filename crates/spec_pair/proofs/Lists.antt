@@ -13,7 +13,7 @@ pub nth_at : {A : Type 0} (xs ys : List A) → nth (xs ++ ys) (length xs) ≡ nt
 nth_at [] ys = refl
 nth_at (x ∷ xs) ys = nth_at xs ys
 
--- the first of a list
+-- the value at place 0 of a list is its first
 pub nth_first : {A : Type 0} (ys : List A) (r : A) → nth ys 0 ≡ Some r → (rest : List A) × (ys ≡ r ∷ rest)
 nth_first [] r h = absurd (cc)
 nth_first (y ∷ ys) r h = (ys, cc)

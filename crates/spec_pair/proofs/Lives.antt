@@ -1,4 +1,4 @@
--- A gateway crashes, boots, and hears a greater boot while it is unsynced.
+-- The invariant after a crash, after a boot, and where an unsynced gateway hears a greater boot.
 use Rattle.std.proofs.Common.{◌≡◌, ℕ, Bool, true, false, cond, List, ◌∷◌, ◌<◌, ◌≤◌, refl, sym, ap, ◌∙◌, inl, inr, arith, zero-le}
 use Rattle.std.proofs.lemmas.Bool.{cases_eq, both_ways, cases_Bool}
 use Rattle.nat_types.proofs.Offered.{same-self}
@@ -28,7 +28,7 @@ module _ (owner : Key → GatewayId) where
   lets_boot moment g i n ph t l s k e own cl = l (still (same g i) (is_synced g t) s) k e own cl
 
 module _ (r : Ranges) where
-  -- where one isn't synced, the other is
+  -- where one gateway isn't synced, the other is
   pub other_synced : (i : GatewayId) (s : Scene) → Inv r i s → s.mine.synced ≡ false → s.theirs.synced ≡ true
   other_synced i s v h = elim v.some_synced [ inl x ↦ let bad : true ≡ false = sym x ∙ h in absurd (cc) | inr x ↦ x ]
 
@@ -127,7 +127,7 @@ module _ (r : Ranges) where
         };
       }
 
-  -- an unsynced gateway that has loaded something knows the other's boot
+  -- an unsynced gateway that doesn't know the other's boot has loaded nothing
   pub idle : (i : GatewayId) (s : Scene) → Inv r i s → s.mine.up ≡ true → s.mine.synced ≡ false → (s.mine.peer ≡ s.theirs.boot → ⊥) → Fresh s.mine
   idle i s v up sa no_peer =
       let there : Side r (other i) s.theirs s.mine s.their_mail s.my_mail s.trace = v.there in

@@ -1,4 +1,4 @@
--- What stands next can be sent and taken, and then less is to be done.
+-- A record that stands next can be sent and taken, and then less is left to do.
 use Rattle.std.proofs.Common.{◌≡◌, ℕ, zero, suc, Bool, true, false, ◌+◌, ◌<◌, inl, inr, List, [], ◌∷◌, ◌++◌, None, Some, Option, cond, take, drop, refl, sym, ap, subst, ◌∙◌, arith}
 use Rattle.std.proofs.lemmas.List.{drop-append-le}
 use Rattle.nat_types.specs.Same.{other}
@@ -42,7 +42,7 @@ weighs Want = omega arith
 weighs (Grant ports) = omega arith
 weighs (Owner first last) = omega arith
 
--- the one of two lists
+-- equal lists of one record have equal weights
 one-is : (p q : MachineRecord) → (p ∷ []) ≡ (q ∷ []) → weight p ≡ weight q
 one-is p q h = cc
 
@@ -68,7 +68,7 @@ nil-right : {A : Type 0} (xs : List A) → xs ≡ xs ++ []
 nil-right [] = refl
 nil-right (x ∷ xs) = ap (λ ys. x ∷ ys) (nil-right xs)
 
--- the records that were pushed, of which these are more, and weigh less than the one that is taken
+-- the records pushed before, then more records, which weigh less than the one that is taken
 abbrev pub Pushes : Box → Box → MachineRecord → Type 0
 Pushes a b q = (zs : List MachineRecord) × (b.sent ≡ a.sent ++ zs) × (to_do zs < weight q)
 

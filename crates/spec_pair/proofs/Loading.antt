@@ -57,11 +57,11 @@ past_owners : (os : List Run) (rs out : List MachineRecord) (n : ℕ) → nth (o
 past_owners [] rs out n = let e : 0 + n ≡ n = omega arith in ap (nth (rs ++ out)) e
 past_owners (o ∷ os) rs out n = let e : suc (length os) + n ≡ suc (length os + n) = omega arith in ap (nth (Owner o.first o.last ∷ (owners os rs ++ out))) e ∙ past_owners os rs out n
 
--- the record behind Begin and the Owners of the front
+-- the next record of the batch is the first of the rest after Begin and the Owners taken so far
 next_name : (front back : List Run) (ps : List Pair) (out : List MachineRecord) → nth (batch (front ++ back) ps ++ out) (suc (length front)) ≡ nth (owners back (puts ps ++ Done ∷ []) ++ out) 0
 next_name front back ps out = next_owner front back (puts ps ++ Done ∷ []) out
 
--- the record behind Begin, the Owners and the Puts of the front
+-- the next record of the batch is the first of the rest after Begin, the Owners, and the Puts taken so far
 pub next_load : (os : List Run) (front back : List Pair) (out : List MachineRecord) → nth (batch os (front ++ back) ++ out) (suc (length os + length front)) ≡ nth ((puts back ++ Done ∷ []) ++ out) 0
 next_load os front back out = past_owners os (puts (front ++ back) ++ Done ∷ []) out (length front) ∙ next_put front back out
 
@@ -80,7 +80,7 @@ loaded_translates false e = refl
 some_record : (a b : MachineRecord) → Some a ≡ Some b → a ≡ b
 some_record a b h = cc
 
--- only a Put comes before the end, and then the next
+-- a Put in the batch is the next pair
 is_put : (back : List Pair) (out : List MachineRecord) (p : Pair) → nth ((puts back ++ Done ∷ []) ++ out) 0 ≡ Some (Put p.key p.endpoint) → (rest : List Pair) × (back ≡ p ∷ rest)
 is_put [] out p h = let e : Done ≡ Put p.key p.endpoint = some_record Done (Put p.key p.endpoint) h in absurd (cc)
 is_put (x ∷ back) out p h =
@@ -93,12 +93,12 @@ is_end : (back : List Pair) (out : List MachineRecord) → nth ((puts back ++ Do
 is_end [] out h = refl
 is_end (x ∷ back) out h = let e : Put x.key x.endpoint ≡ Done = some_record (Put x.key x.endpoint) Done h in absurd (cc)
 
--- what comes next: a Put or the end
+-- the next record after the Owners is a Put or Done
 some_load : (back : List Pair) (out : List MachineRecord) (q : MachineRecord) → nth ((puts back ++ Done ∷ []) ++ out) 0 ≡ Some q → (q ≡ Done) ⊎ ((p : Pair) × (rest : List Pair) × (back ≡ p ∷ rest) × (q ≡ Put p.key p.endpoint))
 some_load [] out q h = inl (sym (some_record Done q h))
 some_load (p ∷ back) out q h = inr (p, back, refl, sym (some_record (Put p.key p.endpoint) q h))
 
--- an Owner, or no run is left
+-- the next record is an Owner, or no run is left
 some_run : (back : List Run) (rs out : List MachineRecord) (q : MachineRecord) → nth (owners back rs ++ out) 0 ≡ Some q → (back ≡ []) ⊎ ((o : Run) × (rest : List Run) × (back ≡ o ∷ rest) × (q ≡ Owner o.first o.last))
 some_run [] rs out q h = inl refl
 some_run (o ∷ back) rs out q h = inr (o, back, refl, sym (some_record (Owner o.first o.last) q h))
@@ -107,7 +107,7 @@ run_of : ℕ → ℕ → Run
 run_of a b = record { first = a; last = b }
 
 module _ (r : Ranges) where
-  -- What an unsynced gateway reads: the record that stands behind those that it took, in the session's batch.
+  -- What an unsynced gateway reads: the next record of the session's batch after those that it took.
   pub record Reading (i : GatewayId) (s : Scene) (q : MachineRecord) : Type 0 where
     pub view : View r (other i) s.theirs s.mine s.my_mail s.trace
     pub loads : Loads r (other i) s.theirs s.mine view.phase view.owner view.table view.their_owned view.their_want view.gone view.heard view.inn
@@ -132,7 +132,7 @@ module _ (r : Ranges) where
         stands = ap (λ y. nth (y ++ view.out) s.mine.taken) (sym loads.batch_is) ∙ ap (λ y. nth y s.mine.taken) (sym view.sent) ∙ ap (nth s.theirs.sent) (sym x.number) ∙ stands;
       }
 
-  -- the scene after a step of the loading, which stays unsynced
+  -- the invariant after a step of the loading that leaves the gateway unsynced
   still_loading : (i : GatewayId) (s : Scene) (a2 : Box) (t2 : List Note) (q : MachineRecord) → Inv r i s → Reading i s q → s.mine.synced ≡ false
       → a2.up ≡ s.mine.up → a2.boot ≡ s.mine.boot → a2.synced ≡ false → a2.peer ≡ s.mine.peer → a2.sent ≡ s.mine.sent → a2.promised ≡ s.mine.promised
       → (g : ((j : GatewayId) → is_synced j t2 ≡ is_synced j s.trace)) → Fits t2 → Silent t2
@@ -188,14 +188,14 @@ module _ (r : Ranges) where
         };
       }
 
-  -- the record that comes while the Owners or the Puts are loaded
+  -- the record that comes while Owners or Puts are loaded is the next of the batch
   comes_name : (i : GatewayId) (s : Scene) (q : MachineRecord) (x : Reading i s q) (g : Naming r (other (other i)) s.theirs s.mine x.loads.os) → nth (owners g.back (puts x.loads.ps ++ Done ∷ []) ++ x.view.out) 0 ≡ Some q
   comes_name i s q x g = sym (next_name g.front g.back x.loads.ps x.view.out) ∙ ap (λ y. nth (batch y x.loads.ps ++ x.view.out) (suc (length g.front))) (sym g.whole) ∙ ap (nth (batch x.loads.os x.loads.ps ++ x.view.out)) (sym g.taken) ∙ x.stands
 
   comes_next : (i : GatewayId) (s : Scene) (q : MachineRecord) (x : Reading i s q) (g : Part r (other (other i)) s.theirs s.mine x.loads.os x.loads.ps) → nth ((puts g.back ++ Done ∷ []) ++ x.view.out) 0 ≡ Some q
   comes_next i s q x g = sym (next_load x.loads.os g.front g.back x.view.out) ∙ ap (λ y. nth (batch x.loads.os y ++ x.view.out) (suc (length x.loads.os + length g.front))) (sym g.whole) ∙ ap (nth (batch x.loads.os x.loads.ps ++ x.view.out)) (sym g.taken) ∙ x.stands
 
-  -- once all are named the Puts begin
+  -- once all runs are named the Puts begin
   turns : (i : GatewayId) (s : Scene) (q : MachineRecord) (x : Reading i s q) (g : Naming r (other (other i)) s.theirs s.mine x.loads.os) → g.back ≡ [] → Part r (other (other i)) s.theirs s.mine x.loads.os x.loads.ps
   turns i s q x g none =
       let all : x.loads.os ≡ g.front = g.whole ∙ ap (λ y. g.front ++ y) none ∙ append-nil g.front in
@@ -212,7 +212,7 @@ module _ (r : Ranges) where
         table = g.table;
       }
 
-  -- where no Owner comes, all are named
+  -- where a record other than an Owner comes, all runs are named
   in_part : (i : GatewayId) (s : Scene) (q : MachineRecord) (x : Reading i s q) → s.mine.loading ≡ true → ((a b : ℕ) → q ≡ Owner a b → ⊥) → Part r (other (other i)) s.theirs s.mine x.loads.os x.loads.ps
   in_part i s q x h none = elim x.loads.progress [
     | inl f ↦ flag s.mine.loading h f.loading
@@ -400,7 +400,7 @@ module _ (r : Ranges) where
             (λ h u. flag s.theirs.synced sb h);
       }
 
-  -- what is next in the batch is new
+  -- the next pair of the batch is new where it is put
   next_new : (owned : Key → Bool) (table : Key → Slot) (front : List Pair) (p : Pair) (rest : List Pair) → AreLoadable r owned table (front ++ p ∷ rest) → (load owned table front p.key ≡ Free) × ((q : Key) → held (load owned table front q) ≡ Some p.endpoint → ⊥) × IsTrue (r.in_ranges p.key.port.0)
   next_new owned table [] p rest h = (h.0, h.1, h.2)
   next_new owned table (x ∷ front) p rest h = next_new owned (set_at table x.key (loaded_slot owned x.key x.endpoint)) front p rest h.3
@@ -416,7 +416,7 @@ module _ (r : Ranges) where
         m g.loading is_new.2 (g.table e.0.key ∙ is_new.0) (λ q h. is_new.1 q (ap held (sym (g.table q)) ∙ h))
   ]
 
-  -- nothing out of place comes
+  -- no record out of place comes
   never_misplaced : (i : GatewayId) (s : Scene) (l : Letter) (n : ℕ) (q : MachineRecord) → Inv r i s → s.mine.synced ≡ false → In l s.their_mail → StandsNext s.mine l n q → IsMisplaced r s.mine q → ⊥
   never_misplaced i s l n q v sa sent reads lost =
       let x : Reading i s q = reading i s l n q v sa sent reads in

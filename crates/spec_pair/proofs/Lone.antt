@@ -1,4 +1,4 @@
--- What a lone gateway does.
+-- The invariant after each act of a lone gateway.
 use Rattle.std.proofs.Common.{◌≡◌, ℕ, Bool, true, false, not, ◌&&◌, cond, List, ◌∷◌, IsTrue, Some, None, refl, sym, ap, ◌∙◌, inl, inr}
 use Rattle.std.proofs.lemmas.Bool.{both_ways, cases_Bool, and_from, or_left}
 use Rattle.nat_types.proofs.Offered.{pair-eq, pair-self}
@@ -40,7 +40,7 @@ module _ (r : Ranges) where
   pub alone_of : (i : GatewayId) (s : Scene) → Inv r i s → s.mine.synced ≡ true → s.mine.lone ≡ true → Alone r i s.mine s.theirs s.trace
   alone_of i s v sa l = elim (v.here.state sa) [ inl x ↦ x | inr x ↦ flag s.mine.lone l x.lone ]
 
-  -- the world after an act of a lone gateway, which changes its table and adds a note
+  -- the invariant after an act of a lone gateway, which changes its table and adds a note
   lone_step : (i : GatewayId) (s : Scene) (table : Key → Slot) (t2 : List Note) → Inv r i s → s.mine.synced ≡ true → Alone r i s.mine s.theirs s.trace
       → ((j : GatewayId) → is_synced j t2 ≡ is_synced j s.trace) → Fits t2 → Silent t2 → GoesAt i table t2
       → ((k : Key) → is_proper (keyed s.mine.owned k) (table k) ≡ true) → ((k : Key) → keyed r.in_ranges k ≡ false → table k ≡ Free) → ((k q : Key) (e : Endpoint) → held (table k) ≡ Some e → held (table q) ≡ Some e → k ≡ q) → ((p : Pair) → IsTrue (is_open p t2) → held (table p.key) ≡ Some p.endpoint)

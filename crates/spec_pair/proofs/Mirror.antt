@@ -1,4 +1,4 @@
--- What one synced gateway may take the other to be, seen from the other.
+-- A synced gateway's view of the other, seen from the other.
 use Rattle.std.proofs.Common.{◌≡◌, ℕ, Some, true, false, List, refl, sym, ap, subst, ◌∙◌, inl, inr}
 use Rattle.nat_types.specs.Same.{other}
 use Rattle.nat_types.specs.declared.gateways.GatewayId.{GatewayId}
@@ -14,7 +14,7 @@ use Rattle.spec_pair.specs.World.{Scene, flip}
 use Rattle.spec_pair.proofs.Grants.{ports_flip}
 
 module _ (owner : Key → GatewayId) where
-  -- two tables that agree everywhere
+  -- what follows of one table follows of another that agrees with it everywhere
   pub matches_same : (ph : Key → Phase) (i : GatewayId) (table table2 : Key → Slot) (fl : List MachineRecord) → ((q : Key) → table2 q ≡ table q) → Matches owner ph i table fl → Matches owner ph i table2 fl
   matches_same ph i table table2 fl h m = record {
     slots = λ k. h k ∙ m.slots k;
@@ -39,7 +39,7 @@ module _ (owner : Key → GatewayId) where
   }
 
 module _ (r : Ranges) where
-  -- while both are synced, the view of one is that of the other
+  -- while both are synced, the view of one, turned round, is a view of the other
   pub mirror : (i : GatewayId) (a b : Box) (ma mb : List Letter) (t : List Note) → View r i a b mb t → a.synced ≡ true → b.synced ≡ true → ((l : Letter) → In l ma → l.boot ≡ a.boot → l.to ≡ a.peer → Within l a.sent) → ((m : ℕ) → b.promised ≡ Some m → ⊥) → View r (other i) b a ma t
   mirror i a b ma mb t v sa sb letters none =
       let real : Real a b v.table v.their_owned v.their_want v.gone v.heard v.inn = v.real sb in

@@ -58,7 +58,7 @@ alone_leads = record {
   one_is = λ k. refl;
 }
 
--- gateway 0's table then
+-- gateway 0's table after `alone`
 abbrev pub dropped_table : Key → Slot
 dropped_table k = cond (same_key (udp 20001) k) Free (cond (same_key (udp 20001) k) (Live (host 5001)) (cond (same_key (udp 20000) k) (Live (host 5000)) Free))
 
@@ -137,7 +137,7 @@ promising_leads = record {
   one_is = λ k. refl;
 }
 
--- two pairs are all of a table
+-- two pairs are all pairs of a table that holds them and nothing at the other keys
 those_two : (table : Key → Slot) (p q : Pair) → held (table p.key) ≡ Some p.endpoint → held (table q.key) ≡ Some q.endpoint → ((k : Key) → (p.key ≡ k → ⊥) → (q.key ≡ k → ⊥) → held (table k) ≡ None) → AreThose table (p ∷ q ∷ [])
 those_two table p q at_p at_q none x = (
   λ h. elim h [
@@ -174,7 +174,7 @@ apart_two = (
   ((λ x h. absurd h), tt),
 )
 
--- gateway 0's table once it is alone again
+-- gateway 0's table once it is lone again
 abbrev pub lone_table : Key → Slot
 lone_table k = revived (cond (same_key (udp 20001) k) (Pending (host 5001)) (cond (same_key (udp 20000) k) (Live (host 5000)) (cond (same_key (udp 20000) k) (Pending (host 5000)) Free)))
 

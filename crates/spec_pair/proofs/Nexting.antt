@@ -1,4 +1,4 @@
--- In one session neither took more than the other pushed; so where one took less, a record stands next.
+-- In one session neither took more than the other pushed. So where one took less, a record stands next.
 use Rattle.std.proofs.Common.{◌≡◌, ℕ, zero, suc, ◌+◌, ◌<◌, ◌≤◌, true, false, inl, inr, List, [], ◌∷◌, Some, length, refl, ap, sym, ◌∙◌, arith, drop}
 use Rattle.std.proofs.lemmas.Bool.{cases_Bool}
 use Rattle.std.proofs.lemmas.List.{length-append}

@@ -35,7 +35,7 @@ module _ (owner : Key → GatewayId) (moment : ℕ) where
     refuse_shared k t = let seen : (owns owner (other i) k ≡ false) × ((n : Endpoint) × ((ph k ≡ Refused n) ⊎ (ph k ≡ GivenUpRefused n)) × (on k inn ≡ [])) = when_refuse (owns owner (other i) k) k (ph k) k (on k inn) (comes k (Refuse k) t (self owner k)) in
         elim seen.1.1 [ inl p ↦ ap shared p | inr p ↦ ap shared p ]
 
-    -- what is held at a slot whose phase is shared, by slot
+    -- a pair that is shared by its phase is held in the table
     slot_shared : (k : Key) (n : Endpoint) (r : List MachineRecord) → Talks owner i mine out theirs (r ++ inn) ph → shared (ph k) ≡ Some n → held (mine k) ≡ Some n
     slot_shared k n r t h = ap held (t.here.slots k) ∙ shared_slot (owns owner i k) (ph k) n h
 
@@ -82,7 +82,7 @@ module _ (owner : Key → GatewayId) (moment : ℕ) where
     covers_deed (Pass k) t w may c l = c
     covers_deed (Skip r) t w may c l = c
 
-    -- an other gateway's note, and none of the actor's ports
+    -- a port that the actor owns isn't owned by the other gateway
     not_both : (j : GatewayId) (k : Key) → same j i ≡ false → IsTrue (owns owner i k) → IsTrue (owns owner j k) → ⊥
     not_both j k ne own its = let a : i ≡ owner k = same-eq i (owner k) own in let b : j ≡ owner k = same-eq j (owner k) its in let e : j ≡ i = b ∙ sym a in both_ways (same j i) ne (ap (λ x. same x i) e ∙ same-self i)
 
@@ -114,7 +114,7 @@ module _ (owner : Key → GatewayId) (moment : ℕ) where
     lets_deed j (Pass k) t w may l = l
     lets_deed j (Skip r) t w may l = l
 
-    -- a table with another slot at one port translates the same elsewhere
+    -- a table with another slot at one port translates as before at every other port
     else_where : (k : Key) (s : Slot) (q : Key) → (k ≡ q → ⊥) → translated (set_at mine k s q) ≡ translated (mine q)
     else_where k s q ne = ap translated (set_other mine k s q ne)
 

@@ -1,4 +1,5 @@
--- Where a port stands between its owner and the other gateway: both slots and what is under way follow from it.
+-- The phase of a port between its owner and the other gateway: both slots, and the records under way on the port,
+-- follow from it.
 use Rattle.std.specs.Prelude.{◌≡◌, Bool, true, false, cond, List, [], ◌∷◌, IsTrue, Option, Some, None}
 use Rattle.nat_types.specs.Same.{other, same_key, same}
 use Rattle.nat_types.specs.declared.gateways.GatewayId.{GatewayId}
@@ -7,9 +8,9 @@ use Rattle.nat_types.specs.declared.pairs.Endpoint.{Endpoint}
 use Rattle.nat_types.specs.declared.pairs.Key.{Key}
 use Rattle.spec_pair.specs.Talk.{Slot, Free, Pending, Doomed, Live, Closing, Held, MachineRecord, Install, Accept, Refuse, Ask, Yes, No, Begin, Put, Done, Want, Grant, Owner, on, held, set_at, Deed, Propose, Close, Use, Agree, Yield, Reject, Agreed, Rejected, Leave, Stay, Left, Stayed, Pass, Skip, IsLost, IsUnbound, translated}
 
--- Where a port stands between the two. Proposed, Accepted, Refused: an Install, its Accept or its Refuse is under way;
--- GivenUp, GivenUpRefused: so is one of a proposal given up. Shared: agreed, nothing under way; Asked, Staying, Leaving:
--- an Ask, its No or its Yes is under way.
+-- The phase of a port between the two gateways. Proposed, Accepted, Refused: an Install, its Accept or its Refuse is
+-- under way. GivenUp, GivenUpRefused: the Install, or its Refuse, of a proposal given up is under way. Shared: the pair
+-- is agreed, and nothing is under way. Asked, Staying, Leaving: an Ask, its No or its Yes is under way.
 pub data Phase : Type 0 where
   Nothing : Phase
   Proposed : (endpoint : Endpoint) → Phase
@@ -22,14 +23,14 @@ pub data Phase : Type 0 where
   Staying : (endpoint : Endpoint) → Phase
   Leaving : (endpoint : Endpoint) → Phase
 
--- what follows from a state
+-- what follows from a phase
 pub record State : Type 0 where
   pub owner : Slot
   pub other : Slot
-  -- under way on the port: from the owner, and to it
+  -- the records under way on the port: from the owner, and to it
   pub out : Key → List MachineRecord
   pub back : Key → List MachineRecord
-  -- the endpoint, where both hold the pair; and where the owner has released it
+  -- the endpoint, where both hold the pair; and the endpoint, where the owner has released the pair
   pub shared : Option Endpoint
   pub closing : Option Endpoint
   -- the proposal was given up
@@ -46,7 +47,7 @@ state owner other out back shared closing given_up = record {
   given_up = given_up;
 }
 
--- nothing is under way
+-- no record is under way
 abbrev pub none : Key → List MachineRecord
 none k = []
 
@@ -63,7 +64,7 @@ state_of (Asked e) = state (Closing e) (Held e) (λ k. Ask k ∷ []) none (Some 
 state_of (Staying e) = state (Closing e) (Held e) none (λ k. No k ∷ []) (Some e) (Some e) false
 state_of (Leaving e) = state (Closing e) Free none (λ k. Yes k ∷ []) None (Some e) false
 
--- its columns
+-- The columns of the table of states, one function each.
 abbrev pub owner_slot : Phase → Slot
 owner_slot p = (state_of p).owner
 
@@ -85,15 +86,15 @@ closing p = (state_of p).closing
 abbrev pub is_given_up : Phase → Bool
 is_given_up p = (state_of p).given_up
 
--- the slot of a gateway, by whether the port is its own
+-- the slot of a gateway at a port, by whether the port is its own
 abbrev pub slot_at : Bool → Phase → Slot
 slot_at own p = cond own (owner_slot p) (other_slot p)
 
--- what is under way from it on the port
+-- the records under way from a gateway on the port
 abbrev pub flight_at : Bool → Key → Phase → List MachineRecord
 flight_at own k p = cond own (from_owner k p) (to_owner k p)
 
--- an Accept of the port is under way
+-- whether an Accept of the port is under way
 abbrev pub has_accept : Key → List MachineRecord → Bool
 has_accept k [] = false
 has_accept k (Install q e ∷ rs) = has_accept k rs
@@ -109,7 +110,7 @@ has_accept k (Want ∷ rs) = has_accept k rs
 has_accept k (Grant ps ∷ rs) = has_accept k rs
 has_accept k (Owner a b ∷ rs) = has_accept k rs
 
--- behind each Install that was given up stands the Accept, of another port for the endpoint, for which it was
+-- after each Install that was given up comes the Accept, of another port for its endpoint, for which it was given up
 abbrev pub Excused : (Key → Phase) → List MachineRecord → Type 0
 Excused phase [] = Unit {0}
 Excused phase (Install k e ∷ rs) = (phase k ≡ GivenUp e → (q : Key) × (phase q ≡ Accepted e) × IsTrue (has_accept q rs)) × Excused phase rs
@@ -173,7 +174,7 @@ abbrev pub owns : (Key → GatewayId) → GatewayId → Key → Bool
 owns owner i k = same i (owner k)
 
 module _ (owned : Key → Bool) where
-  -- the same, where it is known whose each key is
+  -- whether gateway i may do a deed, where it is known whose each key is
   abbrev pub MayDoOwned : GatewayId → (Key → Slot) → Deed → Type 0
   MayDoOwned i table (Propose k e) = IsTrue (owned k) × (table k ≡ Free) × IsUnbound table e
   MayDoOwned i table (Close k e) = IsTrue (owned k) × (table k ≡ Live e)
@@ -191,13 +192,13 @@ module _ (owned : Key → Bool) where
   MayDoOwned i table (Skip r) = IsLost owned table r
 
 module _ (owner : Key → GatewayId) where
-  -- one gateway's table, and what is under way from it, are as the ports' phases say
+  -- one gateway's table, and the records under way from it, are as the ports' phases say
   pub record Matches (phase : Key → Phase) (i : GatewayId) (table : Key → Slot) (flight : List MachineRecord) : Type 0 where
     pub slots : (k : Key) → table k ≡ slot_at (owns owner i k) (phase k)
     pub flights : (k : Key) → on k flight ≡ flight_at (owns owner i k) k (phase k)
     pub one_each : (k q : Key) (e : Endpoint) → held (table k) ≡ Some e → held (table q) ≡ Some e → k ≡ q
 
-  -- Both are. Only gateway 1 gives proposals up, and what it gave up is excused.
+  -- Both gateways' tables and records are. Only gateway 1 gives proposals up, and each of those is excused.
   pub record Talks (i : GatewayId) (mine : Key → Slot) (out : List MachineRecord) (theirs : Key → Slot) (inn : List MachineRecord) (phase : Key → Phase) : Type 0 where
     pub here : Matches phase i mine out
     pub there : Matches phase (other i) theirs inn

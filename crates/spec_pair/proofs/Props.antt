@@ -1,4 +1,4 @@
--- What is promised is a proposition, so it may be drawn from a world whose invariant is merely there.
+-- What is promised is a proposition. So it follows for each world of which the invariant is merely known to hold.
 use Rattle.std.proofs.Common.{inl, inr, ◌≡◌, ℕ, true, List, [], ◌∷◌, ◌++◌, ◌+◌, Some, reverse, sym, ap, subst, ◌∙◌}
 use Rattle.std.proofs.Math.Logic.{∥∥₁_elim}
 use Rattle.std.proofs.Props.{props}
@@ -47,7 +47,7 @@ module _ (r : Ranges) where
   kept_prop : (s : Scene) → IsProp (IsKept s.trace (tables_of s))
   kept_prop s = hlevel (fits_prop s.trace, silent_prop s.trace, props)
 
-  -- the invariant holds of each
+  -- the invariant holds of each world that can come about
   pub inv_world : (s : Scene) → IsWorld r s → ∥ Inv r Zero s ∥₁
   inv_world s w = ∥∥₁_elim w (hlevel) (λ v. ∣ subst (λ (x : Scene). Inv r Zero x) v.ends (inv_run r v.events (founding r) (inv_start r) v.allowed) ∣₁)
 
@@ -68,7 +68,7 @@ module _ (r : Ranges) where
   pub synced_in_order : (s : Scene) (trace : List Note) (i : GatewayId) → IsWorld r s → s.trace ≡ reverse trace → (box_in s i).synced ≡ is_synced i (reverse trace)
   synced_in_order s trace i w order = ∥∥₁_elim (inv_world s w) (hlevel (props)) (synced_here s i) ∙ ap (is_synced i) order
 
-  -- the trace in the order in which its notes were made
+  -- the promises, of the trace in the order in which its notes were made
   module _ (s : Scene) (trace : List Note) (w : IsWorld r s) (order : s.trace ≡ reverse trace) where
     pub fits_in_order : TheTrace.Fits trace
     fits_in_order = subst (λ (t : List Note). Fits t) order (promises s w).fits
@@ -82,7 +82,7 @@ module _ (r : Ranges) where
     pub goes_on_in_order : TheTrace.GoesOn (TableTranslates (tables_of s)) trace
     goes_on_in_order = subst (λ (t : List Note). GoesOn (TableTranslates (tables_of s)) t) order (promises s w).goes_on
 
-  -- what may be taken next is what the other pushed at that place
+  -- the record that may be taken next is the one that the other pushed at that place
   next_pushed : (i : GatewayId) (s : Scene) (l : Letter) (n : ℕ) (q : MachineRecord) → Inv r i s → s.theirs.synced ≡ true → In l s.their_mail → StandsNext s.mine l n q → nth s.theirs.sent s.mine.taken ≡ Some q
   next_pushed i s l n q v sb sent reads = elim (cases_Bool s.mine.synced) [
     | inl sa ↦

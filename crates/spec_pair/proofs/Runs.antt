@@ -1,4 +1,5 @@
--- The rows: each event is allowed where it comes, and the notes, tables and ports are worked out.
+-- The example runs: each event is allowed where it comes, and the notes, tables and ports are
+-- computed.
 use Rattle.std.proofs.Common.{◌≡◌, ℕ, Bool, true, false, not, ◌&&◌, ◌||◌, cond, nat_lt, ◌==◌, List, [], ◌∷◌, ◌++◌, Some, None, refl, sym, ap, subst, ◌∙◌, inl, inr, lit<, ◌≤◌, ◌<◌, IsTrue, arith, ne_eqb}
 use Rattle.std.proofs.lemmas.Bool.{and_parts, both_ways, cases_Bool, cases_eq, le-ltb, lt-ltb, ltb-false, ltb-true, not-true, or_left, or_right}
 use Rattle.nat_types.proofs.Offered.{pair-parts, key-false}
@@ -17,7 +18,7 @@ use Rattle.spec_pair.specs.World.{MachineEvent, Scene, AreAllowed, founding, aft
 use Rattle.spec_pair.proofs.Batches.{fixed_leaves, batch_new, batch_mirrored}
 use Rattle.spec_pair.proofs.Set.{cases_key}
 
--- a gateway that is up, with nothing promised, may send what it likes
+-- a gateway that is up, with nothing promised, may send any part of its records
 pub at_will : {n : ℕ} → (true ≡ true) × ((m : ℕ) → None ≡ Some m → n ≤ m)
 at_will = (refl, λ m h. absurd (cc))
 
@@ -27,7 +28,7 @@ promised_is n m h = cc
 pub some_pair : (k : Key) (e : Endpoint) (x : Pair) → k ≡ x.key → Some e ≡ Some x.endpoint → x ≡ pair_of k e
 some_pair k e x at h = let same_e : x.endpoint ≡ e = cc in pair-parts x (pair_of k e) (sym at) same_e
 
--- where one pair comes back, or is all of the table
+-- where one pair comes back, or is the only pair of the table
 pub back_one : (table : Key → Slot) (p : Pair) → is_back (table p.key) ≡ Some p.endpoint → ((k : Key) → (p.key ≡ k → ⊥) → is_back (table k) ≡ None) → AreBack table (p ∷ [])
 back_one table p here none x = (
   λ h. elim h [ inl e ↦ subst (λ (y : Pair). is_back (table y.key) ≡ Some y.endpoint) (sym e) here | inr b ↦ absurd b ],
@@ -46,7 +47,7 @@ within_one r table p inside none k e h = elim (cases_key p.key k) [ inl at ↦ a
 pub apart_one : (p : Pair) → AreApart (p ∷ [])
 apart_one p = ((λ q h. absurd h), tt)
 
--- a slot that was written over
+-- a slot written twice has what was written last
 over_one : (b : Bool) (x y : Slot) → cond b x (cond b y Free) ≡ cond b x Free
 over_one true x y = refl
 over_one false x y = refl
@@ -445,7 +446,7 @@ off_leads = record {
   one_is = λ k. refl;
 }
 
--- ports that move
+-- Runs with ports that move.
 in_run_is : (a b p : ℕ) → a ≤ p → p ≤ b → in_run a b p ≡ true
 in_run_is a b p h g = ap (λ x. not x && not (nat_lt b p)) (le-ltb p a h) ∙ ap (λ x. not x) (le-ltb b p g)
 
@@ -523,7 +524,7 @@ Wanted = after_events six_ports wanting Shared
 wanted-allowed : (xs : List MachineEvent) → AreAllowed six_ports xs Wanted → AreAllowed six_ports (sharing ++ wanting ++ xs) (founding six_ports)
 wanted-allowed xs a = allowed_join six_ports sharing (wanting ++ xs) (founding six_ports) sharing-allowed (allowed_join six_ports wanting xs Shared wanting-allowed a)
 
--- in flight the two ports are nobody's
+-- while a Grant is under way its two ports are owned by nobody
 pub wanting_leaves : LeavesPorts (sharing ++ wanting) loading_notes (20000 ∷ 20001 ∷ []) (40000 ∷ 40001 ∷ [])
 wanting_leaves = record { allowed = allowed_join six_ports sharing wanting (founding six_ports) sharing-allowed wanting-allowed; trace_is = refl; zero_is = refl; one_is = refl }
 

@@ -1,4 +1,4 @@
--- A datagram is sent.
+-- The invariant after a letter is sent.
 use Rattle.std.proofs.Common.{◌≡◌, ℕ, zero, suc, true, false, List, [], ◌∷◌, ◌++◌, ◌<◌, take, drop, ◌≤◌, Some, sym, ap, subst, ◌∙◌, inl, inr, arith, le_refl}
 use Rattle.std.proofs.lemmas.Bool.{cases_Bool}
 use Rattle.nat_types.specs.Same.{other}

@@ -1,4 +1,4 @@
--- A function with another value at one place, and lists of records on one port.
+-- A function with another value at one place, and the records of a list that are on one port.
 use Rattle.std.proofs.Common.{◌≡◌, true, false, not, cond, List, [], ◌∷◌, ◌++◌, refl, sym, ap, subst, ◌∙◌, inl, inr, ◌⊎◌}
 use Rattle.std.proofs.lemmas.Bool.{cases_Bool, both_ways}
 use Rattle.nat_types.proofs.Offered.{key-eq, key-true, key-false, endpoint-eq, endpoint-true}
@@ -22,7 +22,7 @@ set_same f k v q e = ap (λ b. cond b v (f q)) (key-true k q e)
 pub set_other : {A : Type 0} (f : Key → A) (k : Key) (v : A) (q : Key) → (k ≡ q → ⊥) → set_at f k v q ≡ f q
 set_other f k v q ne = ap (λ b. cond b v (f q)) (key-false k q ne)
 
--- what follows at each port from another function goes on following from it after a change at one
+-- what follows at each port from another function still follows after both change at one port
 pub moved : {A B : Type 0} (g : Key → B → A) (f f2 : Key → A) (p : Key → B) (k : Key) (v : B) → ((q : Key) → f q ≡ g q (p q)) → f2 k ≡ g k v → ((q : Key) → (k ≡ q → ⊥) → f2 q ≡ f q) → (q : Key) → f2 q ≡ g q (set_at p k v q)
 moved g f f2 p k v was here else_where q =
     elim (cases_key k q) [
@@ -30,7 +30,7 @@ moved g f f2 p k v was here else_where q =
       | inr ne ↦ else_where q ne ∙ was q ∙ ap (g q) (sym (set_other p k v q ne))
     ]
 
--- what is on a port in a list with one more at its end
+-- the records on a port of two lists joined are those of the one, then those of the other
 pub on-append : (k : Key) (xs ys : List MachineRecord) → on k (xs ++ ys) ≡ on k xs ++ on k ys
 on-append k [] ys = refl
 on-append k (x ∷ xs) ys = elim (is_on k x) as (λ b. cond b (x ∷ on k (xs ++ ys)) (on k (xs ++ ys)) ≡ cond b (x ∷ on k xs) (on k xs) ++ on k ys) [
@@ -44,7 +44,7 @@ on_here k r rs e = ap (λ b. cond b (r ∷ on k rs) (on k rs)) e
 pub on_elsewhere : (k : Key) (r : MachineRecord) (rs : List MachineRecord) → is_on k r ≡ false → on k (r ∷ rs) ≡ on k rs
 on_elsewhere k r rs e = ap (λ b. cond b (r ∷ on k rs) (on k rs)) e
 
--- with none on the port there is no Accept of it
+-- where no record is on the port, no Accept of it is under way
 pub no_accept : (k : Key) (rs : List MachineRecord) → on k rs ≡ [] → has_accept k rs ≡ false
 no_accept k [] e = refl
 no_accept k (Install q n ∷ rs) e = elim (cases_key k q) [ inl h ↦ cc (on_here k (Install q n) rs (key-true k q h)) | inr h ↦ no_accept k rs (sym (on_elsewhere k (Install q n) rs (key-false k q h)) ∙ e) ]

@@ -1,4 +1,5 @@
--- Steps of a gateway: joined, set behind others, and of one act or none.
+-- Steps of a gateway: two joined into one, set after other notes and letters, and of one act or
+-- none.
 use Rattle.std.proofs.Common.{append_assoc, append-nil, ◌≡◌, ℕ, List, [], ◌∷◌, ◌++◌, refl, sym, ap, subst, ◌∙◌}
 use Rattle.nat_types.specs.declared.gateways.GatewayId.{GatewayId}
 use Rattle.nat_types.specs.declared.notes.Note.{Note}
@@ -25,7 +26,7 @@ module _ (r : Ranges) where
   mailed_join i a [] ys m = refl
   mailed_join i a (x ∷ xs) ys m = mailed_join i (box_after r i a x) xs ys (letters_by a x ++ m)
 
-  -- two parts of a step, one behind the other
+  -- two steps, one after the other, make one
   pub steps_join : (i : GatewayId) (moment : ℕ) (a b c : Box) (ls : List Letter) (ws : List ℕ) (t t2 t3 : List Note) (m m2 m3 : List Letter) → IsStep r i moment a b ls ws t t2 m m2 → IsStep r i moment b c ls ws t2 t3 m2 m3 → IsStep r i moment a c ls ws t t3 m m3
   steps_join i moment a b c ls ws t t2 t3 m m2 m3 x y = record {
     acts = x.acts ++ y.acts;

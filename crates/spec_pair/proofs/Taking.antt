@@ -1,4 +1,4 @@
--- Whatever record stands at the next number, the act that the record table names takes it.
+-- Whatever record is at the next number, the act that the record table names takes it.
 use Rattle.std.proofs.Common.{◌≡◌, ◌==◌, ℕ, Bool, true, false, not, ◌&&◌, List, [], ◌∷◌, None, Some, Option, cond, filter, refl, sym, ap, ◌∙◌, inl, inr}
 use Rattle.std.proofs.lemmas.Bool.{cases_Bool, both_ways, and_from, and_parts, eqb-true}
 use Rattle.nat_types.specs.Same.{same}

@@ -13,7 +13,7 @@ use Rattle.spec_pair.proofs.Excuses.{excused_set, excused_push, has_accept-more,
 use Rattle.spec_pair.proofs.Set.{set_same, set_other, moved, on-append, on_here, on_elsewhere, other-owns, cases_key}
 
 module _ (owner : Key → GatewayId) where
-  -- one side, where one port gets another phase
+  -- a side is as the phases say, where one port gets another phase and the side another slot there
   pub side_set : (ph : Key → Phase) (i : GatewayId) (table table2 : Key → Slot) (fl fl2 : List MachineRecord) (k : Key) (p : Phase) → Matches owner ph i table fl
       → table2 k ≡ slot_at (owns owner i k) p → ((q : Key) → (k ≡ q → ⊥) → table2 q ≡ table q)
       → on k fl2 ≡ flight_at (owns owner i k) k p → ((q : Key) → (k ≡ q → ⊥) → on q fl2 ≡ on q fl)
@@ -34,7 +34,7 @@ module _ (owner : Key → GatewayId) where
     ];
   }
 
-  -- the side whose table stays
+  -- a side whose table stays is as the phases say, where one port gets another phase
   pub side_stay : (ph : Key → Phase) (i : GatewayId) (table : Key → Slot) (fl fl2 : List MachineRecord) (k : Key) (p : Phase) → Matches owner ph i table fl
       → table k ≡ slot_at (owns owner i k) p
       → on k fl2 ≡ flight_at (owns owner i k) k p → ((q : Key) → (k ≡ q → ⊥) → on q fl2 ≡ on q fl)
@@ -54,14 +54,14 @@ module _ (owner : Key → GatewayId) where
   pub push_else : (q : Key) (r : MachineRecord) (out : List MachineRecord) → is_on q r ≡ false → on q (out ++ r ∷ []) ≡ on q out
   push_else q r out e = on-append q out (r ∷ []) ∙ ap (λ z. on q out ++ z) (on_elsewhere q r [] e) ∙ append-nil (on q out)
 
-  -- what a side has at a port of known phase, by whose it is
+  -- the slot that a side has at a port of known phase
   pub slot_is : (ph : Key → Phase) (i : GatewayId) (table : Key → Slot) (fl : List MachineRecord) (k : Key) (b : Bool) (p : Phase) → Matches owner ph i table fl → owns owner i k ≡ b → ph k ≡ p → table k ≡ slot_at b p
   slot_is ph i table fl k b p m e h = m.slots k ∙ ap (λ c. slot_at c (ph k)) e ∙ ap (slot_at b) h
 
   pub flight_is : (ph : Key → Phase) (i : GatewayId) (table : Key → Slot) (fl : List MachineRecord) (k : Key) (b : Bool) (p : Phase) → Matches owner ph i table fl → owns owner i k ≡ b → ph k ≡ p → on k fl ≡ flight_at b k p
   flight_is ph i table fl k b p m e h = m.flights k ∙ ap (λ c. flight_at c k (ph k)) e ∙ ap (flight_at b k) h
 
-  -- At one port, whose b says whether it is the actor's, the phase goes from one to another: what has to be seen.
+  -- What has to be shown where a deed changes one port's phase. `b` says whether the port is the actor's.
   pub record Turn (b : Bool) (k : Key) (before after_act : Phase) (mine mine2 : Key → Slot) (ts ps : List MachineRecord) (inn : List MachineRecord) : Type 0 where
     pub slot : mine2 k ≡ slot_at b after_act
     pub slots : (q : Key) → (k ≡ q → ⊥) → mine2 q ≡ mine q

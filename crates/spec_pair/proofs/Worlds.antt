@@ -1,4 +1,4 @@
--- A list of allowed events, and one that is longer: by an event, or by the acts of a gateway's step.
+-- A longer list of allowed events: longer by an event, or by the acts of a gateway's step.
 use Rattle.std.proofs.Common.{◌≡◌, ℕ, List, [], ◌∷◌, ◌++◌, refl, sym, ap, subst, ◌∙◌}
 use Rattle.std.proofs.Math.Logic.{∥∥₁_elim}
 use Rattle.nat_types.specs.Same.{other}
@@ -11,13 +11,13 @@ use Rattle.spec_pair.specs.Ownership.{Ranges}
 use Rattle.spec_pair.specs.Step.{IsGiven, ReadsOnly, Follows, boxes_after, notes_after, mail_after, IsStep, WasSent, IsOff}
 use Rattle.spec_pair.specs.World.{Scene, MachineEvent, Outside, Can, IsWorld, after_act, flip, seen_by, founding, after_event, after_events, AreAllowed, box_in, mail_in, with_step}
 
--- these acts of a gateway, one after another
+-- the events of a gateway that does these acts one after another
 abbrev pub events_of : GatewayId → ℕ → List Act → List MachineEvent
 events_of i moment [] = []
 events_of i moment (x ∷ xs) = (record { by = i; moment = moment; act = x }) ∷ events_of i moment xs
 
 module _ (r : Ranges) where
-  -- one list of events behind another
+  -- one list of allowed events after another is a list of allowed events
   pub allowed_join : (xs ys : List MachineEvent) (s : Scene) → AreAllowed r xs s → AreAllowed r ys (after_events r xs s) → AreAllowed r (xs ++ ys) s
   allowed_join [] ys s a b = b
   allowed_join (e ∷ xs) ys s a b = (a.0, allowed_join xs ys (after_event r s e) a.1 b)
@@ -26,7 +26,7 @@ module _ (r : Ranges) where
   run_join [] ys s = refl
   run_join (e ∷ xs) ys s = run_join xs ys (after_event r s e)
 
-  -- the scene to which more events lead
+  -- a scene to which allowed events lead from a world is a world
   longer : (es : List MachineEvent) (s s2 : Scene) → AreAllowed r es s → after_events r es s ≡ s2 → IsWorld r s → IsWorld r s2
   longer es s s2 can to w = ∥∥₁_elim w (hlevel) (λ v. ∣ record {
     events = v.events ++ es;
@@ -48,7 +48,7 @@ module _ (r : Ranges) where
   can : (i : GatewayId) (s : Scene) (ls : List Letter) (ws : List ℕ) (x : Act) → WasSent ls s.their_mail → IsOff ws s.theirs → MayAct r i s.mine x → ReadsOnly ls ws x → Can r i s x
   can i s ls ws x from off may only = (may, λ l h. from l (only.0 l h), outside s ws x off only.1)
 
-  -- v is what gateway i sees
+  -- the acts of a step are allowed, where gateway i sees the scene v
   acts_allowed : (i : GatewayId) (moment : ℕ) (v : Scene) (ls : List Letter) (ws : List ℕ) (xs : List Act) → WasSent ls v.their_mail → IsOff ws v.theirs → Follows r i v.mine ls ws xs → AreAllowed r (events_of i moment xs) (seen_by i v)
   acts_allowed Zero moment v ls ws [] from off f = tt
   acts_allowed Zero moment v ls ws (x ∷ xs) from off f = (can Zero v ls ws x from off f.0 f.1, acts_allowed Zero moment (after_act r Zero moment v x) ls ws xs from off f.2)
@@ -64,7 +64,7 @@ module _ (r : Ranges) where
   acts_lead One moment v [] = refl
   acts_lead One moment v (x ∷ xs) = acts_lead One moment (after_act r One moment v x) xs
 
-  -- the scene that a step tells of is the one after its acts
+  -- the scene of a step is the scene after its acts
   step_leads : (i : GatewayId) (moment : ℕ) (v : Scene) (ls : List Letter) (ws : List ℕ) (new : Box) (t : List Note) (mail : List Letter) (x : IsStep r i moment v.mine new ls ws v.trace t v.my_mail mail)
       → after_acts i moment v x.acts ≡ record { mine = new; theirs = v.theirs; my_mail = mail; their_mail = v.their_mail; trace = t }
   step_leads i moment v ls ws new t mail x =

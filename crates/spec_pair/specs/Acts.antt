@@ -1,4 +1,4 @@
--- What one gateway may do, by what it knows itself, and what that changes, notes and sends.
+-- The acts: all that one gateway may do, by what it knows itself, and what each act changes, notes and sends.
 use Rattle.std.specs.Prelude.{Bool, IsTrue, List, Some, [], false, true, ℕ, ◌+◌, ◌<◌, ◌∷◌, ◌≡◌, ◌≤◌}
 use Rattle.nat_types.specs.Same.{other}
 use Rattle.nat_types.specs.declared.gateways.GatewayId.{GatewayId}
@@ -11,42 +11,46 @@ use Rattle.spec_pair.specs.Box.{AreLoadable, grants_ports, takes, booted, revive
 use Rattle.spec_pair.specs.Ownership.{left_to, Ranges, keyed, Run, AreRising, IsRisingRun, has, AreDistinct, LeaveRest}
 use Rattle.spec_pair.specs.Talk.{pair_of, MachineRecord, Refuse, Owner, Grant, Yes, Install, MayDo, Want, Accept, No, set_at, Begin, Ask, Live, Deed, Done, Free, taken_by, note, IsUnbound, noted_by, Put, translated}
 
--- what a gateway does, with its free choices
+-- an act of a gateway, with its free choices
 pub data Act : Type 0 where
-  -- synced and not lone: a deed that takes no record, or one that takes the next record of a letter
+  -- synced and not lone: the gateway does a deed that takes no record, or one that takes the next record of a letter
   Do : (d : Deed) → Act
   Take : (l : Letter) (offset : ℕ) (r : MachineRecord) (d : Deed) → Act
-  -- Synced, it hears a letter of a greater boot: these pairs come back, these runs are named, and these pairs are put.
-  -- In parts: these records are promised, and Done may be sent once the rest is handed in.
+  -- Synced, the gateway hears a letter of a greater boot of the peer: the pairs `back` translate again, the runs `os`
+  -- are named in its batch, and the pairs `ps` are put. Where `part` holds, the batch is promised, and Done may be sent
+  -- only after HandIn.
   Hear : (l : Letter) (back : List Pair) (os : List Run) (ps : List Pair) (part : Bool) → Act
+  -- all records that were promised may be sent now
   HandIn : Act
-  -- a record that comes while records are promised: it is taken and changes nothing
+  -- a record comes while the own batch is promised: the gateway takes it, and nothing else changes
   Ignore : (l : Letter) (offset : ℕ) (r : MachineRecord) → Act
-  -- unsynced, it hears a letter of a greater boot
+  -- unsynced, the gateway hears a letter of a greater boot of the peer
   HearAnew : (l : Letter) → Act
-  -- synced, it gets the operator's word that the peer's boot of this number is off
+  -- synced, the gateway gets the operator's word that the peer's boot of this number is off; the pairs `back` translate
+  -- again
   PeerOff : (number : ℕ) (back : List Pair) → Act
-  -- unsynced, it takes the records of a batch, and passes over the others
+  -- unsynced, the gateway takes the records of a batch, and passes over all others
   LoadBegin : (l : Letter) (offset : ℕ) → Act
   LoadOwner : (l : Letter) (offset : ℕ) (first last : ℕ) → Act
   LoadPut : (l : Letter) (offset : ℕ) (p : Pair) → Act
   LoadDone : (l : Letter) (offset : ℕ) → Act
   LoadSkip : (l : Letter) (offset : ℕ) (r : MachineRecord) → Act
-  -- it asks for ports; takes a Want and grants some; takes a Grant, of which these become owned; takes one that it didn't ask for
+  -- The gateway asks for ports; takes a Want and grants some ports; takes a Grant, of which the ports `got` become
+  -- owned; or takes a Grant for which it didn't ask.
   WantPorts : Act
   GrantPorts : (l : Letter) (offset : ℕ) (ports : List ℕ) → Act
   TakePorts : (l : Letter) (offset : ℕ) (ports got : List ℕ) → Act
   LosePorts : (l : Letter) (offset : ℕ) (ports : List ℕ) → Act
-  -- it sends any part of the session's records
+  -- the gateway sends a letter with any part of the session's records
   Send : (first count : ℕ) → Act
-  -- lone, it makes a pair, translates with one, drops one
+  -- lone, the gateway makes a pair, translates with one, or drops one
   LoneNew : (k : Key) (e : Endpoint) → Act
   LoneUse : (k : Key) (e : Endpoint) → Act
   LoneDrop : (k : Key) (e : Endpoint) → Act
   Crash : Act
   Boot : (number : ℕ) → Act
 
--- the letter that it reads
+-- the letter that the act reads, if any
 abbrev pub read_by : Act → List Letter
 read_by (Take l n r d) = l ∷ []
 read_by (Hear l back os ps part) = l ∷ []
@@ -62,12 +66,12 @@ read_by (LosePorts l n ports) = l ∷ []
 read_by (Ignore l n r) = l ∷ []
 read_by x = []
 
--- the letter that it sends
+-- the letter that the act sends, if any
 abbrev pub letters_by : Box → Act → List Letter
 letters_by a (Send first count) = letter a first count ∷ []
 letters_by a x = []
 
--- the notes, the newest first
+-- the notes that the act makes, the newest first
 abbrev pub act_notes : GatewayId → ℕ → Act → List Note
 act_notes i moment (Do d) = noted_by i moment d
 act_notes i moment (Take l n r d) = noted_by i moment d
@@ -82,19 +86,19 @@ act_notes i moment Crash = note i moment Crashed ∷ []
 act_notes i moment (Boot n) = note i moment (Booted n) ∷ []
 act_notes i moment x = []
 
--- each of these ports is owned, and nothing stands at it
+-- each of these ports is owned, and the table has nothing there
 abbrev pub AreSpare : Box → List ℕ → Type 0
 AreSpare a ports = (p : ℕ) → IsTrue (has p ports) → IsTrue (a.owned p) × IsVacant a.table p
 
 module _ (r : Ranges) where
-  -- of the granted ports these become owned, and no port is left out that lies in the ranges, isn't owned and has nothing at it
+  -- `got` has only granted ports, and each granted port that is in the ranges, isn't owned and has nothing in the table
   abbrev pub AreGot : Box → List ℕ → List ℕ → Type 0
   AreGot a ports got =
       (p : ℕ) → (IsTrue (has p got) → IsTrue (has p ports))
       × (IsTrue (has p ports) → IsTrue (r.in_ranges p) → a.owned p ≡ false
       → IsVacant a.table p → IsTrue (has p got))
 
-  -- a record out of place for an unsynced gateway: not of a batch, or not new
+  -- a record is out of place at an unsynced gateway: it is not of a batch, or not where it may come, or not new
   abbrev pub IsMisplaced : Box → MachineRecord → Type 0
   IsMisplaced a (Install k e) = Unit {0}
   IsMisplaced a (Accept k) = Unit {0}
@@ -112,7 +116,7 @@ module _ (r : Ranges) where
       a.loading ≡ true → ((k : Key) → a.table k ≡ Free) →
       IsRisingRun r.in_ranges a.named first last → ⊥
 
-  -- when gateway i, at a, may do it, by what it knows itself
+  -- whether gateway i, whose box is `a`, may do the act, by what it knows itself
   abbrev pub MayAct : GatewayId → Box → Act → Type 0
   MayAct i a (Do d) =
       (a.synced ≡ true) × (a.lone ≡ false) × MayDo (keyed a.owned) i a.table d × (taken_by d ≡ [])
@@ -158,7 +162,7 @@ module _ (r : Ranges) where
   MayAct i a Crash = a.up ≡ true
   MayAct i a (Boot n) = (a.up ≡ false) × (a.boot < n)
 
-  -- the box afterwards
+  -- the box after the act
   abbrev pub box_after : GatewayId → Box → Act → Box
   box_after i a (Do d) = does a d
   box_after i a (Take l n q d) = takes a d

@@ -1,4 +1,6 @@
--- One gateway as the machine sees it, the datagrams that it sends, and how it changes.
+-- One gateway as the machine sees it (its box), the letters that it sends, and how it changes. A letter is a datagram
+-- of the link. A session is what two boots of the gateways, one each, push to each other and take. A gateway is lone
+-- while it needs nobody's consent.
 use Rattle.std.specs.Prelude.{Bool, IsTrue, List, None, Option, Some, [], cond, drop, false, length, suc, take, true, zero, ℕ, ◌++◌, ◌+◌, ◌∷◌, ◌≡◌, ◌⊎◌}
 use Rattle.nat_types.specs.declared.gateways.GatewayId.{GatewayId}
 use Rattle.nat_types.specs.declared.notes.NoteKind.TheVariants.{Retaken}
@@ -9,35 +11,36 @@ use Rattle.nat_types.specs.declared.pairs.Pair.{Pair}
 use Rattle.spec_pair.specs.Ownership.{Ranges, keyed, Run, no_port, cut, has}
 use Rattle.spec_pair.specs.Talk.{table_after, MachineRecord, Owner, Grant, Want, set_at, Begin, Live, Doomed, Deed, Closing, Done, Free, note, IsUnbound, Put, Slot, held, pushed_by, Pending, Held}
 
--- One gateway, as the other and the trace can tell it: no timer, no packet, no reason.
+-- A gateway's box: what the other gateway and the trace can tell of it. A box has no timer, no packet and no reason.
 pub record Box : Type 0 where
-  -- running
+  -- the gateway runs
   pub up : Bool
   -- the number of its last boot, or 0
   pub boot : ℕ
-  -- its table is loaded: it translates
+  -- the gateway's table is loaded, so it translates
   pub synced : Bool
-  -- the other needn't agree: none was heard since the founding, or since the operator's word
+  -- the other needn't agree to what it does: it has heard nothing of the other since the founding, or since the
+  -- operator's word
   pub lone : Bool
-  -- the peer's known boot, or 0
+  -- the last boot of the peer that it knows, or 0
   pub peer : ℕ
   -- what it has at each outside port
   pub table : Key → Slot
-  -- the records that it pushed in this session, and how many of the peer's it took
+  -- the records that it pushed in this session, and how many of the peer's records it took
   pub sent : List MachineRecord
   pub taken : ℕ
-  -- unsynced, it has taken Begin
+  -- the gateway is loading its table: unsynced, it has taken Begin
   pub loading : Bool
-  -- the ports that it owns; while it loads, those that it will own when it is synced
+  -- the ports that it owns; while it loads, the ports that it will own once it is synced
   pub owned : ℕ → Bool
-  -- a Want of its is open
+  -- the gateway has sent a Want that isn't answered yet
   pub wants : Bool
   -- the last port that an Owner of the batch named
   pub named : ℕ
-  -- Some n: only the first n records of the session may be sent yet
+  -- Some n: only the first n records of the session may be sent so far, and the rest is promised
   pub promised : Option ℕ
 
--- two boxes tell the same
+-- two boxes agree in every field; tables and ports are compared at each place
 pub record AreSame (a b : Box) : Type 0 where
   pub up : a.up ≡ b.up
   pub boot : a.boot ≡ b.boot
@@ -53,44 +56,44 @@ pub record AreSame (a b : Box) : Type 0 where
   pub named : a.named ≡ b.named
   pub promised : a.promised ≡ b.promised
 
--- a datagram with some of a session's records, from this boot of the sender to this one of the receiver
+-- A letter: a datagram with some of a session's records, from the sender's boot `boot` to the receiver's boot `to`.
 pub record Letter : Type 0 where
   pub boot : ℕ
   pub to : ℕ
-  -- how many records of the session stand before these
+  -- how many records of the session come before these
   pub first : ℕ
   pub records : List MachineRecord
 
--- one of a list
+-- the value is in the list
 abbrev pub In : {A : Type 0} → A → List A → Type 0
 In x [] = ⊥
 In x (y ∷ ys) = (x ≡ y) ⊎ In x ys
 
--- the one at this place, counted from 0
+-- the value at this place of a list, counted from 0
 abbrev pub nth : {A : Type 0} → List A → ℕ → Option A
 nth [] n = None
 nth (x ∷ xs) zero = Some x
 nth (x ∷ xs) (suc n) = nth xs n
 
--- a table with nothing in it
+-- the table with nothing in it
 abbrev pub empty : Key → Slot
 empty k = Free
 
--- a Put for each pair
+-- a Put for each pair, in order
 abbrev pub puts : List Pair → List MachineRecord
 puts [] = []
 puts (p ∷ ps) = Put p.key p.endpoint ∷ puts ps
 
--- an Owner for each run, before these
+-- an Owner for each run, in order, and then the records `rs`
 abbrev pub owners : List Run → List MachineRecord → List MachineRecord
 owners [] rs = rs
 owners (o ∷ os) rs = Owner o.first o.last ∷ owners os rs
 
--- the records of a whole table: Begin, the runs of owned ports, the pairs, Done
+-- the batch, the records by which the other is loaded: Begin, the runs of owned ports, the pairs, Done
 abbrev pub batch : List Run → List Pair → List MachineRecord
 batch os ps = Begin ∷ owners os (puts ps ++ Done ∷ [])
 
--- the slot of a loaded pair, where owned says whether the port of a key is owned
+-- the slot of a loaded pair: Live where `owned` says that the port of the key is owned, else Held
 abbrev pub loaded_slot : (Key → Bool) → Key → Endpoint → Slot
 loaded_slot owned k e = cond (owned k) (Live e) (Held e)
 
@@ -99,24 +102,24 @@ abbrev pub load : (Key → Bool) → (Key → Slot) → List Pair → Key → Sl
 load owned table [] = table
 load owned table (p ∷ ps) = load owned (set_at table p.key (loaded_slot owned p.key p.endpoint)) ps
 
--- the slot that the other is to load
+-- the slot that the other is to load for a pair, or for none
 abbrev pub mirrored : (Key → Bool) → Key → Option Endpoint → Slot
 mirrored owned k None = Free
 mirrored owned k (Some e) = loaded_slot owned k e
 
--- loaded by a gateway that owns these keys, the pairs give the mirror of the table
+-- the pairs, loaded by a gateway that owns the keys `own`, give the mirror of the table
 abbrev pub AreMirrored : (Key → Bool) → (Key → Slot) → List Pair → Type 0
 AreMirrored own table ps = (k : Key) → load own empty ps k ≡ mirrored own k (held (table k))
 
 module _ (r : Ranges) where
-  -- each pair is new where it is put, and its port lies in the ranges
+  -- each pair is new where it is put, and its port is in the ranges
   abbrev pub AreLoadable : (Key → Bool) → (Key → Slot) → List Pair → Type 0
   AreLoadable owned table [] = Unit {0}
   AreLoadable owned table (p ∷ ps) =
       (table p.key ≡ Free) × IsUnbound table p.endpoint × IsTrue (keyed r.in_ranges p.key)
       × AreLoadable owned (set_at table p.key (loaded_slot owned p.key p.endpoint)) ps
 
--- a slot at the peer's restart: what was proposed or asked to be closed goes on translating
+-- a slot after the peer's restart: a pair that was proposed or asked to be closed goes on translating
 abbrev pub revived : Slot → Slot
 revived Free = Free
 revived (Pending e) = Live e
@@ -125,7 +128,7 @@ revived (Live e) = Live e
 revived (Closing e) = Live e
 revived (Held e) = Held e
 
--- the endpoint of a pair that translates again then
+-- the endpoint of a pair that begins to translate at the peer's restart
 abbrev pub is_back : Slot → Option Endpoint
 is_back Free = None
 is_back (Pending e) = Some e
@@ -134,22 +137,22 @@ is_back (Live e) = None
 is_back (Closing e) = Some e
 is_back (Held e) = None
 
--- these are the pairs that do
+-- these are exactly the pairs that begin to translate at the peer's restart
 abbrev pub AreBack : (Key → Slot) → List Pair → Type 0
 AreBack table back =
     (p : Pair) → (In p back → is_back (table p.key) ≡ Some p.endpoint)
     × (is_back (table p.key) ≡ Some p.endpoint → In p back)
 
--- their notes
+-- a note Retaken for each of these pairs
 abbrev pub retakes : GatewayId → ℕ → List Pair → List Note
 retakes i moment [] = []
 retakes i moment (p ∷ ps) = note i moment (Retaken p) ∷ retakes i moment ps
 
--- nothing stands at a port
+-- the table has nothing at the port, for any protocol
 abbrev pub IsVacant : (Key → Slot) → ℕ → Type 0
 IsVacant table p = (k : Key) → k.port.0 ≡ p → table k ≡ Free
 
--- unsynced, with nothing
+-- an unsynced gateway with an empty table and no known peer
 abbrev pub bare : Bool → ℕ → Box
 bare up boot = record {
   up = up;
@@ -167,19 +170,20 @@ bare up boot = record {
   promised = None;
 }
 
--- with this table, these records pushed and so many taken
+-- the box with this table, these records pushed and this number of records taken
 abbrev pub box_with : Box → (Key → Slot) → List MachineRecord → ℕ → Box
 box_with a table sent taken = record a { table = table; sent = sent; taken = taken }
 
--- it does a deed that takes no record
+-- the box after a deed that takes no record
 abbrev pub does : Box → Deed → Box
 does a d = box_with a (table_after a.table d) (a.sent ++ pushed_by d) a.taken
 
--- it does one that takes a record
+-- the box after a deed that takes a record
 abbrev pub takes : Box → Deed → Box
 takes a d = box_with a (table_after a.table d) (a.sent ++ pushed_by d) (suc a.taken)
 
--- the peer's known boot is another: the session begins anew, and what was proposed or asked to be closed is revived
+-- The box after its known boot of the peer becomes `boot`: the session begins anew, and pairs that were proposed or
+-- asked to be closed are revived.
 abbrev pub resets : Box → ℕ → Bool → List MachineRecord → Option ℕ → Box
 resets a boot lone sent promised = record a {
   lone = lone;
@@ -191,20 +195,21 @@ resets a boot lone sent promised = record a {
   promised = promised;
 }
 
--- It hears a greater boot of the peer, and pushes its table. In parts: all but Done may be sent at first.
+-- The box after a synced gateway hears a greater boot of the peer: it pushes its batch. Where `part` says so, the batch
+-- is promised, and all of it but Done may be sent at first.
 abbrev pub hears : Box → ℕ → List Run → List Pair → Bool → Box
 hears a boot os ps part =
     resets a boot false (batch os ps) (cond part (Some (suc (length os + length ps))) None)
 
--- the operator says that the peer's boot of this number is off: it is alone
+-- the box after the operator says that the peer's boot of this number is off: the gateway is lone
 abbrev pub put_off : Box → ℕ → Box
 put_off a boot = resets a boot true [] None
 
--- unsynced, it hears a greater boot
+-- the box after an unsynced gateway hears a greater boot of the peer
 abbrev pub hears_anew : Box → ℕ → Box
 hears_anew a boot = record (bare a.up a.boot) { synced = a.synced; lone = a.lone; peer = boot }
 
--- it takes Begin, and is to own these ports
+-- the box after it takes Begin, by which it is to own the ports `ranges`
 abbrev pub takes_begin : (ℕ → Bool) → Box → Box
 takes_begin ranges a = record a {
   table = empty;
@@ -214,70 +219,70 @@ takes_begin ranges a = record a {
   named = 0;
 }
 
--- it has another table
+-- the box with another table
 abbrev pub with_table : Box → (Key → Slot) → Box
 with_table a table = record a { table = table }
 
--- a record is taken, and nothing else changes
+-- the box after it takes a record that changes nothing else
 abbrev pub skips : Box → Box
 skips a = record a { taken = suc a.taken }
 
--- the rest of what was promised may be sent
+-- the box when all records pushed may be sent
 abbrev pub hands_in : Box → Box
 hands_in a = record a { promised = None }
 
--- it takes Done
+-- the box after it takes Done: it is synced
 abbrev pub takes_done : Box → Box
 takes_done a =
     record a { synced = true; lone = false; taken = suc a.taken; loading = false; promised = None }
 
--- after a crash
+-- the box after a crash
 abbrev pub crashed : Box → Box
 crashed a = bare false a.boot
 
--- after a boot
+-- the box after a boot with this number
 abbrev pub booted : ℕ → Box
 booted n = bare true n
 
--- gateway 0 as it is founded, with these ports
+-- gateway 0 as it is founded, with these ports: boot 1, synced and lone
 abbrev pub founder : (ℕ → Bool) → Box
 founder owned = record (bare true 1) { synced = true; lone = true; owned = owned }
 
--- a gateway that never booted
+-- the box of a gateway that never booted
 abbrev pub never : Box
 never = bare false 0
 
--- with these ports, records pushed and taken, an open Want or none, and this as the last port named
+-- the box with these records pushed, this number taken, these ports, an open Want or none, and the last port named
 abbrev pub owns_ports : Box → List MachineRecord → ℕ → (ℕ → Bool) → Bool → ℕ → Box
 owns_ports a sent taken owned wants named =
     record a { sent = sent; taken = taken; owned = owned; wants = wants; named = named }
 
--- it takes an Owner: it won't own that run
+-- the box after it takes an Owner: it won't own the ports of that run
 abbrev pub takes_owner : Box → ℕ → ℕ → Box
 takes_owner a first last = owns_ports a a.sent (suc a.taken) (cut first last a.owned) a.wants last
 
--- it asks for ports
+-- the box after it asks for ports
 abbrev pub wants_ports : Box → Box
 wants_ports a = owns_ports a (a.sent ++ Want ∷ []) a.taken a.owned true a.named
 
--- it takes a Want, and grants these ports
+-- the box after it takes a Want and grants these ports
 abbrev pub grants_ports : Box → List ℕ → Box
 grants_ports a ports =
     owns_ports a (a.sent ++ Grant ports ∷ []) (suc a.taken)
     (λ p. cond (has p ports) false (a.owned p)) a.wants a.named
 
--- it takes a Grant, and these become owned
+-- the box after it takes a Grant, of which the ports `got` become owned
 abbrev pub takes_ports : Box → List ℕ → Box
 takes_ports a got =
     owns_ports a a.sent (suc a.taken) (λ p. cond (has p got) true (a.owned p)) false a.named
 
--- it takes a Put: the pair is Live on a port that it is to own, else Held
+-- the box after it takes a Put: the pair is Live on a port that it is to own, else Held
 abbrev pub takes_put : Box → Pair → Box
 takes_put a p =
     box_with a (set_at a.table p.key (loaded_slot (keyed a.owned) p.key p.endpoint)) a.sent
     (suc a.taken)
 
--- the datagram with this part of the records pushed
+-- the letter with the session's records from number `first` on, at most `count` of them
 abbrev pub letter : Box → ℕ → ℕ → Letter
 letter a first count = record {
   boot = a.boot;
@@ -286,7 +291,8 @@ letter a first count = record {
   records = take count (drop first a.sent);
 }
 
--- the letter has this record at the number that is next
+-- A record stands next at a gateway: the letter is of its session, and has the record at the number that the gateway
+-- takes next.
 pub record StandsNext (a : Box) (l : Letter) (offset : ℕ) (r : MachineRecord) : Type 0 where
   pub up : a.up ≡ true
   pub boot : l.boot ≡ a.peer

@@ -1,11 +1,11 @@
--- What is still to come of it that records were pushed, and what stands next.
+-- What is left to do for the records that were pushed, and which record a gateway may take next.
 use Rattle.std.specs.Prelude.{Bool, List, Some, [], drop, false, nat_lt, length, true, ℕ, ◌+◌, ◌≤◌, ◌∷◌, ◌≡◌}
 use Rattle.spec_pair.specs.Acts.{Act, Do, Take, Hear, HandIn, Ignore, HearAnew, PeerOff, LoadBegin, LoadOwner, LoadPut, LoadDone, LoadSkip, WantPorts, GrantPorts, TakePorts, LosePorts, Send, LoneNew, LoneUse, LoneDrop, Crash, Boot}
 use Rattle.spec_pair.specs.Box.{Letter, letter, nth}
 use Rattle.spec_pair.specs.Talk.{MachineRecord, Install, Accept, Refuse, Ask, Yes, No, Begin, Put, Done, Want, Grant, Owner}
 use Rattle.spec_pair.specs.World.{Scene}
 
--- how many takings a record brings about: its own, and that of its answer
+-- how many takings a record brings about: its own, and that of its answer if it has one
 abbrev pub weight : MachineRecord → ℕ
 weight (Install k e) = 2
 weight (Accept k) = 1
@@ -20,12 +20,12 @@ weight Want = 2
 weight (Grant ports) = 1
 weight (Owner first last) = 1
 
--- how many takings these bring about
+-- how many takings the records of a list bring about
 abbrev pub to_do : List MachineRecord → ℕ
 to_do [] = 0
 to_do (q ∷ qs) = weight q + to_do qs
 
--- the record that an act takes
+-- the record that an act takes, if any
 abbrev pub taken_now : Act → List MachineRecord
 taken_now (Do d) = []
 taken_now (Take l n q d) = q ∷ []
@@ -50,13 +50,13 @@ taken_now (LoneDrop k e) = []
 taken_now Crash = []
 taken_now (Boot number) = []
 
--- The records that each pushed and the other hasn't taken yet, by the takings that they bring about: what a run without
--- loss has to do. Both are in one session.
+-- The takings left to do, where both are in one session: those that the records bring about which each pushed and the
+-- other hasn't taken yet. A run without loss has to do these.
 abbrev pub outstanding : Scene → ℕ
 outstanding v =
     to_do (drop v.theirs.taken v.mine.sent) + to_do (drop v.mine.taken v.theirs.sent)
 
--- Both are up and in one session, and the other pushed the record that is to be taken next here; it may be sent.
+-- Both gateways are up and in one session, the other pushed the record that this one takes next, and it may be sent.
 pub record IsNext (v : Scene) (q : MachineRecord) : Type 0 where
   pub up : v.mine.up ≡ true
   pub their_up : v.theirs.up ≡ true
@@ -71,11 +71,11 @@ pub record IsNext (v : Scene) (q : MachineRecord) : Type 0 where
 abbrev pub next_letter : Scene → Letter
 next_letter v = letter v.theirs v.mine.taken 1
 
--- the other has sent it
+-- the scene after the other sent that letter
 abbrev pub next_sent : Scene → Scene
 next_sent v = record v { their_mail = next_letter v ∷ v.their_mail }
 
--- Both are up and in one session, and neither is lone.
+-- Both gateways are up and in one session, and neither is lone.
 pub record AreTogether (v : Scene) : Type 0 where
   pub up : v.mine.up ≡ true
   pub their_up : v.theirs.up ≡ true
@@ -84,19 +84,19 @@ pub record AreTogether (v : Scene) : Type 0 where
   pub together : v.mine.synced ≡ true → v.mine.lone ≡ false
   pub their_together : v.theirs.synced ≡ true → v.theirs.lone ≡ false
 
--- a datagram without records, which tells the sender's boot
+-- a letter of the other without records, which tells its boot
 abbrev pub hello_of : Scene → Letter
 hello_of v = letter v.theirs 0 0
 
--- the other has sent it
+-- the scene after the other sent that letter
 abbrev pub hello_sent : Scene → Scene
 hello_sent v = record v { their_mail = hello_of v ∷ v.their_mail }
 
--- 1 where it is so
+-- 1 for true and 0 for false
 abbrev pub as_one : Bool → ℕ
 as_one true = 1
 as_one false = 0
 
--- how many of the two haven't heard the other's boot
+-- how many of the two gateways haven't heard the other's boot
 abbrev pub unheard : Scene → ℕ
 unheard v = as_one (nat_lt v.mine.peer v.theirs.boot) + as_one (nat_lt v.theirs.peer v.mine.boot)

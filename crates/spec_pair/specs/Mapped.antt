@@ -1,4 +1,4 @@
--- The entries of a table and the records of the link, as the machine has them.
+-- The states of a table's entries and the records of the link, as slots and records of the machine.
 use Rattle.std.specs.Prelude.{map}
 use Rattle.nat_types.specs.declared.pairs.Endpoint.{Endpoint}
 use Rattle.nat_types.specs.declared.pairs.EntryState.{EntryState}
@@ -7,7 +7,7 @@ use Rattle.nat_types.specs.declared.records.Record.{Record}
 use Rattle.nat_types.specs.declared.records.Record.TheVariants.{Install, Accept, Refuse, Ask, Yes, No, Begin, Put, Done, Want, Grant, Owner}
 use Rattle.spec_pair.specs.Talk as machine
 
--- what the table has at the key of an entry
+-- the slot of an entry, by its state and its endpoint
 abbrev pub slot_in : EntryState → Endpoint → machine.Slot
 slot_in Pending e = machine.Pending e
 slot_in Doomed e = machine.Doomed e
@@ -15,7 +15,7 @@ slot_in Live e = machine.Live e
 slot_in Closing e = machine.Closing e
 slot_in Held e = machine.Held e
 
--- a record of the link
+-- the machine's record for a record of the link
 abbrev pub machine_record : Record → machine.MachineRecord
 machine_record (Install p) = machine.Install p.key p.endpoint
 machine_record (Accept k) = machine.Accept k

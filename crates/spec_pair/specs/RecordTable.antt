@@ -1,4 +1,4 @@
--- What each record does where it is taken (docs/PROTOCOL.md): a row a line.
+-- The record table: what each record does where it is taken (docs/PROTOCOL.md), with a row on each line.
 use Rattle.std.specs.Prelude.{Bool, IsTrue, List, None, Option, Some, [], cond, false, not, suc, true, ℕ, ◌&&◌, ◌∷◌, ◌≡◌, ◌↔◌}
 use Rattle.addresses.specs.declared.transport.Protocol.{Protocol}
 use Rattle.addresses.specs.declared.transport.Protocol.TheVariants.{Icmp, Tcp, Udp}
@@ -12,34 +12,34 @@ use Rattle.spec_pair.specs.Box.{Box, Letter}
 use Rattle.spec_pair.specs.Ownership.{Ranges, keyed, IsRisingRun, AreDistinct}
 use Rattle.spec_pair.specs.Talk.{Slot, Free, Pending, Doomed, Live, Closing, Held, MachineRecord, Install, Accept, Refuse, Ask, Yes, No, Begin, Put, Done, Want, Grant, Owner, Deed, Agree, Yield, Reject, Agreed, Rejected, Leave, Stay, Left, Stayed, Pass, Skip, IsUnbound, pair_of}
 
--- what a table has for an endpoint, proposals given up apart
+-- where a table has an endpoint, proposals that were given up left out
 pub data Finding : Type 0 where
   Absent : Finding
-  -- an own proposal for it, at this key
+  -- the table has an own proposal for the endpoint, at this key
   Proposed : (at : Key) → Finding
-  -- it is at a key in another state
+  -- the table has the endpoint at a key, in another state
   Bound : Finding
 
--- the table has that for the endpoint
+-- the finding is true of the table and the endpoint
 abbrev pub Finds : (Key → Slot) → Endpoint → Finding → Type 0
 Finds table e Absent = IsUnbound table e
 Finds table e (Proposed at) = table at ≡ Pending e
 Finds table e Bound = (IsUnbound table e → ⊥) × ((at : Key) → table at ≡ Pending e → ⊥)
 
--- what a gateway finds out before it takes a record
+-- the facts that a gateway finds out before it takes a record
 pub record Facts : Type 0 where
-  -- what its table has for the endpoint of an Install or a Put
+  -- where its table has the endpoint of an Install or a Put
   pub found : Finding
   -- the pair of an Ask is idle, or came by Install and was never used here since
   pub rests : Bool
-  -- its table has nothing, and the run of an Owner rises above the last one, in the ranges
+  -- the gateway's table is empty; and the run of an Owner is in the ranges and above the last run named
   pub is_empty : Bool
   pub rises : Bool
-  -- the ports to answer a Want with, and those of a Grant that become owned
+  -- the ports to grant at a Want; and those of a Grant that become owned
   pub spare : List ℕ
   pub got : List ℕ
 
--- nothing stands there
+-- whether a slot is Free
 abbrev pub is_free : Slot → Bool
 is_free Free = true
 is_free (Pending e) = false
@@ -48,41 +48,45 @@ is_free (Live e) = false
 is_free (Closing e) = false
 is_free (Held e) = false
 
--- the key of a port
+-- the key of a protocol and a port number
 abbrev pub key_of : Protocol → ℕ → Key
 key_of protocol p = record { protocol = protocol; port = record { 0 = p } }
 
--- A record at a synced gateway, by the slot at its key.
+-- A synced gateway's deed at an Accept, by the slot at the record's key. The deeds at Refuse, Ask, Yes and No follow.
 abbrev pub accepted : Key → Slot → Deed
 accepted k (Pending e) = Agreed k e
 accepted k s = Skip (Accept k)
 
+-- a synced gateway's deed at a Refuse, by the slot at the record's key
 abbrev pub refused : Key → Slot → Deed
 refused k (Pending e) = Rejected k
 refused k (Doomed e) = Rejected k
 refused k s = Skip (Refuse k)
 
+-- a synced gateway's deed at an Ask, by the slot at its key; `rests` says that the pair is idle or unused
 abbrev pub asked : Bool → Key → Slot → Deed
 asked rests k (Held e) = cond rests (Leave k e) (Stay k e)
 asked rests k s = Pass k
 
+-- a synced gateway's deed at a Yes, by the slot at its key
 abbrev pub agreed_to : Key → Slot → Deed
 agreed_to k (Closing e) = Left k e
 agreed_to k s = Skip (Yes k)
 
+-- a synced gateway's deed at a No, by the slot at its key
 abbrev pub denied : Key → Slot → Deed
 denied k (Closing e) = Stayed k e
 denied k s = Skip (No k)
 
--- an Install, where its key is the sender's and has no entry: the endpoint is nowhere; or it is in an own proposal, and
--- this is gateway 1; or else
+-- The deed at an Install whose key is the sender's and has no entry. Absent: it is accepted. Proposed: gateway 1
+-- accepts it and gives its own proposal up, and gateway 0 refuses it. Bound: it is refused.
 abbrev pub proposed : GatewayId → Key → Endpoint → Finding → Deed
 proposed i k e Absent = Agree k e
 proposed i k e (Proposed at) = cond (same i One) (Yield k e at) (Reject k e)
 proposed i k e Bound = Reject k e
 
 module _ (r : Ranges) where
-  -- the facts are those of the box, as far as the record needs them
+  -- the facts are true of the box, as far as the record needs them
   abbrev pub AreFacts : Box → MachineRecord → Facts → Type 0
   AreFacts a (Install k e) f = Finds a.table e f.found
   AreFacts a (Put k e) f = Finds a.table e f.found
@@ -93,25 +97,25 @@ module _ (r : Ranges) where
   AreFacts a (Grant ports) f = AreGot r a ports f.got
   AreFacts a q f = Unit {0}
 
-  -- the key is the sender's: its port lies in the ranges, and the receiver doesn't own it
+  -- whether the key is the sender's: its port is in the ranges, and the receiver doesn't own it
   abbrev pub is_senders : Box → Key → Bool
   is_senders a k = keyed r.in_ranges k && not (keyed a.owned k)
 
-  -- an Install: one of a key that isn't the sender's or has an entry is refused
+  -- the deed at an Install: where its key isn't the sender's or has an entry, it is refused
   abbrev pub installed : GatewayId → Box → Key → Endpoint → Finding → Deed
   installed i a k e found =
       cond (is_senders a k && is_free (a.table k)) (proposed i k e found) (Reject k e)
 
-  -- no protocol has an entry at the port
+  -- whether no protocol has an entry at the port
   abbrev pub has_no_entry : Box → ℕ → Bool
   has_no_entry a p = is_free (a.table (key_of Icmp p)) && (is_free (a.table (key_of Tcp p)) && is_free (a.table (key_of Udp p)))
 
-  -- of granted ports those become owned that lie in the ranges, aren't owned, and have no entry
+  -- whether a granted port becomes owned: it is in the ranges, isn't owned, and has no entry
   abbrev pub becomes_owned : Box → ℕ → Bool
   becomes_owned a p = (r.in_ranges p && not (a.owned p)) && has_no_entry a p
 
   module _ (i : GatewayId) (a : Box) (l : Letter) (n : ℕ) (f : Facts) where
-    -- at a synced gateway that isn't lone
+    -- the act that takes a record at a synced gateway that isn't lone
     abbrev pub act_at_synced : MachineRecord → Act
     act_at_synced (Install k e) = Take l n (Install k e) (installed i a k e f.found)
     act_at_synced (Accept k) = Take l n (Accept k) (accepted k (a.table k))
@@ -126,13 +130,14 @@ module _ (r : Ranges) where
     act_at_synced (Grant ports) = cond a.wants (TakePorts l n ports f.got) (LosePorts l n ports)
     act_at_synced (Owner first last) = Take l n (Owner first last) (Skip (Owner first last))
 
-    -- a Put after Begin, where the table has neither its key nor its endpoint; or else
+    -- the act at a Put, after Begin, on a free key: the pair is loaded where the table has its endpoint nowhere, else
+    -- it is passed over
     abbrev pub put_in : Key → Endpoint → Finding → Act
     put_in k e Absent = LoadPut l n (pair_of k e)
     put_in k e (Proposed at) = LoadSkip l n (Put k e)
     put_in k e Bound = LoadSkip l n (Put k e)
 
-    -- at one that isn't synced
+    -- the act that takes a record at an unsynced gateway
     abbrev pub act_at_unsynced : MachineRecord → Act
     act_at_unsynced Begin = LoadBegin l n
     act_at_unsynced (Put k e) =
@@ -146,16 +151,16 @@ module _ (r : Ranges) where
         (LoadSkip l n (Owner first last))
     act_at_unsynced q = LoadSkip l n q
 
-    -- while records are promised, what comes changes nothing
+    -- the act at a synced gateway: while its batch is promised, a record that comes changes nothing
     abbrev pub act_unless_promised : Option ℕ → MachineRecord → Act
     act_unless_promised None q = act_at_synced q
     act_unless_promised (Some m) q = Ignore l n q
 
-    -- The act by which the record is taken.
+    -- The act by which the record `q` is taken.
     abbrev pub act_by_table : MachineRecord → Act
     act_by_table q = cond a.synced (act_unless_promised a.promised q) (act_at_unsynced q)
 
-  -- the gateway may do this, which takes the next record of the letter
+  -- the gateway may do the act, which takes the next record of the letter
   abbrev pub DoesTake : GatewayId → Box → Letter → Act → Type 0
   DoesTake i a l x =
       MayAct r i a x × (read_by x ≡ l ∷ []) × ((box_after r i a x).taken ≡ suc a.taken)

@@ -1,4 +1,5 @@
--- Whole runs from the founding, event by event, with the notes and the tables that they lead to.
+-- Whole runs from the founding, event by event, with the notes and the tables to which they lead. Hosts are UDP ports
+-- of 192.168.1.10, and outside ports are UDP ports of the virtual address.
 use Rattle.std.specs.Prelude.{◌≡◌, ℕ, Bool, false, true, ◌||◌, cond, nat_lt, List, [], ◌∷◌, filter, reverse}
 use Rattle.nat_types.specs.declared.gateways.GatewayId.{GatewayId}
 use Rattle.nat_types.specs.declared.gateways.GatewayId.TheVariants.{Zero, One}
@@ -14,19 +15,19 @@ use Rattle.spec_pair.specs.Ownership.{Ranges, moving, in_run, Run, fixed}
 use Rattle.spec_pair.specs.Talk.{Live, Held, Owner, Agree, Begin, note, Stayed, set_at, Ask, Yield, MachineRecord, Accept, Propose, Reject, Grant, Done, Stay, Want, No, Left, Rejected, Use, Agreed, Yes, pair_of, Slot, Refuse, Install, Close, Put, Leave}
 use Rattle.spec_pair.specs.World.{MachineEvent, after_events, AreAllowed, founding}
 
--- gateway 0's range is 20000 to 39999, gateway 1's 40000 to 59999
+-- fixed ranges: gateway 0 owns the ports 20000 to 39999, gateway 1 the ports 40000 to 59999
 abbrev pub range_of : ℕ → GatewayId
 range_of p = cond (nat_lt p 40000) Zero One
 
--- the two ranges, for good
+-- the two ranges, which don't move
 abbrev pub two_ranges : Ranges
 two_ranges = fixed (in_run 20000 59999) range_of
 
--- a UDP port of the outside virtual address
+-- the key of a UDP port of the outside virtual address
 abbrev pub udp : ℕ → Key
 udp port = record { protocol = Udp; port = record { 0 = port } }
 
--- a UDP port of 192.168.1.10
+-- the endpoint of a UDP port of 192.168.1.10
 abbrev pub host : ℕ → Endpoint
 host port = record {
   protocol = Udp;
@@ -34,40 +35,42 @@ host port = record {
   port = record { 0 = port };
 }
 
--- gateway 0 does this, at this moment of its clock
+-- an act of gateway 0, at this time of its clock
 abbrev pub zero_at : ℕ → Act → MachineEvent
 zero_at m x = record { by = Zero; moment = m; act = x }
 
--- and gateway 1
+-- an act of gateway 1, at this time of its clock
 abbrev pub one_at : ℕ → Act → MachineEvent
 one_at m x = record { by = One; moment = m; act = x }
 
--- a letter from this boot to that one, with the records that follow so many
+-- a letter from the sender's boot to the receiver's, with the records from number `first` on
 abbrev pub letter_of : ℕ → ℕ → ℕ → List MachineRecord → Letter
 letter_of from to first records = record { boot = from; to = to; first = first; records = records }
 
--- a table by what it has at some keys, and nothing at the others
+-- a slot and the key where a table has it
 pub record Placed : Type 0 where
   pub key : Key
   pub slot : Slot
 
--- what it has at a UDP port
+-- the slot at a UDP port
 abbrev pub slot_on : ℕ → Slot → Placed
 slot_on port slot = record { key = udp port; slot = slot }
 
--- that table
+-- the table that has these slots, and nothing at the other keys
 abbrev pub with : List Placed → Key → Slot
 with [] = empty
 with (x ∷ xs) = set_at (with xs) x.key x.slot
 
--- the first host's pair on gateway 0's first port, at its owner and at the other
+-- the first host's pair on gateway 0's first port: Live at gateway 0, which owns it, and Held at gateway 1
 abbrev pub live_first : List Placed
 live_first = slot_on 20000 (Live (host 5000)) ∷ []
 
+-- that pair as gateway 1 holds it
 abbrev pub held_first : List Placed
 held_first = slot_on 20000 (Held (host 5000)) ∷ []
 
--- The events are allowed, one after another from the founding, and lead to these notes, the oldest first, and these tables.
+-- The events are allowed, one after another from the founding, and lead to these notes, the oldest first, and to these
+-- tables of gateway 0 and gateway 1.
 pub record LeadsTo (r : Ranges) (events : List MachineEvent)
     (trace : List Note) (zero one : List Placed) : Type 0 where
   pub allowed : AreAllowed r events (founding r)
@@ -75,11 +78,11 @@ pub record LeadsTo (r : Ranges) (events : List MachineEvent)
   pub zero_is : (k : Key) → (after_events r events (founding r)).mine.table k ≡ with zero k
   pub one_is : (k : Key) → (after_events r events (founding r)).theirs.table k ≡ with one k
 
--- gateway 1's first datagram
+-- the first letter of gateway 1's boot 1, without records
 abbrev pub hello : Letter
 hello = letter_of 1 0 0 []
 
--- an empty table
+-- gateway 0's batch of an empty table
 abbrev pub empty_batch : Letter
 empty_batch = letter_of 1 1 0 (Begin ∷ Done ∷ [])
 
@@ -95,19 +98,19 @@ loading =
     ∷ one_at 1 (LoadDone empty_batch 1)
     ∷ []
 
--- its notes
+-- the notes of `loading`
 abbrev pub loading_notes : List Note
 loading_notes = note One 0 (Booted 1) ∷ note One 1 Synced ∷ []
 
--- a pair of gateway 0
+-- a pair that gateway 0 makes
 abbrev pub pair_p : Pair
 pair_p = pair_of (udp 20000) (host 5000)
 
--- gateway 0's proposal
+-- gateway 0's proposal of that pair
 abbrev pub install : Letter
 install = letter_of 1 1 2 (Install pair_p.key pair_p.endpoint ∷ [])
 
--- gateway 1's answer
+-- gateway 1's answer to that proposal
 abbrev pub accept : Letter
 accept = letter_of 1 1 0 (Accept pair_p.key ∷ [])
 
@@ -123,7 +126,7 @@ using =
     ∷ zero_at 21 (Do (Use pair_p.key pair_p.endpoint))
     ∷ []
 
--- its notes
+-- the notes of `using`
 abbrev pub using_notes : List Note
 using_notes =
     note One 11 (Retaken pair_p)
@@ -131,23 +134,23 @@ using_notes =
     ∷ note Zero 21 (Used pair_p)
     ∷ []
 
--- gateway 1's port
+-- the key of gateway 1's first port
 abbrev pub k1 : Key
 k1 = udp 40000
 
--- gateway 1's proposal
+-- gateway 1's proposal, for the endpoint that gateway 0 proposes too
 abbrev pub install_1 : Letter
 install_1 = letter_of 1 1 0 (Install k1 pair_p.endpoint ∷ [])
 
--- the same, and its answer to the other
+-- gateway 1's proposal and, after it, its answer to gateway 0's
 abbrev pub accept_1 : Letter
 accept_1 = letter_of 1 1 0 (Install k1 pair_p.endpoint ∷ Accept pair_p.key ∷ [])
 
--- gateway 0's refusal
+-- gateway 0's refusal of gateway 1's proposal
 abbrev pub refuse_1 : Letter
 refuse_1 = letter_of 1 1 3 (Refuse k1 ∷ [])
 
--- Both propose for one endpoint: gateway 0's proposal wins, gateway 1 uses it, and its own is refused.
+-- Both propose for one endpoint: gateway 0's proposal wins, gateway 1 uses its pair, and gateway 1's own is refused.
 abbrev pub crossing : List MachineEvent
 crossing =
     zero_at 20 (Do (Propose pair_p.key pair_p.endpoint))
@@ -164,7 +167,7 @@ crossing =
     ∷ one_at 13 (Take refuse_1 0 (Refuse k1) (Rejected k1))
     ∷ []
 
--- its notes
+-- the notes of `crossing`
 abbrev pub crossing_notes : List Note
 crossing_notes =
     note One 12 (Retaken pair_p)
@@ -172,15 +175,15 @@ crossing_notes =
     ∷ note Zero 23 (Retaken pair_p)
     ∷ []
 
--- may the pair be deleted?
+-- gateway 0's Ask: may the pair be deleted?
 abbrev pub ask_letter : Letter
 ask_letter = letter_of 1 1 3 (Ask pair_p.key ∷ [])
 
--- it may
+-- gateway 1's Yes
 abbrev pub yes_letter : Letter
 yes_letter = letter_of 1 1 1 (Yes pair_p.key ∷ [])
 
--- the idle pair is asked for; the answer is Yes, and both have let it go
+-- gateway 0 asks for the idle pair; the answer is Yes, and both have let the pair go
 abbrev pub asked_yes : List MachineEvent
 asked_yes =
     zero_at 30021 (Do (Close pair_p.key pair_p.endpoint))
@@ -190,15 +193,15 @@ asked_yes =
     ∷ zero_at 30022 (Take yes_letter 0 (Yes pair_p.key) (Left pair_p.key pair_p.endpoint))
     ∷ []
 
--- its notes
+-- the notes of `asked_yes`
 abbrev pub asked_yes_notes : List Note
 asked_yes_notes = note Zero 30021 (Released pair_p) ∷ note One 30011 (Released pair_p) ∷ []
 
--- it may not
+-- gateway 1's No
 abbrev pub no_letter : Letter
 no_letter = letter_of 1 1 1 (No pair_p.key ∷ [])
 
--- or gateway 1 used it in the meantime: the answer is No, and it goes on
+-- gateway 1 used the pair in the meantime: the answer to the Ask is No, and the pair goes on
 abbrev pub asked_no : List MachineEvent
 asked_no =
     one_at 29000 (Do (Use pair_p.key pair_p.endpoint))
@@ -209,7 +212,7 @@ asked_no =
     ∷ zero_at 30022 (Take no_letter 0 (No pair_p.key) (Stayed pair_p.key pair_p.endpoint))
     ∷ []
 
--- its notes
+-- the notes of `asked_no`
 abbrev pub asked_no_notes : List Note
 asked_no_notes =
     note One 29000 (Used pair_p)
@@ -217,15 +220,16 @@ asked_no_notes =
     ∷ note Zero 30022 (Retaken pair_p)
     ∷ []
 
--- the first datagram of a second boot
+-- the first letter of the second boot of either gateway
 abbrev pub hello_2 : Letter
 hello_2 = letter_of 2 0 0 []
 
--- the table with the pair, for that boot
+-- the batch that boot 1 of one gateway has for boot 2 of the other, with the pair
 abbrev pub batch_2 : Letter
 batch_2 = letter_of 1 2 0 (Begin ∷ Put pair_p.key pair_p.endpoint ∷ Done ∷ [])
 
--- The pair is asked for when gateway 1 crashes. Its next boot is heard: the pair is revived, and put into the batch.
+-- The pair is asked for when gateway 1 crashes. Gateway 0 hears its next boot: the pair is revived, and put into the
+-- batch.
 abbrev pub revival : List MachineEvent
 revival =
     zero_at 30021 (Do (Close pair_p.key pair_p.endpoint))
@@ -240,7 +244,7 @@ revival =
     ∷ one_at 1 (LoadDone batch_2 2)
     ∷ []
 
--- its notes
+-- the notes of `revival`
 abbrev pub revival_notes : List Note
 revival_notes =
     note Zero 30021 (Released pair_p)
@@ -251,7 +255,8 @@ revival_notes =
     ∷ note One 1 Synced
     ∷ []
 
--- Gateway 0 crashes while gateway 1's own proposal is given up. Its next boot is heard: that proposal is freed, and not revived.
+-- Gateway 0 crashes while gateway 1 has given its own proposal up. Gateway 1 hears gateway 0's next boot: the proposal
+-- is freed, and not revived.
 abbrev pub doomed : List MachineEvent
 doomed =
     zero_at 20 (Do (Propose pair_p.key pair_p.endpoint))
@@ -271,7 +276,7 @@ doomed =
     ∷ zero_at 1 (LoadDone batch_2 2)
     ∷ []
 
--- its notes
+-- the notes of `doomed`
 abbrev pub doomed_notes : List Note
 doomed_notes =
     note One 12 (Retaken pair_p)
@@ -282,11 +287,12 @@ doomed_notes =
     ∷ note Zero 1 Synced
     ∷ []
 
--- another
+-- a second pair of gateway 0
 abbrev pub pair_q : Pair
 pair_q = pair_of (udp 20001) (host 5001)
 
--- A proposal waits when gateway 1 crashes. The operator says that its boot 1 is off: gateway 0 is alone, and uses the pair.
+-- A proposal waits for its answer when gateway 1 crashes. The operator says that gateway 1's boot 1 is off: gateway 0
+-- is lone, and uses the pair.
 abbrev pub peer_off : List MachineEvent
 peer_off =
     zero_at 30 (Do (Propose pair_q.key pair_q.endpoint))
@@ -295,7 +301,7 @@ peer_off =
     ∷ zero_at 40 (LoneUse pair_q.key pair_q.endpoint)
     ∷ []
 
--- its notes
+-- the notes of `peer_off`
 abbrev pub peer_off_notes : List Note
 peer_off_notes =
     note One 30 Crashed
@@ -303,7 +309,7 @@ peer_off_notes =
     ∷ note Zero 40 (Used pair_q)
     ∷ []
 
--- Gateway 0 alone: it makes two pairs and uses them, and drops the second when that has rested.
+-- Gateway 0 is lone: it makes two pairs and uses them, and drops the second pair after its rest.
 abbrev pub alone : List MachineEvent
 alone =
     zero_at 10 (LoneNew pair_p.key pair_p.endpoint)
@@ -313,7 +319,7 @@ alone =
     ∷ zero_at 30020 (LoneDrop pair_q.key pair_q.endpoint)
     ∷ []
 
--- its notes
+-- the notes of `alone`
 abbrev pub alone_notes : List Note
 alone_notes =
     note Zero 10 (Retaken pair_p)
@@ -323,14 +329,15 @@ alone_notes =
     ∷ note Zero 30020 (Released pair_q)
     ∷ []
 
--- the first part of a batch with the other pair, and what was promised
+-- the first part of a batch with the pair, and the part that was promised
 abbrev pub first_part : Letter
 first_part = letter_of 1 1 0 (Begin ∷ Put pair_p.key pair_p.endpoint ∷ [])
 
+-- the part of that batch that was promised
 abbrev pub last_part : Letter
 last_part = letter_of 1 1 2 (Done ∷ [])
 
--- Then gateway 1 boots. The batch is promised: Done is sent only when all of it is handed in.
+-- Gateway 1 boots after `alone`. The batch is promised: Done is sent only after HandIn.
 abbrev pub promising : List MachineEvent
 promising =
     one_at 0 (Boot 1)
@@ -345,17 +352,17 @@ promising =
     ∷ one_at 2 (LoadDone last_part 0)
     ∷ []
 
--- its notes
+-- the notes of `promising`
 abbrev pub promising_notes : List Note
 promising_notes = note One 0 (Booted 1) ∷ note One 1 (Retaken pair_p) ∷ note One 2 Synced ∷ []
 
--- the table with both pairs
+-- gateway 0's batch with both pairs
 abbrev pub batch_3 : Letter
 batch_3 =
     letter_of 1 2 0
     (Begin ∷ Put pair_p.key pair_p.endpoint ∷ Put pair_q.key pair_q.endpoint ∷ Done ∷ [])
 
--- The peer that the operator called off boots again, and is loaded.
+-- The peer that the operator called off boots again after `peer_off`, and is loaded.
 abbrev pub returning : List MachineEvent
 returning =
     one_at 0 (Boot 2)
@@ -369,7 +376,7 @@ returning =
     ∷ one_at 1 (LoadDone batch_3 3)
     ∷ []
 
--- its notes
+-- the notes of `returning`
 abbrev pub returning_notes : List Note
 returning_notes =
     note One 0 (Booted 2)
@@ -378,23 +385,24 @@ returning_notes =
     ∷ note One 1 Synced
     ∷ []
 
--- six ports, of which gateway 0 is founded with two
+-- whether a port is one of six, of which gateway 0 is founded with two
 abbrev pub in_six : ℕ → Bool
 in_six n = in_run 20000 20001 n || in_run 40000 40003 n
 
--- in order
+-- the six ports, in order
 abbrev pub six : List ℕ
 six = 20000 ∷ 20001 ∷ 40000 ∷ 40001 ∷ 40002 ∷ 40003 ∷ []
 
--- they move
+-- the six ports, which move
 abbrev pub six_ports : Ranges
 six_ports = moving in_six (in_run 20000 20001)
 
--- from this port to that one
+-- the run from one port to another
 abbrev pub run_of : ℕ → ℕ → Run
 run_of first last = record { first = first; last = last }
 
--- the events are allowed, and lead to these notes and to these owned ports of the two
+-- The events are allowed from the founding, and lead to these notes and to these ports of the six owned by gateway 0
+-- and gateway 1.
 pub record LeavesPorts (events : List MachineEvent)
     (trace : List Note) (zero one : List ℕ) : Type 0 where
   pub allowed : AreAllowed six_ports events (founding six_ports)
@@ -402,7 +410,7 @@ pub record LeavesPorts (events : List MachineEvent)
   pub zero_is : filter (after_events six_ports events (founding six_ports)).mine.owned six ≡ zero
   pub one_is : filter (after_events six_ports events (founding six_ports)).theirs.owned six ≡ one
 
--- an empty table, and gateway 0's ports
+-- gateway 0's batch of an empty table, with its ports
 abbrev pub named_batch : Letter
 named_batch = letter_of 1 1 0 (Begin ∷ Owner 20000 20001 ∷ Done ∷ [])
 
@@ -421,12 +429,12 @@ sharing =
     ∷ one_at 1 (LoadDone named_batch 2)
     ∷ []
 
--- a pair of gateway 0, and its ports
+-- gateway 0's batch of a pair, with its ports
 abbrev pub whole_batch : Letter
 whole_batch =
     letter_of 1 1 0 (Begin ∷ Owner 20000 20001 ∷ Put pair_p.key pair_p.endpoint ∷ Done ∷ [])
 
--- Or gateway 0 has a pair by then: the batch has both an Owner and a Put.
+-- Gateway 0 has a pair when gateway 1 boots: the batch has both an Owner and a Put.
 abbrev pub naming : List MachineEvent
 naming =
     zero_at 10 (LoneNew pair_p.key pair_p.endpoint)
@@ -442,7 +450,7 @@ naming =
     ∷ one_at 1 (LoadDone whole_batch 3)
     ∷ []
 
--- its notes
+-- the notes of `naming`
 abbrev pub naming_notes : List Note
 naming_notes =
     note Zero 10 (Retaken pair_p)
@@ -452,15 +460,15 @@ naming_notes =
     ∷ note One 1 Synced
     ∷ []
 
--- the ports that are granted
+-- the ports that gateway 1 grants
 abbrev pub granted : List ℕ
 granted = 40003 ∷ 40002 ∷ []
 
--- ports are asked for
+-- gateway 0's Want
 abbrev pub want : Letter
 want = letter_of 1 1 3 (Want ∷ [])
 
--- and granted
+-- gateway 1's Grant
 abbrev pub grant : Letter
 grant = letter_of 1 1 0 (Grant granted ∷ [])
 
@@ -473,18 +481,18 @@ wanting =
     ∷ one_at 20 (Send 0 1)
     ∷ []
 
--- they come, and a pair is proposed on one of them
+-- the granted ports come, and gateway 0 proposes a pair on one of them
 abbrev pub granting : List MachineEvent
 granting =
     zero_at 31 (TakePorts grant 0 granted granted)
     ∷ zero_at 31 (Do (Propose (udp 40002) pair_p.endpoint))
     ∷ []
 
--- an empty table, and what gateway 1 still owns
+-- gateway 1's batch of an empty table, with the ports that it still owns
 abbrev pub rest_batch : Letter
 rest_batch = letter_of 1 2 0 (Begin ∷ Owner 40000 40001 ∷ Done ∷ [])
 
--- Or the Grant is lost in a crash of gateway 0: once it is loaded again it owns what gateway 1 doesn't.
+-- The Grant is lost in a crash of gateway 0: once gateway 0 is loaded again it owns the ports that gateway 1 doesn't.
 abbrev pub losing : List MachineEvent
 losing =
     zero_at 31 Crash
@@ -498,6 +506,6 @@ losing =
     ∷ zero_at 1 (LoadDone rest_batch 2)
     ∷ []
 
--- its notes
+-- the notes of `losing`
 abbrev pub losing_notes : List Note
 losing_notes = note Zero 31 Crashed ∷ note Zero 0 (Booted 2) ∷ note Zero 1 Synced ∷ []

@@ -1,4 +1,5 @@
--- What two gateways hold and have under way between them, and what one of them may do.
+-- What two gateways hold in their tables and have under way between them, and the deeds: what one of them may do with a
+-- pair.
 use Rattle.std.specs.Prelude.{◌≡◌, ℕ, Bool, false, cond, List, [], ◌∷◌, IsTrue, Option, Some, None, ◌⊎◌}
 use Rattle.nat_types.specs.Same.{same_key}
 use Rattle.nat_types.specs.declared.gateways.GatewayId.{GatewayId}
@@ -10,7 +11,7 @@ use Rattle.nat_types.specs.declared.pairs.Endpoint.{Endpoint}
 use Rattle.nat_types.specs.declared.pairs.Key.{Key}
 use Rattle.nat_types.specs.declared.pairs.Pair.{Pair}
 
--- what a gateway's table has at an outside port
+-- what a gateway's table has at an outside port: nothing, or an endpoint in one of five states
 pub data Slot : Type 0 where
   Free : Slot
   Pending : (endpoint : Endpoint) → Slot
@@ -19,7 +20,7 @@ pub data Slot : Type 0 where
   Closing : (endpoint : Endpoint) → Slot
   Held : (endpoint : Endpoint) → Slot
 
--- the endpoint of a pair of the table: a doomed entry is none
+-- the endpoint of a pair that the table holds; a doomed entry (a proposal given up) is no pair
 abbrev pub held : Slot → Option Endpoint
 held Free = None
 held (Pending e) = Some e
@@ -28,7 +29,7 @@ held (Live e) = Some e
 held (Closing e) = Some e
 held (Held e) = Some e
 
--- the endpoint of a pair that translates
+-- the endpoint of a pair with which the gateway translates
 abbrev pub translated : Slot → Option Endpoint
 translated Free = None
 translated (Pending e) = None
@@ -37,7 +38,7 @@ translated (Live e) = Some e
 translated (Closing e) = None
 translated (Held e) = Some e
 
--- a record of the link, with those of ports that move
+-- a record of the link between the gateways
 pub data MachineRecord : Type 0 where
   Install : (key : Key) (endpoint : Endpoint) → MachineRecord
   Accept : (key : Key) → MachineRecord
@@ -48,7 +49,8 @@ pub data MachineRecord : Type 0 where
   Begin : MachineRecord
   Put : (key : Key) (endpoint : Endpoint) → MachineRecord
   Done : MachineRecord
-  -- ports are asked for and granted; Owner names a run of ports that the sender of a batch owns
+  -- A gateway asks for ports by Want and gets them by Grant. Owner names a run of ports that the sender of a batch
+  -- owns.
   Want : MachineRecord
   Grant : (ports : List ℕ) → MachineRecord
   Owner : (first last : ℕ) → MachineRecord
@@ -68,7 +70,7 @@ is_on k Want = false
 is_on k (Grant ports) = false
 is_on k (Owner first last) = false
 
--- those of the records that are on this port
+-- the records of the list that are on this port
 abbrev pub on : Key → List MachineRecord → List MachineRecord
 on k [] = []
 on k (r ∷ rs) = cond (is_on k r) (r ∷ on k rs) (on k rs)
@@ -77,30 +79,31 @@ on k (r ∷ rs) = cond (is_on k r) (r ∷ on k rs) (on k rs)
 abbrev pub set_at : {A : Type 0} → (Key → A) → Key → A → Key → A
 set_at f k v q = cond (same_key k q) v (f q)
 
--- What a synced gateway that isn't lone does with a pair, with its free choices: it needs no reason.
+-- What a synced gateway that isn't lone does with a pair. A deed needs no reason: the machine allows any choice.
 pub data Deed : Type 0 where
-  -- it proposes a pair, asks to close one, translates with one
+  -- the gateway proposes a pair, asks to close one, or translates with one
   Propose : (key : Key) (endpoint : Endpoint) → Deed
   Close : (key : Key) (endpoint : Endpoint) → Deed
   Use : (key : Key) (endpoint : Endpoint) → Deed
-  -- an Install is accepted; accepted, and the own proposal for the endpoint given up; refused
+  -- An Install comes. Agree accepts it; Yield accepts it and gives the own proposal for its endpoint up; Reject refuses
+  -- it.
   Agree : (key : Key) (endpoint : Endpoint) → Deed
   Yield : (key : Key) (endpoint : Endpoint) (mine : Key) → Deed
   Reject : (key : Key) (endpoint : Endpoint) → Deed
   -- an Accept, or a Refuse, of the own proposal comes
   Agreed : (key : Key) (endpoint : Endpoint) → Deed
   Rejected : (key : Key) → Deed
-  -- an Ask is answered by Yes, and the pair dropped; or by No
+  -- an Ask comes: it is answered by Yes, and the pair dropped; or by No
   Leave : (key : Key) (endpoint : Endpoint) → Deed
   Stay : (key : Key) (endpoint : Endpoint) → Deed
-  -- a Yes comes, or a No
+  -- a Yes, or a No, to the own Ask comes
   Left : (key : Key) (endpoint : Endpoint) → Deed
   Stayed : (key : Key) (endpoint : Endpoint) → Deed
-  -- an Ask for what isn't held is answered by Yes; a record to which nothing here belongs is passed over
+  -- an Ask for a pair that isn't held is answered by Yes; a record to which nothing in the table belongs is passed over
   Pass : (key : Key) → Deed
   Skip : (r : MachineRecord) → Deed
 
--- the record that is taken
+-- the record that a deed takes, if any
 abbrev pub taken_by : Deed → List MachineRecord
 taken_by (Propose k e) = []
 taken_by (Close k e) = []
@@ -117,7 +120,7 @@ taken_by (Stayed k e) = No k ∷ []
 taken_by (Pass k) = Ask k ∷ []
 taken_by (Skip r) = r ∷ []
 
--- the record that is pushed
+-- the record that a deed pushes, if any
 abbrev pub pushed_by : Deed → List MachineRecord
 pushed_by (Propose k e) = Install k e ∷ []
 pushed_by (Close k e) = Ask k ∷ []
@@ -134,7 +137,7 @@ pushed_by (Stayed k e) = []
 pushed_by (Pass k) = Yes k ∷ []
 pushed_by (Skip r) = []
 
--- the table afterwards
+-- the table after a deed
 abbrev pub table_after : (Key → Slot) → Deed → Key → Slot
 table_after table (Propose k e) = set_at table k (Pending e)
 table_after table (Close k e) = set_at table k (Closing e)
@@ -155,11 +158,11 @@ table_after table (Skip r) = table
 abbrev pub pair_of : Key → Endpoint → Pair
 pair_of k e = record { key = k; endpoint = e }
 
--- gateway i notes this at its moment
+-- a note of gateway i, at this time of its clock
 abbrev pub note : GatewayId → ℕ → NoteKind → Note
 note i moment what = record { by = i; at = moment; what = what }
 
--- the notes
+-- the notes that a deed of gateway i makes
 abbrev pub noted_by : GatewayId → ℕ → Deed → List Note
 noted_by i moment (Propose k e) = []
 noted_by i moment (Close k e) = note i moment (Released (pair_of k e)) ∷ []
@@ -180,9 +183,9 @@ noted_by i moment (Skip r) = []
 abbrev pub IsUnbound : (Key → Slot) → Endpoint → Type 0
 IsUnbound table e = (q : Key) → held (table q) ≡ Some e → ⊥
 
--- owned says whether the gateway owns the port of a key
+-- `owned` says whether the gateway owns the port of a key.
 module _ (owned : Key → Bool) where
-  -- nothing in the table belongs to the record
+  -- nothing in the table belongs to the record, so the gateway passes over it
   abbrev pub IsLost : (Key → Slot) → MachineRecord → Type 0
   IsLost table (Install k e) = ⊥
   IsLost table (Accept k) = (e : Endpoint) → IsTrue (owned k) → table k ≡ Pending e → ⊥
@@ -198,7 +201,7 @@ module _ (owned : Key → Bool) where
   IsLost table (Grant ports) = ⊥
   IsLost table (Owner first last) = Unit {0}
 
-  -- when gateway i may do it: only an owner's slot is Pending, Doomed, Live or Closing
+  -- whether gateway i may do the deed: only an owner's slot is Pending, Doomed, Live or Closing
   abbrev pub MayDo : GatewayId → (Key → Slot) → Deed → Type 0
   MayDo i table (Propose k e) = IsTrue (owned k) × (table k ≡ Free) × IsUnbound table e
   MayDo i table (Close k e) = table k ≡ Live e

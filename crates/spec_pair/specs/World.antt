@@ -1,4 +1,5 @@
--- The pair with its mail: every datagram that was ever sent may come, any number of times and in any order.
+-- The pair of gateways with its mail: every letter that was ever sent may come, any number of times and in any order. A
+-- scene is the state of both gateways and their mail. An execution is a list of allowed events from the founding.
 use Rattle.std.specs.Prelude.{IsTrue, List, Some, [], false, length, true, ℕ, ◌&&◌, ◌++◌, ◌||◌, ◌∷◌, ◌≡◌, ◌+◌, ◌≤◌}
 use Rattle.nat_types.specs.declared.gateways.GatewayId.{GatewayId}
 use Rattle.nat_types.specs.declared.gateways.GatewayId.TheVariants.{Zero, One}
@@ -11,7 +12,8 @@ use Rattle.spec_pair.specs.Box.{never, Box, In, Letter, founder}
 use Rattle.spec_pair.specs.Ownership.{Ranges}
 use Rattle.spec_pair.specs.Talk.{Slot, held, translated}
 
--- what one gateway sees: itself and the other, all that each ever sent, and the notes of both, the newest first
+-- a scene, as one gateway sees it: its own box and the other's, all letters that each ever sent, and the notes of both,
+-- the newest first
 pub record Scene : Type 0 where
   pub mine : Box
   pub theirs : Box
@@ -19,7 +21,7 @@ pub record Scene : Type 0 where
   pub their_mail : List Letter
   pub trace : List Note
 
--- what the other sees
+-- the scene as the other gateway sees it
 abbrev pub flip : Scene → Scene
 flip s = record {
   mine = s.theirs;
@@ -35,19 +37,19 @@ Outside s (PeerOff number back) = (s.theirs.up ≡ false) × (number ≡ s.their
 Outside s Crash = s.mine.synced ≡ true → s.theirs.synced ≡ true
 Outside s x = Unit {0}
 
--- The world is the scene that gateway 0 sees. An event is an act of one of the two.
+-- An event: an act of one of the two gateways. The world is the scene as gateway 0 sees it.
 pub record MachineEvent : Type 0 where
   pub by : GatewayId
-  -- the moment of its clock, which stands in the notes
+  -- the time of its gateway's clock, which its notes bear
   pub moment : ℕ
   pub act : Act
 
--- the scene as this one sees it
+-- the scene of gateway 0, as the given gateway sees it
 abbrev pub seen_by : GatewayId → Scene → Scene
 seen_by Zero s = s
 seen_by One s = flip s
 
--- gateway 0 is founded with boot 1, gateway 1 down
+-- the founding: gateway 0 is up with boot 1, synced and lone, and gateway 1 never booted
 abbrev pub founding : Ranges → Scene
 founding r = record {
   mine = founder (λ p. r.in_ranges p && r.at_start p);
@@ -57,67 +59,68 @@ founding r = record {
   trace = [];
 }
 
--- what belongs to gateway 0, and what to gateway 1
+-- of two values, the first belongs to gateway 0 and the second to gateway 1
 abbrev pub both : {A : Type 0} → A → A → GatewayId → A
 both a b Zero = a
 both a b One = b
 
--- the box of this gateway, and all the letters that it ever sent
+-- the box of a gateway
 abbrev pub box_in : Scene → GatewayId → Box
 box_in s = both s.mine s.theirs
 
+-- all letters that a gateway ever sent
 abbrev pub mail_in : Scene → GatewayId → List Letter
 mail_in s = both s.my_mail s.their_mail
 
--- the scene with this box of the gateway, these notes in all and these letters of it in all
+-- the scene where the gateway has this box and has sent these letters in all, and these are all notes
 abbrev pub with_step : Scene → GatewayId → Box → List Note → List Letter → Scene
 with_step s Zero new notes letters = record s { mine = new; my_mail = letters; trace = notes }
 with_step s One new notes letters = record s { theirs = new; their_mail = letters; trace = notes }
 
--- the two tables
+-- the tables of the two gateways
 abbrev pub tables_of : Scene → GatewayId → Key → Slot
 tables_of s i = (box_in s i).table
 
--- the pair is in the table
+-- the gateway's table holds the pair
 abbrev pub TableHolds : (GatewayId → Key → Slot) → GatewayId → Pair → Type 0
 TableHolds tables i p = held (tables i p.key) ≡ Some p.endpoint
 
--- the pair translates there
+-- the gateway translates with the pair
 abbrev pub TableTranslates : (GatewayId → Key → Slot) → GatewayId → Pair → Type 0
 TableTranslates tables i p = translated (tables i p.key) ≡ Some p.endpoint
 
--- What is promised of the trace and the two tables of each world.
+-- What is promised of the trace and the two tables of each scene that can come about.
 pub record IsKept (t : List Note) (tables : GatewayId → Key → Slot) : Type 0 where
   pub fits : Fits t
   pub kept : Kept (TableHolds tables) t
   pub silent : Silent t
   pub goes_on : GoesOn (TableTranslates tables) t
 
--- What is promised of the ports of each world.
+-- What is promised of the ports in each scene that can come about.
 pub record HasOwners (r : Ranges) (s : Scene) : Type 0 where
   -- no port is owned by two synced gateways
   pub apart : s.mine.synced ≡ true → s.theirs.synced ≡ true → (p : ℕ) → IsTrue (s.mine.owned p) →
       IsTrue (s.theirs.owned p) → ⊥
-  -- where both are synced and every record pushed was taken, each port of the ranges has one owner
+  -- where both are synced and all records pushed were taken, each port of the ranges has an owner
   pub whole : s.mine.synced ≡ true → s.theirs.synced ≡ true → s.mine.taken ≡ length s.theirs.sent →
       s.theirs.taken ≡ length s.mine.sent
       → (p : ℕ) → IsTrue (r.in_ranges p) → IsTrue (s.mine.owned p || s.theirs.owned p)
-  -- and no other port is owned
+  -- a synced gateway owns no port outside the ranges
   pub within : (i : GatewayId) → (box_in s i).synced ≡ true → (p : ℕ) →
       IsTrue ((box_in s i).owned p) → IsTrue (r.in_ranges p)
 
--- so many records, and no more, stand in the letters of the session that the gateway is in
+-- the letters of the session that the gateway is in have only the first n records of the session
 abbrev pub EndsBy : Box → List Letter → ℕ → Type 0
 EndsBy b mail n =
     (l : Letter) → In l mail → l.boot ≡ b.peer → l.to ≡ b.boot → l.first + length l.records ≤ n
 
 module _ (r : Ranges) where
-  -- An act is allowed where the gateway may do it, what it reads was sent, and the outside is so.
+  -- Gateway i can do the act: it may do it, the letter that it reads was sent, and what the act needs outside holds.
   abbrev pub Can : GatewayId → Scene → Act → Type 0
   Can i s x =
       MayAct r i s.mine x × ((l : Letter) → In l (read_by x) → In l s.their_mail) × Outside s x
 
-  -- the scene afterwards
+  -- the scene after an act of gateway i at this time
   abbrev pub after_act : GatewayId → ℕ → Scene → Act → Scene
   after_act i moment s x = record {
     mine = box_after r i s.mine x;
@@ -127,16 +130,16 @@ module _ (r : Ranges) where
     trace = act_notes i moment x ++ s.trace;
   }
 
-  -- the world after an event
+  -- the scene of gateway 0 after an event
   abbrev pub after_event : Scene → MachineEvent → Scene
   after_event s e = seen_by e.by (after_act e.by e.moment (seen_by e.by s) e.act)
 
-  -- after these events
+  -- the scene of gateway 0 after these events
   abbrev pub after_events : List MachineEvent → Scene → Scene
   after_events [] s = s
   after_events (e ∷ es) s = after_events es (after_event s e)
 
-  -- each event is allowed where it comes
+  -- each event is allowed in the scene where it comes
   abbrev pub AreAllowed : List MachineEvent → Scene → Type 0
   AreAllowed [] s = Unit {0}
   AreAllowed (e ∷ es) s = Can e.by (seen_by e.by s) e.act × AreAllowed es (after_event s e)

@@ -1,4 +1,4 @@
-//! What holds of every pair. Each law is the contract of a function that does nothing.
+//! The laws that hold of every pair of gateways. Each law is the contract of a function that does nothing.
 
 ghost use Rattle.std.specs.Prelude.{◌≡◌, ◌≤◌, ◌<◌, ◌+◌, length, ℕ, Bool, false, ◌&&◌, ◌++◌, List, [], ◌∷◌, Some, IsTrue, filter, true, reverse};
 ghost use Rattle.nat_types.specs.Same.{other, same};
@@ -19,10 +19,11 @@ ghost use Rattle.spec_pair.specs.Step.{IsOff, IsStep, ReadsOnly, WasSent};
 ghost use Rattle.spec_pair.specs.Talk.{Free, Held, Live, MachineRecord, Slot};
 ghost use Rattle.spec_pair.specs.World.{AreAllowed, Can, EndsBy, MachineEvent, HasOwners, TableHolds, IsKept, IsWorld, Scene, TableTranslates, box_in, after_act, after_event, flip, mail_in, after_events, seen_by, founding, tables_of, with_step};
 
-/// The headline. Whatever is lost, repeated or reordered, and whenever a gateway crashes and boots: no outside port of
-/// an open pair serves another endpoint, no endpoint gets another port, every open pair is held by each synced gateway,
-/// no unsynced gateway uses a pair, and each synced gateway translates with what it used or took over. No port is owned
-/// by two synced gateways, and once both have taken all that was pushed each port of the ranges has an owner.
+/// The headline, for any loss, repetition and reordering of datagrams and any crashes and boots that are allowed. No
+/// outside port of an open pair serves another endpoint, no endpoint gets another port, every open pair is held by each
+/// synced gateway, no unsynced gateway uses a pair, and each synced gateway translates with the pairs that it used or
+/// took over. No port is owned by two synced gateways, and once both have taken all that was pushed each port of the
+/// ranges has an owner.
 pub fn the_pair_keeps()
     ensures kept { (r : Ranges) (events : List MachineEvent)
         → AreAllowed r events (founding r) →
@@ -32,12 +33,12 @@ pub fn the_pair_keeps()
         HasOwners r (after_events r events (founding r)) }
 {}
 
-/// The founding can come about.
+/// The scene at the founding can come about.
 pub fn begins()
     ensures { (r : Ranges) → IsWorld r (founding r) }
 {}
 
-/// An execution with one more allowed event is one: what the event leads to can come about.
+/// A scene to which one more allowed event leads, from a scene that can come about, can come about.
 pub fn goes_to()
     ensures { (r : Ranges) (s : Scene) (e : MachineEvent) → IsWorld r s →
         Can r e.by (seen_by e.by s) e.act → IsWorld r (after_event r s e) }
@@ -49,8 +50,8 @@ pub fn promises()
     ensures owners { (r : Ranges) (s : Scene) → IsWorld r s → HasOwners r s }
 {}
 
-/// The same of a trace in the order in which its notes were made, and that a gateway's box is synced exactly where
-/// the trace says so.
+/// A scene that can come about keeps what is promised, said of its trace in the order in which the notes were made. A
+/// gateway's box is synced exactly where the trace says so.
 pub fn promises_in_order()
     ensures fits { (r : Ranges) (s : Scene) (trace : List Note) → IsWorld r s →
         s.trace ≡ reverse trace → Fits trace }
@@ -66,7 +67,7 @@ pub fn promises_in_order()
 {}
 
 /// Where the other gateway is synced, the record that gateway i may take next is the one that the other pushed at that
-/// place of the session: what is taken is a beginning of what was pushed.
+/// place of the session. So the records taken are a beginning of those pushed.
 pub fn takes_in_order()
     ensures { (r : Ranges) (s : Scene) (i : GatewayId) (l : Letter) (offset : ℕ)
         (q : MachineRecord)
@@ -74,9 +75,9 @@ pub fn takes_in_order()
         StandsNext v.mine l offset q → nth v.theirs.sent v.mine.taken ≡ Some q }
 {}
 
-/// What only a forger can do: while its batch is promised, a synced gateway that isn't lone never meets a letter of the
-/// other's with a record that stands next, and in the session with it the other took no more than may be sent;
-/// and ever it took no more than letters of its session have.
+/// While its batch is promised, a synced gateway that isn't lone never meets a letter of the other's with a record that
+/// stands next, and in their session the other took no more records than may be sent. And no gateway ever took more
+/// records than the letters of its session have. Only a forged datagram can break these.
 pub fn nothing_forged()
     ensures waits { (r : Ranges) (s : Scene) (i : GatewayId) (m : ℕ) (l : Letter) (offset : ℕ)
         (q : MachineRecord) → IsWorld r s → let v = seen_by i s in v.mine.synced ≡ true →
@@ -90,8 +91,9 @@ pub fn nothing_forged()
         let v = seen_by i s in EndsBy v.theirs v.my_mail n → v.theirs.taken ≤ n }
 {}
 
-/// A step of gateway i, as its own contract tells of it, leads from a scene that can come about to one that can, where
-/// the letters that it was handed were sent by the other and the operator's words of the other are true.
+/// A step of gateway i, as its own contract tells of it, leads from a scene that can come about to one that can. The
+/// letters that the step was given have to be letters that the other sent, and the operator's words about the other
+/// have to be true.
 pub fn a_step_keeps()
     ensures { (r : Ranges) (i : GatewayId) (moment : ℕ) (s : Scene) (ls : List Letter)
         (ws : List ℕ)
@@ -101,7 +103,7 @@ pub fn a_step_keeps()
         IsWorld r (with_step s i new t mail) }
 {}
 
-/// A step that changes nothing that the machine knows.
+/// A gateway that stays as it is, without a note or a letter, makes a step: one of no act.
 pub fn rests()
     ensures { (r : Ranges) (i : GatewayId) (moment : ℕ) (a b : Box) (ls : List Letter)
         (ws : List ℕ)
@@ -109,7 +111,7 @@ pub fn rests()
         IsStep r i moment a b ls ws t t mail mail }
 {}
 
-/// A step of one act.
+/// One act that a gateway may do, other than a crash or a boot, is a step.
 pub fn one_act()
     ensures { (r : Ranges) (i : GatewayId) (moment : ℕ) (a b : Box) (x : Act) (ls : List Letter)
         (ws : List ℕ) (t : List Note) (mail : List Letter) → MayAct r i a x → ReadsOnly ls ws x →
@@ -122,7 +124,7 @@ pub fn same_boxes()
     ensures { (a b : Box) → AreSame a b → a ≡ b }
 {}
 
-/// Two parts of a step make one.
+/// Two steps, one after the other at the same time, make one step.
 pub fn steps_join()
     ensures { (r : Ranges) (i : GatewayId) (moment : ℕ) (a b c : Box) (ls : List Letter)
         (ws : List ℕ) (t t2 t3 : List Note) (m m2 m3 : List Letter) →
@@ -130,7 +132,7 @@ pub fn steps_join()
         IsStep r i moment a c ls ws t t3 m m3 }
 {}
 
-/// A step that was handed these letters and words is one that was handed more.
+/// A step that was given these letters and words is also a step that was given more.
 pub fn more_is_handed()
     ensures { (r : Ranges) (i : GatewayId) (moment : ℕ) (a b : Box) (ls ls2 : List Letter)
         (ws ws2 : List ℕ) (t t2 : List Note) (m m2 : List Letter) → WasSent ls ls2 →
@@ -138,7 +140,7 @@ pub fn more_is_handed()
         IsStep r i moment a b ls2 ws2 t t2 m m2 }
 {}
 
-/// What a step notes and sends doesn't hang on what was noted and sent before.
+/// A step's notes and letters don't depend on what was noted and sent before.
 pub fn steps_anywhere()
     ensures { (r : Ranges) (i : GatewayId) (moment : ℕ) (a b : Box) (ls : List Letter)
         (ws : List ℕ)
@@ -147,8 +149,8 @@ pub fn steps_anywhere()
         IsStep r i moment a b ls ws t (ns ++ t) mail (ms ++ mail) }
 {}
 
-/// Any bytes: whatever record stands at the next number of a letter, the record table names the act that takes it, at a
-/// gateway that isn't lone; of granted ports those become owned that lie in the ranges, aren't owned and have no entry.
+/// Whatever record is at the next number of a letter, the record table names the act that takes it, at a gateway
+/// that isn't lone. Of granted ports those become owned that are in the ranges, aren't owned and have no entry.
 pub fn any_record_is_taken()
     ensures taken { (r : Ranges) (i : GatewayId) (a : Box) (l : Letter) (offset : ℕ) (f : Facts)
         (q : MachineRecord) → (a.synced ≡ true → a.lone ≡ false) → StandsNext a l offset q →
@@ -171,9 +173,10 @@ pub fn never_stuck()
         (act_by_table r i v.mine (next_letter v) 0 f q)) < outstanding v }
 {}
 
-/// Of two that are up, where one hasn't heard the other's boot, the other may say it (`said`), and the one may hear it:
-/// unsynced (`anew`), or synced with the pairs and runs of its batch (`heard`). Then one fewer hasn't (`fewer_anew`,
-/// `fewer_heard`). Where both have, they are in one session, and neither is lone (`together`).
+/// Of two gateways that are up, where one hasn't heard the other's boot, the other may send a letter that tells it
+/// (`said`), and the one may hear it: unsynced (`anew`), or synced with the pairs and runs of its batch (`heard`). Then
+/// one gateway fewer hasn't heard (`fewer_anew`, `fewer_heard`). Where both have heard, they are in one session, and
+/// neither is lone (`together`).
 pub fn hears_next()
     ensures said { (r : Ranges) (i : GatewayId) (v : Scene) → v.theirs.up ≡ true →
         Can r (other i) (flip v) (Send 0 0) }
@@ -199,9 +202,9 @@ pub fn hears_next()
         AreTogether v }
 {}
 
-/// In one session neither took more than the other pushed (`counts`). Where one took less, and a promise doesn't keep
-/// back what is next, a record stands next (`next`), so that `never_stuck` speaks of it. Where nothing is left to do
-/// both are synced (`done`).
+/// In one session neither gateway took more than the other pushed (`counts`). Where one took less, and the next record
+/// isn't held back as promised, a record stands next (`next`), and `never_stuck` says what may be done with it. Where
+/// nothing is left to do both are synced (`done`).
 pub fn some_is_next()
     ensures done { (r : Ranges) (s : Scene) (i : GatewayId) → IsWorld r s →
         let v = seen_by i s in AreTogether v → outstanding v ≡ 0 → v.mine.synced ≡ true }
@@ -213,8 +216,8 @@ pub fn some_is_next()
         (q : MachineRecord) × IsNext v q }
 {}
 
-/// A gateway that isn't synced, in a session with one that is, has not taken all that the other pushed. So where all is
-/// taken it is synced.
+/// A gateway that isn't synced, in a session with one that is, has not taken all that the other pushed. So once it has
+/// taken all, it is synced.
 pub fn unsynced_is_behind()
     ensures { (r : Ranges) (s : Scene) (i : GatewayId) → IsWorld r s → let v = seen_by i s in
         v.mine.synced ≡ true → v.mine.lone ≡ false → v.theirs.synced ≡ false →
@@ -222,7 +225,7 @@ pub fn unsynced_is_behind()
         v.theirs.taken < length v.mine.sent }
 {}
 
-/// A list of the pairs of a table, each once and on ports of the ranges, may be put into a batch: each pair is new
+/// A list of the pairs of a table, each once and on ports of the ranges, may be put into a batch. Each pair is new
 /// where it is loaded, and a gateway that owns the ports `own` has the mirrored table in the end.
 pub fn batch_loads()
     ensures loads { (r : Ranges) (own : Key → Bool) (table : Key → Slot) (ps : List Pair) →
@@ -231,13 +234,13 @@ pub fn batch_loads()
         LieWithin r table → AreThose table ps → AreApart ps → AreMirrored own table ps }
 {}
 
-/// Where ports move and the runs are the owned ports, they leave the rest of the ranges.
+/// Where ports move and the runs are the owned ports, the runs leave the rest of the ranges to the other gateway.
 pub fn runs_leave()
     ensures { (in_ranges at_start owned : ℕ → Bool) (i : GatewayId) (os : List Run) →
         ((p : ℕ) → in_runs p os ≡ owned p) → LeaveRest (moving in_ranges at_start) i owned os }
 {}
 
-/// With fixed ranges no run is named: what is left is the other's range.
+/// With fixed ranges no run is named, and the other gateway has its own range.
 pub fn fixed_leaves()
     ensures { (in_ranges : ℕ → Bool) (owner : ℕ → GatewayId) (i : GatewayId) →
         LeaveRest (fixed in_ranges owner) i (λ p. in_ranges p && same i (owner p)) [] }
@@ -272,8 +275,8 @@ pub fn rows_lead()
         (slot_on 20001 (Live (host 5001)) ∷ live_first) [] }
 {}
 
-/// Whole runs with six ports that move: while a Grant is on its way its ports are nobody's; then they are the asker's;
-/// if it is lost in a crash, the asker has them once it is loaded again. Owners stand beside Puts in one batch too.
+/// Whole runs with six ports that move. While a Grant is on its way its ports are nobody's; then they are the asker's.
+/// If the Grant is lost in a crash, the asker has them once it is loaded again. A batch may have both Owners and Puts.
 pub fn ports_move()
     ensures granted { LeavesPorts (sharing ++ wanting) loading_notes (20000 ∷ 20001 ∷ [])
         (40000 ∷ 40001 ∷ []) }

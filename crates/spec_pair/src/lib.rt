@@ -1,5 +1,5 @@
-//! Two gateways and the datagrams between them as a pure machine, and what it promises for every
-//! list of allowed events.
+//! Two gateways and the datagrams between them as a pure machine, and what the machine promises for
+//! every list of allowed events.
 #![tactic(auto)]
 
 pub mod laws;

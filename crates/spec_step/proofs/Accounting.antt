@@ -1,4 +1,5 @@
--- A gateway's ledger accounts for the trace after a whole step: interfaces, datagrams, the operator's word, ticks.
+-- A gateway's ledger accounts for the trace after a whole step: at interfaces, datagrams, the operator's word and
+-- ticks.
 use Rattle.std.proofs.Common.{◌≡◌, ◌≤◌, ℕ, Bool, true, false, cond, not, ◌&&◌, List, [], ◌∷◌, ◌++◌, drop, take, Option, Some, None, Result, Ok, Err, refl, sym, ap, subst, ◌∙◌, arith}
 use Rattle.std.specs.List.{AllByRecursion}
 use Rattle.std.proofs.lemmas.List.{append-nil, take-append-drop}
@@ -251,7 +252,7 @@ old-rests s = resting-unseen s (old_dropped s) refl refl refl (λ k. kept-filter
 stopped-rests : (s : GatewayAndOutput) → Resting s (stopped s)
 stopped-rests s = resting-unseen s (stopped s) refl refl refl (λ k. k)
 
--- the turn of a tick
+-- the ledger accounts for the trace after the turn of a tick
 turn-rests : (s s2 : GatewayAndOutput) → GivingWay s s2 → Resting s s2
 turn-rests s s2 takes =
     turn-by (λ x. Resting s x) s s2
@@ -326,7 +327,7 @@ end-rests (SideIs side up) done = resting-nothing done
 
 -- ---- a whole step
 
--- from where a step begins to where its parts do, which at a tick is later
+-- a tick's parts begin at a later time than the tick's step, and any other event's at the same time
 record Leads (s start : GatewayAndOutput) : Type 0 where
   notes : start.told.notes ≡ s.told.notes
   id : id_of start.shown ≡ id_of s.shown

@@ -1,4 +1,5 @@
--- A gateway's ledger accounts for what the other one notes, and as the gateway begins.
+-- A gateway's ledger accounts for what the other one notes, and accounts for the trace as the
+-- gateway begins.
 use Rattle.std.proofs.Common.{◌≡◌, ℕ, Bool, true, false, cond, List, [], ◌∷◌, ◌++◌, reverse, refl, sym, ap, subst, ◌∙◌}
 use Rattle.std.specs.List.{AllByRecursion}
 use Rattle.std.proofs.lemmas.List.{reverse-append}
@@ -29,21 +30,21 @@ by-other : (id own : GatewayId) (now : ℕ) (ns : List Note) → same own id ≡
 by-other id own now [] apart all = tt
 by-other id own now (n ∷ ns) apart all = (ap (λ (i : GatewayId). same own i) all.0.0 ∙ apart, by-other id own now ns apart all.1)
 
--- a step of the other gateway
+-- the ledger accounts for the notes of a step of the other gateway
 pub step-apart : (s s2 : GatewayAndOutput) (g : Shown) (before : List Note) (x : Rests s s2) → same (id_of g) (id_of s.shown) ≡ false → AccountsOn s.shown before → AccountsOn g before → AccountsOn g (reverse x.notes ++ before)
 step-apart s s2 g before x apart theirs a =
     foreign-accounts g.moment g.ledger before (reverse x.notes)
     (by-other (id_of s.shown) (id_of g) s2.shown.moment (reverse x.notes) apart (by-reverse (id_of s.shown) s2.shown.moment x.notes x.own))
     (x.accounts before theirs).idle a
 
--- its crash, and its boot
+-- the ledger accounts for a crash, and for a boot, of the other gateway
 pub crash-apart : (g : Shown) (by : GatewayId) (at : ℕ) (before : List Note) → same (id_of g) by ≡ false → AccountsOn g before → AccountsOn g (note by at Crashed ∷ before)
 crash-apart g by at before apart a = foreign-accounts g.moment g.ledger before (note by at Crashed ∷ []) (apart, tt) (tt, a.idle) a
 
 pub boot-apart : (g : Shown) (by : GatewayId) (at number : ℕ) (before : List Note) → same (id_of g) by ≡ false → AccountsOn g before → AccountsOn g (note by at (Booted number) ∷ before)
 boot-apart g by at number before apart a = foreign-accounts g.moment g.ledger before (note by at (Booted number) ∷ []) (apart, tt) (tt, a.idle) a
 
--- a boot of the gateway itself: whatever it used before is forgotten
+-- at its own boot a gateway's earlier uses are forgotten
 forgotten : (b : Bool) (uses : List ℕ) → b ≡ true → cond b [] uses ≡ []
 forgotten true uses is = refl
 forgotten false uses is = absurd (cc)

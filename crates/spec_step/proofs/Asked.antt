@@ -1,5 +1,6 @@
--- What a plan says of a packet that waits for a pair, whose, and that it has a place; of one that asks for its next hop, its
--- way, its pairs, and that no hardware address is known for that host; and of one that waits for it, that it has a place.
+-- What a plan to wait says. Of a packet that waits for a pair: whose pair, and that there is a place. Of one whose next
+-- hop is asked for: its way, its pairs, and that no hardware address is known for that host. Of one that waits for that
+-- hop: that there is a place.
 use Rattle.std.proofs.Common.{◌≡◌, ℕ, Bool, true, false, cond, Option, Some, None, Result, Ok, Err, refl}
 use Rattle.addresses.specs.declared.ethernet.Mac.{Mac}
 use Rattle.addresses.specs.declared.internet.Ip.{Ip}

@@ -35,7 +35,7 @@ use Rattle.spec_step.proofs.Limits.{IsByWait, KeepsHops, TakesNone, asks-before,
 use Rattle.spec_step.proofs.Rooting.{RowRoots, has-more, has-then, same-rooted, wish-roots}
 use Rattle.spec_step.proofs.Telling.{at_hand, shuffled}
 
--- the networks at which a gateway stands stay
+-- the networks of a gateway stay the same
 abbrev pub NetsStay : Shown → Shown → Type 0
 NetsStay g g2 = (g2.inside.network ≡ g.inside.network) × (g2.outside.network ≡ g.outside.network)
 
@@ -43,11 +43,11 @@ pub net-stays : (g g2 : Shown) → NetsStay g g2 → (side : Side) → (station_
 net-stays g g2 nets Inside = nets.0
 net-stays g g2 nets Outside = nets.1
 
--- a neighbour that is to be asked for afterwards was so before
+-- a neighbour that may be asked for afterwards could be asked for before
 abbrev pub NearStays : ℕ → Shown → Shown → Type 0
 NearStays now g g2 = (side : Side) (host : ℕ) → asks_at host now (station_on g2 side).neighbours ≡ true → asks_at host now (station_on g side).neighbours ≡ true
 
--- whose wait is over: nobody's
+-- a test that no waiting packet passes: nobody's wait is over
 abbrev pub nobody : HeldPacket → Bool
 nobody w = false
 
@@ -63,13 +63,13 @@ all-append : (P : HeldPacket → Type 0) (ws vs : List HeldPacket) → AllByRecu
 all-append P [] vs x y = y
 all-append P (w ∷ ws) vs x y = (x.0, all-append P ws vs x.1 y)
 
--- who waits after a part: of those before the ones that a test leaves, and those that came, at this moment
+-- who waits after a part: those before whose wait isn't over by the test, and those that came to wait at this time
 pub record Waiting (now : ℕ) (over : HeldPacket → Bool) (askings : List Asking) (came old kept : List HeldPacket) : Type 0 where
   pub hops_are : hops_of came ≡ map (waiting_by now) (firsts askings)
   pub kept_are : kept ≡ all_noted now askings (within_limit (filter (λ w. not (over w)) old ++ came))
 
--- From a scene to a later one, with these packets in hand, and the waits over that a test says: the other frames are requests
--- for next hops.
+-- From a scene to a later one, with the packets `hand` at hand, where the waits that pass the test are over: the other
+-- frames are requests for next hops.
 pub record Asks (hand : List AtHand) (over : HeldPacket → Bool) (s s2 : GatewayAndOutput) : Type 0 where
   pub frames : List Sent
   pub frames_are : s2.told.frames ≡ s.told.frames ++ frames
@@ -90,13 +90,13 @@ pub record Asks (hand : List AtHand) (over : HeldPacket → Bool) (s s2 : Gatewa
   pub wired : IsSetUp s2.shown
   pub bytes : KeepsBytes s2.shown
 
--- and no wait for a next hop is over, nor does the test look at when a packet's hop was asked for
+-- such a part where no wait for a next hop is over, and the test doesn't look at when a hop was asked for
 pub record IsAsking (hand : List AtHand) (over : HeldPacket → Bool) (s s2 : GatewayAndOutput) : Type 0 where
   pub asks : Asks hand over s s2
   pub hops : TakesNone over
   pub waits : IsByWait over
 
--- where at most 64 wait for next hops, and all that is kept is bytes
+-- at most 64 packets wait for next hops, and all that is kept is bytes
 abbrev pub IsFit : Shown → Type 0
 IsFit g = IsSetUp g × ((hop_count g.kept ≤ 64) × KeepsBytes g)
 
@@ -159,7 +159,7 @@ module _ (k : Known) (P Q : Pair → Type 0) (more : (p : Pair) → P p → Q p)
   new-more [] all = tt
   new-more (w ∷ ws) all = (record { since = all.0.since; asked = all.0.asked; wait = wait-more (at_hand w.side w.bytes) w.wait all.0.wait }, new-more ws all.1)
 
-  -- what is due after a part was so before it
+  -- what may be asked for after a part could be asked for before it
   pub due-more : (g g2 : Shown) → NearStays k.moment g g2 → ((side : Side) (host : Ip) → asks_again k.moment (wait.Hop side host) g2.kept ≡ true → asks_again k.moment (wait.Hop side host) g.kept ≡ true)
       → (qs : List Asking) → AllByRecursion (IsDue g2 k P) qs → AllByRecursion (IsDue g k Q) qs
   due-more g g2 near again [] all = tt
@@ -175,7 +175,7 @@ new-asked : (k : Known) (P : Pair → Type 0) (now : ℕ) → k.moment ≡ now �
 new-asked k P now is [] all = tt
 new-asked k P now is (w ∷ ws) all = (all.0.asked ∙ is, new-asked k P now is ws all.1)
 
--- ---- one part behind the other
+-- ---- one part after the other
 
 keeps-hops : (g : HeldPacket → Bool) → TakesNone g → KeepsHops (λ w. not (g w))
 keeps-hops g none w hop = ap not (none w hop)
@@ -274,7 +274,7 @@ asking-then h h2 f g a b c x y = λ w.
     both true c x y = x
     both false c x y = y
 
--- a part at which no wait is over
+-- a part at which no wait is over is such a part
 pub asks-by : (hand : List AtHand) (s s2 : GatewayAndOutput) (frames : List Sent) (notes : List Note) (askings : List Asking) (came : List HeldPacket) (gone : List AtHand)
     → s2.told.frames ≡ s.told.frames ++ frames → s2.told.notes ≡ s.told.notes ++ notes → ((p : Pair) → IsTranslated s2.shown.ledger.book.entries p → MayGoBy s.shown notes p)
     → AllByRecursion (IsDue s.shown (known_of s.shown) (MayGoBy s.shown notes)) askings → other_frames s.shown.networks frames ≡ requests s.shown askings → AllByRecursion (IsNew (known_of s.shown) (MayGoBy s.shown notes)) came
@@ -311,14 +311,14 @@ asks-by hand s s2 frames notes askings came gone frames_are notes_are roots due 
       waits = λ x n. refl;
     }
 
--- the packets are the same, within the limit
+-- the packets that wait stay the same, within the limit
 pub kept-here : (kept : List HeldPacket) → hop_count kept ≤ 64 → kept ≡ within_limit (kept ++ [])
 kept-here kept few =
     let same : kept ++ [] ≡ kept = append-nil kept in
     let few2 : hop_count (kept ++ []) ≤ 64 = subst (λ (ws : List HeldPacket). hop_count ws ≤ 64) (sym same) few in
     sym (limit-same (kept ++ []) few2 ∙ same)
 
--- the interfaces are the same but for their routers
+-- the interfaces are the same, but for their routers
 abbrev pub SameStations : Shown → Shown → Type 0
 SameStations g g2 = NetsStay g g2 × ((g2.inside.neighbours ≡ g.inside.neighbours) × (g2.outside.neighbours ≡ g.outside.neighbours))
 
@@ -340,13 +340,13 @@ pub record IsQuiet (s s2 : GatewayAndOutput) : Type 0 where
   pub stations : SameStations s.shown s2.shown
   pub wired : IsSetUp s.shown → IsSetUp s2.shown
 
--- those at hand are gone
+-- a part that is quiet drops the packets at hand
 pub quiet-asks : (hand : List AtHand) (s s2 : GatewayAndOutput) → IsQuiet s s2 → Ask-on hand nobody s s2
 quiet-asks hand s s2 q = λ w.
     asks-by hand s s2 [] q.notes [] [] hand (q.frames ∙ sym (append-nil s.told.frames)) q.notes_are q.roots tt refl tt refl (q.kept ∙ kept-here s.shown.kept w.1.0)
     (IsPermutation-refl hand) q.known (same-near s.shown.moment s.shown s2.shown q.stations) (same-nets s.shown s2.shown q.stations) (q.wired w.0) (kept-bytes s.shown s2.shown q.kept w.1.1)
 
--- and that notes nothing and leaves the table
+-- a part that sends no frame, notes nothing, and leaves the table and the packets that wait, is quiet
 pub quiet-by : (s s2 : GatewayAndOutput) → s2.told.frames ≡ s.told.frames → s2.told.notes ≡ s.told.notes → s2.shown.ledger.book.entries ≡ s.shown.ledger.book.entries → s2.shown.kept ≡ s.shown.kept → known_of s2.shown ≡ known_of s.shown
     → SameStations s.shown s2.shown → (IsSetUp s.shown → IsSetUp s2.shown) → IsQuiet s s2
 quiet-by s s2 frames notes entries kept known stations wired = record {

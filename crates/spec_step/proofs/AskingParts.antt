@@ -1,4 +1,5 @@
--- Each part of a step that may ask for a next hop does it as it should: a packet taken, an error, what a wait that ended lets go.
+-- Each part of a step that may ask for a next hop asks as it should: a packet taken, an error, and the packets whose
+-- wait ended.
 use Rattle.std.proofs.Common.{◌≡◌, ℕ, Bool, true, false, cond, not, inl, inr, Some, None, List, [], ◌∷◌, ◌++◌, Result, Ok, Err, refl, sym, ap, subst, ◌∙◌, append_assoc, map, IsPermutation, arith}
 use Rattle.std.specs.List.{AllByRecursion}
 use Rattle.std.proofs.lemmas.List.{append-nil}
@@ -71,7 +72,7 @@ use Rattle.icmp.specs.declared.packets.ErrorFlow.{ErrorFlow}
 use Rattle.icmp.specs.declared.packets.ErrorPacket.{ErrorPacket}
 use Rattle.spec_step.proofs.Asking.{NetsStay, net-stays, NearStays, nobody, Asks, IsAsking, IsFit, Ask-on, requests-same, asking-then, asks-by, kept-here, SameStations, same-near, kept-bytes, IsQuiet, quiet-asks, nothing-quiet, nothing-asks, wanted-quiet, wanted-for-quiet, due-more}
 
--- behind such a part a packet is kept, and its next hop may be asked for
+-- after such a part a packet may be kept, and its next hop asked for
 keeping-asks : (s one s2 : GatewayAndOutput) (side : Side) (bytes : List ℕ) (what : WaitsFor) (frames : List Sent) (askings : List Asking) → (q : IsQuiet s one)
     → s2.told.frames ≡ one.told.frames ++ frames → s2.told.notes ≡ one.told.notes → s2.shown.ledger.book.entries ≡ one.shown.ledger.book.entries
     → s2.shown.kept ≡ with_room what one.shown.kept ++ waiting side bytes one.shown.moment what ∷ [] → AllByRecursion (IsDue s.shown (known_of s.shown) (MayGoBy s.shown q.notes)) askings
@@ -102,13 +103,13 @@ keeping-asks s one s2 side bytes what frames askings q frames_are notes entries 
 
 -- ---- one packet
 
--- the pairs of a packet that is to wait are its own
+-- the pairs that were found for a packet that waits are its own
 its-pairs : (g : Shown) (flow : Flow) (by : Translation) → is_synced g.ledger.book.stage ≡ true → AreFound g flow by → AreItsPairs flow by
 its-pairs g flow (Outward p) synced found = ap (λ (q : Pair). q.endpoint) found.1.1
 its-pairs g flow (Inward p) synced found = (target-translates g flow p synced found).1
 its-pairs g flow (Hairpin own other) synced found = (ap (λ (q : Pair). q.endpoint) found.0.1.1, (target-translates g flow other synced found.1).1)
 
--- what a packet is read with
+-- what is known of a packet that was read
 record IsRead (g : Shown) (side : Side) (bytes : List ℕ) (flow : Flow) : Type 0 where
   are : AreBytes bytes
   synced : is_synced g.ledger.book.stage ≡ true
@@ -150,7 +151,7 @@ asked-by g side bytes flow by hop notes read a = (
   ap (λ (h : Ip). mac_at h.0 g.moment (near_on (known_of g) (exit_by by))) a.hop_is ∙ near-mac g (exit_by by) (hop_by g by flow).0 ∙ a.unknown,
 )
 
--- a packet is sent on, and behind it its next hop may be asked for
+-- the request after a packet was sent on, for its next hop
 abbrev asking_for : Side → List ℕ → Side → Ip → Cause → Asking
 asking_for side bytes exit hop cause = record { packet = at_hand side bytes; exit = exit; host = hop; cause = cause }
 
@@ -230,7 +231,7 @@ module _ (frames : Frames) (s two : GatewayAndOutput) (side : Side) (bytes : Lis
           asks-by hand s two (x ∷ []) notes [] [] hand frames_are notes_are roots tt (rw is refl) tt refl (kept ∙ kept-here s.shown.kept w.1.0) (IsPermutation-refl hand) known
           (same-near s.shown.moment s.shown two.shown stations) stations.0 (wired w.0) (kept-bytes s.shown two.shown kept w.1.1)
 
--- a packet is dropped, and the next hop may be asked for again
+-- a packet is dropped, and its next hop may be asked for again
 again-asks : Frames → (s : GatewayAndOutput) (side : Side) (bytes : List ℕ) (exit : Side) (hop : Ip)
     → IsNextHop (known_of s.shown) (MayGoBy s.shown []) (at_hand side bytes) exit hop × IsUnknown (known_of s.shown) exit hop
     → Ask-on (at_hand side bytes ∷ []) nobody s (asked_again s exit hop)
@@ -261,7 +262,7 @@ again-asks frames s side bytes exit hop says = λ w. at w (asks_again s.shown.mo
         sides Outside host t = t
     at w false asks = nothing-asks hand s w
 
--- the scene in which a packet was sent on and carried
+-- the scene after a packet was sent on and its pairs carried it
 abbrev sent_scene : GatewayAndOutput → List ℕ → Flow → Translation → Mac → GatewayAndOutput
 sent_scene s bytes flow by next = carried_all (framed (wanted_for s flow by) (exit_by by) (sent_frame s.shown.networks by next bytes)) flow (flags_in bytes) by
 
@@ -324,7 +325,7 @@ plan-asks frames s side bytes flow (WaitFor e) read plan says =
 
 -- ---- what the gateway says itself
 
--- its next hop is that of the packet's source
+-- the next hop of a frame of the gateway's own is that of the packet's source
 own-asks : Frames → (s : GatewayAndOutput) (side : Side) (bytes frame : List ℕ) (tally : Tally) (hop : Ip) → (IsSetUp s.shown → is_own_frame s.shown.networks side frame ≡ true)
     → (IsSetUp s.shown → IsHost (known_of s.shown) (MayGoBy s.shown []) (at_hand side bytes) side hop Sends)
     → Ask-on (at_hand side bytes ∷ []) nobody s (renewed_behind (said_scene s side frame tally) side hop)
@@ -380,7 +381,7 @@ same-destination : (bytes : List ℕ) → (error_flow_in bytes).destination.0 �
 unfolding error_flow_in flow_in
 same-destination bytes = refl
 
--- what an error is read with
+-- what is known of an error that was read
 record IsErrorRead (g : Shown) (bytes : List ℕ) (flow : ErrorFlow) : Type 0 where
   are : AreBytes bytes
   synced : is_synced g.ledger.book.stage ≡ true
@@ -500,7 +501,7 @@ echo-asks frames s side bytes echo read are =
         (record { hop = inr (echoed w.0, back may); cause = unknown there }, tt)
         (one-other s.shown.networks x (request-other frames s.shown.networks side (station_on s.shown side).network hop (own-six s.shown w.0 side))) new refl (λ ws. refl) refl refl ((refl, refl), (refl, refl)) (λ v. v) are w
 
--- ---- those whose wait is over
+-- ---- the packets whose wait is over
 
 retaken-asks : Frames → (s : GatewayAndOutput) (side : Side) (bytes : List ℕ) (r : Result Reading Reason) → reading_on s.shown side bytes ≡ r → AreBytes bytes → Ask-on (at_hand side bytes ∷ []) nobody s (retaken_by s side bytes r)
 retaken-asks frames s side bytes (Ok (Packet packet)) is are = packet-asks frames s side bytes packet is are
@@ -516,7 +517,7 @@ all-ask frames s (w ∷ ws) all =
     asking-then (at_hand w.side w.bytes ∷ []) (packets_of ws) nobody nobody s (taken_again s w) (all_taken s (w ∷ ws))
     (retaken-asks frames s w.side w.bytes (reading_on s.shown w.side w.bytes) refl all.0) (all-ask frames (taken_again s w) ws all.1)
 
--- packets go off the list, and are at hand then
+-- packets are removed from the list, and are at hand from then on
 pub released-asks : Frames → (s : GatewayAndOutput) (ended : Ended) → IsFit s.shown → Asks [] (λ w. ends ended w.wait) s (released s ended)
 released-asks frames s ended w =
     let start = scene (record s.shown { kept = left_by ended s.shown.kept }) s.told in
@@ -554,7 +555,7 @@ released-asks frames s ended w =
     sides now Inside host t = t
     sides now Outside host t = t
 
--- a wait for a pair is over
+-- the other frames are as they should be where a wait for a pair ends
 pub pairs-ask : Frames → (s : GatewayAndOutput) (ended : Ended) → ((x : WaitsFor) → is_for_pair x ≡ false → ends ended x ≡ false) → Ask-on [] (λ w. ends ended w.wait) s (released s ended)
 pairs-ask frames s ended apart = λ w. record { asks = released-asks frames s ended w; hops = λ p hop. apart p.wait hop; waits = λ p n. refl }
 

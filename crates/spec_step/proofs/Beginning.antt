@@ -35,7 +35,7 @@ pub founded-room : (settings : Settings) (boot : ℕ) → (founded settings boot
 unfolding founded begun
 founded-room settings boot = refl
 
--- nothing was said yet
+-- a gateway as it begins has sent no frame of its own
 pub begun-within : (settings : Settings) (id : GatewayId) (boot : ℕ) → AreWithin (begun settings id boot)
 unfolding begun new_station
 begun-within settings id boot = (none-within 0, none-within 0)

@@ -1,4 +1,5 @@
--- How many notes each part of a step makes, how many packets it keeps more, and that no step makes more than it may.
+-- How many notes each part of a step makes, how many packets more it keeps, and that no step makes more notes than it
+-- may.
 use Rattle.std.proofs.Common.{◌≡◌, ◌≤◌, ℕ, zero, suc, ◌+◌, ◌-◌, ◌*◌, Bool, true, false, cond, not, ◌&&◌, List, [], ◌∷◌, ◌++◌, length, filter, Option, Some, None, Result, Ok, Err, refl, sym, ap, subst, ◌∙◌, arith, nat_lt}
 use Rattle.std.proofs.lemmas.List.{length-append, length-drop, length-map}
 use Rattle.std.proofs.lemmas.List.Filters.{length-filter_both}
@@ -71,26 +72,26 @@ use Rattle.spec_step.proofs.Turning.{back_as, turn-by}
 use Rattle.spec_step.proofs.Own.{Said, echo-by, refusal-by, refused-by, said_scene}
 use Rattle.icmp.specs.declared.packets.ErrorFlow.{ErrorFlow}
 
--- from one scene to another at most n notes more, and at most k packets more are kept
+-- from one scene to another at most `n` notes are added, and at most `k` packets more are kept
 record Adds (n k : ℕ) (s s2 : GatewayAndOutput) : Type 0 where
   notes : length s2.told.notes ≤ length s.told.notes + n
   kept : length s2.shown.kept ≤ length s.shown.kept + k
 
--- one part behind the other
+-- the notes and packets of two parts, one after the other, add up
 adds-then : (n k m j : ℕ) (a b c : GatewayAndOutput) → Adds n k a b → Adds m j b c → Adds (n + m) (k + j) a c
 adds-then n k m j a b c x y = record { notes = omega (arith, x.notes, y.notes); kept = omega (arith, x.kept, y.kept) }
 
 adds-fewer : (n k m j : ℕ) (a b : GatewayAndOutput) → n ≤ m → k ≤ j → Adds n k a b → Adds m j a b
 adds-fewer n k m j a b le le2 x = record { notes = omega (arith, x.notes, le); kept = omega (arith, x.kept, le2) }
 
--- nothing is noted, and the same packets are kept
+-- a part that notes nothing, and keeps the same packets, adds none
 adds-none : (s s2 : GatewayAndOutput) → s2.told.notes ≡ s.told.notes → s2.shown.kept ≡ s.shown.kept → Adds 0 0 s s2
 adds-none s s2 notes kept = record {
   notes = omega (arith, ap (λ (ns : List Note). length ns) notes);
   kept = omega (arith, ap (λ (ws : List HeldPacket). length ws) kept);
 }
 
--- these notes are made
+-- a part that makes these notes adds at most their number
 adds-noted : (n : ℕ) (s s2 : GatewayAndOutput) (notes : List Note) → length notes ≤ n → s2.told.notes ≡ s.told.notes ++ notes → s2.shown.kept ≡ s.shown.kept → Adds n 0 s s2
 adds-noted n s s2 notes few are kept = record {
   notes = omega (arith, few, ap (λ (ns : List Note). length ns) are, length-append s.told.notes notes);
@@ -186,7 +187,7 @@ plan-adds s side bytes flow (WaitFor e) =
 nothing-adds : (s : GatewayAndOutput) → Adds 3 1 s s
 nothing-adds s = adds-fewer 0 0 3 1 s s (omega arith) (omega arith) (adds-none s s refl refl)
 
--- what a gateway says itself
+-- a frame of the gateway's own adds at most what its packet may
 said-adds : (s : GatewayAndOutput) (side : Side) → Said (λ x. Adds 3 1 s x) s side
 said-adds s Inside = λ frame tally hop.
     let one = said_scene s Inside frame tally in
@@ -236,7 +237,7 @@ error-adds s side bytes flow = at (error_plan s.shown side flow (length_in bytes
     at (Ok plan) = error-plan-adds s side bytes flow plan
     at (Err reason) = adds-fewer 0 0 3 1 s s (omega arith) (omega arith) (adds-none s s refl refl)
 
--- ---- those whose wait is over
+-- ---- the packets whose wait is over
 
 retaken-adds : (s : GatewayAndOutput) (side : Side) (bytes : List ℕ) (r : Result Reading Reason) → Adds 3 1 s (retaken_by s side bytes r)
 retaken-adds s side bytes (Ok (Packet packet)) = flow-adds s side bytes packet.flow
@@ -272,7 +273,7 @@ within-fewer c n m a b few x = λ le. let one = x le in (omega (arith, one.0, fe
 nothing-within : (c n : ℕ) (s : GatewayAndOutput) → Within c n s s
 nothing-within c n s = within-fewer c 0 n s s (omega arith) (within-adds c 0 s s (adds-none s s refl refl))
 
--- parts that note nothing, before one that does
+-- parts that note nothing may come before one that does
 within-after : (c n : ℕ) (a b d : GatewayAndOutput) → Adds 0 0 a b → Within c n b d → Within c n a d
 within-after c n a b d x y = λ le.
     let two = y (omega (arith, le, x.kept)) in
@@ -342,7 +343,7 @@ both-add s event s2 both = adds-then 0 0 0 0 s both.between s2 (router-adds s In
 both-book : (s : GatewayAndOutput) (event : RouterEvent) (s2 : GatewayAndOutput) → BothAct s event s2 → s2.shown.ledger ≡ s.shown.ledger
 both-book s event s2 both = router-book both.between Outside event s2 both.outside ∙ router-book s Inside event both.between both.inside
 
--- the turn of a tick
+-- what the turn of a tick adds
 record Stays-few (s s2 : GatewayAndOutput) : Type 0 where
   adds : Adds 0 0 s s2
   same : s2.shown.ledger ≡ s.shown.ledger
@@ -384,7 +385,7 @@ record-within c s r =
     (within-adds c 1 s s3 (adds-then 1 0 0 0 s s2 s3 first (routed-adds g2.moment g2 told (has_synced g g2 && is_running g2))))
     (ended-within c s3 (taken_ended b rests r))
 
--- at most n records, of at most m notes each
+-- `n` records of at most `m` notes each make at most `n` times `m` notes
 within-more : (c m n : ℕ) (a b d : GatewayAndOutput) → Within c m a b → Within c (n * m) b d → Within c (suc n * m) a d
 within-more c m n a b d x y =
     let more : suc n * m ≡ m + n * m = omega arith in

@@ -17,7 +17,8 @@ use Rattle.spec_step.specs.Shown.{GatewayAndOutput, Shown, scene, serves}
 use Rattle.spec_step.proofs.Hearing.{Arrives}
 use Rattle.spec_step.proofs.Passing.{IsSound, Passes, given, passes-then}
 
--- what is wanted is handed in, and nothing more is
+-- after the records that the link has places for were fed to it, it has places for no more of the
+-- batch
 wanted-none : (e : Link) (coming : List Record) → length coming ≡ e.promised → wanted (with_fed e (take (wanted e) coming)) ≡ 0
 wanted-none e coming all =
     let n = wanted e in
@@ -26,7 +27,7 @@ wanted-none e coming all =
     omega (arith, taken, fed)
 
 module _ (letters : List Letter) (words : List ℕ) (s : GatewayAndOutput) (h : List Record) where
-  -- what is wanted of a promised batch is handed in
+  -- feeding the link records of a promised batch is a part of a step of the machine
   fed-passes : (done : GatewayAndOutput) → Arrives letters words s done h → Passes letters words s s.shown.link.taken (scene (handed_in done.shown) done.told) done.shown.link.taken h
   fed-passes done a =
       let g = done.shown in let b = g.ledger.book in let e = g.link in
@@ -46,14 +47,14 @@ module _ (letters : List Letter) (words : List ℕ) (s : GatewayAndOutput) (h : 
       } in
       passes-then letters words s done (scene (handed_in g) done.told) s.shown.link.taken e.taken e.taken h x second
 
-  -- the end after a step
+  -- the end of the link after a step
   abbrev ended : Link → Option ℕ → Link
   ended e ticked = record e { ticked = ticked; due = false }
 
   ended-agrees : (e : Link) (ticked : Option ℕ) (hs rest : List Record) → Agrees hs rest e → Agrees hs rest (ended e ticked)
   ended-agrees e ticked hs rest a = record { counted = a.counted; coming = a.coming; behind = a.behind }
 
-  -- with a datagram
+  -- a step that sends a datagram is a step of the machine
   sent-goes : (g : Shown) (told : Output) (ticked : Option ℕ) → wanted g.link ≡ 0 → Passes letters words s s.shown.link.taken (scene g told) g.link.taken h
       → Goes letters words s (scene (record g { link = ended g.link ticked }) (with_datagram told (datagram_in g))) h
   sent-goes g told ticked none x =
@@ -75,7 +76,7 @@ module _ (letters : List Letter) (words : List ℕ) (s : GatewayAndOutput) (h : 
         step = subst (λ (m : ℕ). IsStep (ranges_of b) b.id m (box_at b e h e.taken) (box_at b2 (ended e2 ticked) hs e2.taken) letters words [] (reverse x.notes) [] (letter_of d ∷ [])) (sym x.moment) step;
       }
 
-  -- without one
+  -- a step whose end sends no datagram is a step of the machine
   unsent-goes : (g : Shown) (told : Output) (ticked : Option ℕ) (due : Bool) → Passes letters words s s.shown.link.taken (scene g told) g.link.taken h
       → Goes letters words s (scene (record g { link = record g.link { ticked = ticked; due = due } }) told) h
   unsent-goes g told ticked due x =
@@ -95,7 +96,7 @@ module _ (letters : List Letter) (words : List ℕ) (s : GatewayAndOutput) (h : 
         step = subst (λ (m : ℕ). IsStep (ranges_of b) b.id m (box_at b e h e.taken) (box_at b2 e2 hs e2.taken) letters words [] (reverse x.notes) [] []) (sym x.moment) x.works.step;
       }
 
-  -- a step that sends no datagram
+  -- a step whose event sends no datagram is a step of the machine
   pub ended-still : (done : GatewayAndOutput) → Arrives letters words s done h → Goes letters words s done h
   ended-still done a = unsent-goes done.shown done.told done.shown.link.ticked done.shown.link.due a.passes
 
@@ -121,7 +122,7 @@ module _ (letters : List Letter) (words : List ℕ) (s : GatewayAndOutput) (h : 
       at g x none true = sent-goes g done.told (Some g.moment) none x
       at g x none false = unsent-goes g done.told g.link.ticked g.link.due x
 
-  -- what holds between steps holds afterwards
+  -- what a step requires of a gateway holds after the datagram at its end
   ended-keeps : (g : Shown) (told : Output) (e : Link) → IsSound g → IsAlone g → e.known ≡ g.link.known → e.closed ≡ g.link.closed → IsSound (record g { link = e }) × IsAlone (record g { link = e })
   ended-keeps g told e is alone known closed = (record { book = is.book; kept = is.kept }, λ t. at (alone t))
     where

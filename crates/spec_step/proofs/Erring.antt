@@ -1,6 +1,6 @@
--- What a plan says of an error: of one that is sent its way, its pairs, and that its next hop is known; of one that asks for its
--- next hop the same, and that no hardware address is known for that host; of one that waits for it, that it has a place. No
--- error waits for a pair.
+-- What a plan says of an error. Of an error that is sent: its way, its pairs, and that its next hop is known. Of one
+-- whose next hop is asked for: its way, its pairs, and that no hardware address is known for that host. Of one that
+-- waits for that hop: that there is a place. No error waits for a pair.
 use Rattle.std.proofs.Common.{◌≡◌, ◌≢◌, ℕ, Bool, true, false, cond, Option, Some, None, Result, Ok, Err, List, [], refl, sym, ap, ◌∙◌, inl}
 use Rattle.std.specs.List.{AllByRecursion}
 use Rattle.addresses.specs.declared.ethernet.Mac.{Mac}
@@ -43,7 +43,7 @@ AreErrorFound g flow (Outward p) = pair_in_of g flow ≡ Ok p
 AreErrorFound g flow (Inward p) = pair_out g flow ≡ Ok p
 AreErrorFound g flow (Hairpin own other) = (pair_in_of g flow ≡ Ok own) × (pair_out g flow ≡ Ok other)
 
--- its way and its pairs
+-- the way and the pairs of an error that goes on
 pub record IsErrorGoing (g : Shown) (side : Side) (flow : ErrorFlow) (by : Translation) : Type 0 where
   pub way : error_direction g.networks side flow ≡ Ok (way_of by)
   pub pairs : AreErrorFound g flow by
@@ -97,7 +97,7 @@ module _ (g : Shown) (side : Side) (flow : ErrorFlow) where
       at (Ok w) there = fitted (ErrorSays g side flow) tt (fits_at g (exit_of w) length) (error_on g flow w) (on-says w there)
       at (Err reason) there = tt
 
--- a plan that was told isn't one to wait for a pair
+-- a plan for an error is none to wait for a pair
 told-waits : (g : Shown) (side : Side) (flow : ErrorFlow) (r : Result Plan Reason) → ErrorSays g side flow r → (e : Endpoint) → r ≢ Ok (WaitFor e)
 told-waits g side flow (Ok (Send by next)) says e is = absurd (cc)
 told-waits g side flow (Ok (Ask by hop)) says e is = absurd (cc)
@@ -110,7 +110,7 @@ no-error-waits g side flow length e = told-waits g side flow (error_plan g side 
 
 -- ---- the pairs that were found are those that the rules name
 
--- a packet to the port that the packet inside came from
+-- a packet to the port from which the packet inside came
 abbrev back_to : ErrorFlow → Flow
 back_to flow = record {
   protocol = flow.inside.protocol;
@@ -156,7 +156,7 @@ error-targets g flow (Outward p) notes synced found = tt
 error-targets g flow (Inward p) notes synced found = (out-may g flow p notes synced found, tt)
 error-targets g flow (Hairpin own other) notes synced found = (out-may g flow other notes synced found.1, tt)
 
--- and so does that of the destination inside
+-- the pair of the destination inside translates
 in-there : (es : List Entry) (e : Endpoint) (p : Pair) → HasDistinctKeys es → pair_at (entry_of es e) ≡ Ok p → IsTranslated es p
 in-there es e p keys is = at (entry_of es e) refl is
   where
@@ -179,7 +179,7 @@ in-there es e p keys is = at (entry_of es e) refl is
     at None there is = absurd (cc)
     at (Some x) there is = state-of x there x.state refl is
 
--- packets may go by all of them
+-- packets may go by all pairs of an error
 pub error-may : (g : Shown) (flow : ErrorFlow) (by : Translation) → IsBook g.ledger.book → is_synced g.ledger.book.stage ≡ true → AreErrorFound g flow by → AllByRecursion (MayGoBy g []) (pairs_of by)
 error-may g flow (Outward p) book synced found = (inl (in-there g.ledger.book.entries (endpoint_about flow) p book.keys found), tt)
 error-may g flow (Inward p) book synced found = (out-may g flow p [] synced found, tt)

@@ -1,4 +1,5 @@
--- What holds of a plan holds of one that is dropped where it is too long, if it holds of that drop.
+-- What holds of a plan, and of the drop for a packet that is too long, holds of the plan that drops
+-- what is too long.
 use Rattle.std.proofs.Common.{Bool, true, false, Result, Ok, Err}
 use Rattle.packet_rules.specs.declared.reasons.Reason.{Reason}
 use Rattle.packet_rules.specs.declared.reasons.Reason.TheVariants.{TooLong}

@@ -34,7 +34,7 @@ neither false true c is = absurd (cc)
 neither false false true is = absurd (cc)
 neither false false false is = (refl, (refl, refl))
 
--- a frame of another kind is of none of these
+-- a frame of another kind is neither the gateway's own, nor a translation, nor an error
 pub other-none : (networks : Networks) (exit : Side) (bytes : List ℕ) → is_other networks exit bytes ≡ true → (is_own_frame networks exit bytes ≡ false) × ((is_translation exit bytes ≡ false) × (is_error_frame bytes ≡ false))
 unfolding is_other
 other-none networks exit bytes is = neither (is_own_frame networks exit bytes) (is_translation exit bytes) (is_error_frame bytes) is

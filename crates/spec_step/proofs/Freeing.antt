@@ -1,4 +1,4 @@
--- Lists of packets of which some leave, and those at hand, each once.
+-- Lists of packets from which some are removed, and the packets at hand, each once.
 use Rattle.std.proofs.Common.{◌≡◌, Bool, true, false, cond, not, ◌&&◌, ◌||◌, List, [], ◌∷◌, ◌++◌, filter, IsPermutation, refl, sym, ap, subst, ◌∙◌, append_assoc}
 use Rattle.std.proofs.lemmas.List.{append-nil, map-append}
 use Rattle.std.proofs.lemmas.List.Elements.{filter-append}
@@ -31,7 +31,7 @@ pub filter-none : {X : Type 0} (xs : List X) → filter (λ x. false) xs ≡ []
 filter-none [] = refl
 filter-none (x ∷ xs) = filter-none xs
 
--- those that neither test takes out
+-- two filters one after the other leave what neither test removes
 pub filter-left : {X : Type 0} (f g : X → Bool) (xs : List X) → filter (λ x. not (g x)) (filter (λ x. not (f x)) xs) ≡ filter (λ x. not (f x || g x)) xs
 filter-left f g xs =
     filter-both (λ x. not (f x)) (λ x. not (g x)) xs
@@ -41,7 +41,7 @@ filter-left f g xs =
     nots true b = refl
     nots false b = refl
 
--- those that one of two tests takes out: by the first, then by the second
+-- what one of two tests removes is what the first removes, then what the second removes of the rest
 filter-either : {X : Type 0} (f g : X → Bool) (xs : List X) → IsPermutation (filter (λ x. f x || g x) xs) (filter f xs ++ filter g (filter (λ x. not (f x)) xs))
 filter-either f g xs =
     let all = filter (λ x. f x || g x) xs in
@@ -64,9 +64,9 @@ filter-either f g xs =
     second false true = refl
     second false false = refl
 
--- ---- the same elements
+-- ---- lists with the same elements
 
--- the middle part goes to the end
+-- the middle part of a list goes to its end
 moved : {X : Type 0} (l z g h y : List X) → IsPermutation (((l ++ z) ++ g) ++ (h ++ y)) ((l ++ g) ++ (h ++ (y ++ z)))
 moved l z g h y =
     let start : ((l ++ z) ++ g) ++ (h ++ y) ≡ l ++ (z ++ (g ++ (h ++ y))) = append_assoc (l ++ z) g (h ++ y) ∙ append_assoc l z (g ++ (h ++ y)) in
@@ -82,7 +82,8 @@ view-both f ws =
     let parts = subst (λ ps. IsPermutation (packets_of ws) ps) (map-append view (filter f ws) (filter (λ w. not (f w)) ws)) both in
     IsPermutation-trans _ _ _ parts (IsPermutation-append_comm (packets_of (filter f ws)) (packets_of (filter (λ w. not (f w)) ws)))
 
--- Packets at hand and kept ones that a test takes out: these came to wait, the others are gone. One behind the other.
+-- Packets at hand, and kept ones that a test removes: some of these came to wait, and the others are gone. Two such
+-- steps make one.
 abbrev pub Comes-of : List AtHand → List HeldPacket → List HeldPacket → List AtHand → Type 0
 Comes-of hand freed came gone = IsPermutation (hand ++ packets_of freed) (packets_of came ++ gone)
 
@@ -111,7 +112,7 @@ comes-then f g old came came2 h h2 gone gone2 one two =
     let all = IsPermutation-trans _ _ _ s1 (IsPermutation-trans _ _ _ s2 (IsPermutation-trans _ _ _ s3 (IsPermutation-trans _ _ _ s4 (IsPermutation-trans _ _ _ s5 s6)))) in
     subst (λ ps. IsPermutation ((h ++ h2) ++ packets_of (filter (λ w. f w || g w) old)) (ps ++ (gone ++ gone2))) (sym (map-append view (filter (λ w. not (g w)) came) came2)) all
 
--- those that were taken off a list first, and are at hand then
+-- packets that were removed from the list first are at hand from then on
 pub comes-off : (freed old came : List HeldPacket) (gone : List AtHand) → Comes-of (packets_of freed) (filter (λ w. false) old) came gone → Comes-of [] freed came gone
 comes-off freed old came gone is =
     subst (λ ps. IsPermutation ps (packets_of came ++ gone)) (append-nil (packets_of freed))

@@ -1,4 +1,5 @@
--- When a gateway is away after a tick: where a side is out and the peer serves, and never where the peer doesn't serve.
+-- Whether a gateway is away after a tick: where a side is out and the peer serves, and never where the peer doesn't
+-- serve.
 use Rattle.std.proofs.Common.{◌≡◌, ◌∙◌, ℕ, Bool, true, false, cond, not, ◌&&◌, ◌||◌, refl, sym, ap}
 use Rattle.link.specs.Hearing.{peer_serves}
 use Rattle.link.specs.Link.{is_due_on_tick, sent_on_tick}
@@ -24,7 +25,7 @@ use Rattle.spec_step.proofs.Lines.{both-shown}
 use Rattle.spec_step.proofs.Settling.{step-settles}
 use Rattle.spec_step.proofs.Turning.{back_as, turn-by}
 
--- the moment, and whether it is away, stay
+-- the time of the clock, and whether the gateway is away, stay the same
 pub record Lasts (s s2 : GatewayAndOutput) : Type 0 where
   pub moment : s2.shown.moment ≡ s.shown.moment
   pub away : s2.shown.away ≡ s.shown.away
@@ -50,7 +51,7 @@ ended-lasts s = at (is_due_on_tick (handed_in s.shown).link s.shown.moment)
     at true = record { moment = refl; away = refl }
     at false = record { moment = refl; away = refl }
 
--- whether it is away behind a turn
+-- whether a gateway is away after a turn
 abbrev pub away_by : Turn → Bool → Bool
 away_by Leaves away = true
 away_by Returns away = false
@@ -75,7 +76,7 @@ turned-moment s s2 t takes =
     (λ middle both. ap (λ (g : Shown). g.moment) (both-shown s table.Stop middle both))
     (λ starts up. back-moment starts s.shown) refl t takes
 
--- a whole tick
+-- what a whole tick does to whether the gateway is away
 pub record Ticks (s : GatewayAndOutput) (now : ℕ) (s2 : GatewayAndOutput) : Type 0 where
   pub moment : s2.shown.moment ≡ clock_after s.shown.moment now
   pub away : s2.shown.away ≡ away_by (turn_of (ticked s now).shown) s.shown.away

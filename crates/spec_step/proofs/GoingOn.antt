@@ -1,5 +1,5 @@
--- What goes on is sent; and a packet is dropped for want of a port, or because of its host's limit, just where a port has to be
--- chosen.
+-- What goes on is sent. A packet is dropped because no port is free, or because of its host's limit, exactly where a
+-- port has to be chosen.
 use Rattle.std.proofs.Common.{◌≡◌, ◌↔◌, ◌≤◌, ℕ, Bool, true, false, cond, Option, Some, None, Result, Ok, Err, List, is_none, nat_le, nat_lt, ◌&&◌, ◌||◌, not, refl, sym, ap, subst, ◌∙◌, arith}
 use Rattle.std.proofs.lemmas.Bool.{and_parts, leb-true, ltb-false, ltb-true}
 use Rattle.addresses.specs.declared.ethernet.Mac.{Mac}
@@ -75,7 +75,7 @@ wish-known Live p is = refl
 wish-known Closing p is = absurd (cc)
 wish-known Held p is = refl
 
--- what a synced gateway gives an endpoint
+-- a synced gateway answers an endpoint's wish by the entry of the endpoint
 look-synced : (g : Shown) (flow : Flow) → is_synced g.ledger.book.stage ≡ true
     → look_for g flow ≡ (wish_by g.ledger.book (is_full g.link) (source_of flow) (entry_of g.ledger.book.entries (source_of flow))).answer
 look-synced g flow synced =
@@ -91,7 +91,7 @@ look-found g flow p synced t =
 
 -- ---- a packet
 
--- by which translation it is planned, which has the same next hop
+-- the translation by which a packet is planned, which has the same next hop
 record Planned (g : Shown) (flow : Flow) (by : Translation) : Type 0 where
   taken : Translation
   plan : plan_on g flow (way_of by) ≡ plan_by g flow taken
@@ -116,7 +116,7 @@ planned g flow (Hairpin own other) synced pairs = record {
   next = refl;
 }
 
--- what goes to a known hop, and fits, is sent
+-- a packet to a known hop, which fits, is sent
 hop-sends : (g : Shown) (by : Translation) (to : Ip) (mac : Mac) (fits : Bool) → next_to g by to ≡ Some mac → fits ≡ true → outcome_by (and_then (plan_via g by to) (if_fits fits)) ≡ Sent
 hop-sends g by to mac fits next is =
     ap (λ (o : Option Mac). outcome_by (and_then (plan_to g by (hop_to g by to) o) (if_fits fits))) next
@@ -233,9 +233,9 @@ reply-fine g side echo = at (may_answer g.networks side echo.source.0) (may_repl
     at true false = refl
     at false replies = refl
 
--- ---- a packet that is refused for want of a port, or because of the limit
+-- ---- a packet that is refused because no port is free, or because of the limit
 
--- what the answer to a wish is refused for
+-- the reason for which the answer to a wish refuses a packet, if it does
 abbrev refused_want : Want → Option Reason
 refused_want (want.TheVariants.Port port) = None
 refused_want want.TheVariants.Wait = None
@@ -254,7 +254,7 @@ from-refused g flow by want.TheVariants.NoPort r choice is = let same : why.NoPo
 from-refused g flow by want.TheVariants.HostLimit r choice is = let same : why.HostLimit ≡ r = cc in ap Some same
 from-refused g flow by want.TheVariants.NotNow r choice is = absurd (clash (let x : Result Plan Reason = Err why.CannotWait in x) r refl is choice)
 
--- a port has to be chosen for it, and the answer is this
+-- a port has to be chosen for the packet, and the answer refuses it for this reason
 record Refused (g : Shown) (flow : Flow) (x : Direction) (r : Reason) : Type 0 where
   needs : NeedsPair g flow x
   look : refused_want (look_for g flow) ≡ Some r
@@ -271,7 +271,7 @@ on-refused g flow way.Hairpin r choice is = at (target_pair g flow) refl is
         let fine : is_of_choice reason ≡ false = subst (λ (o : Result Pair Reason). IsFine o) there (pair-fine _) in
         absurd (clash (let y : Result Plan Reason = Err reason in y) r fine plan choice)
 
--- of a frame
+-- the packet of a frame is refused so
 record FrameRefused (g : Shown) (side : Side) (bytes : List ℕ) (r : Reason) : Type 0 where
   packet : Datagram
   reads : reading_on g side bytes ≡ Ok (Packet packet)
@@ -331,7 +331,7 @@ frame-refused g side bytes r choice is = at (reading_on g side bytes) refl is
         let own : is_of_choice reason ≡ false = subst (λ (o : Result Reading Reason). IsFine o) reads fine in
         let no : false ≡ true = sym own ∙ ap is_of_choice same ∙ choice in absurd (cc)
 
--- ---- what the book says then
+-- ---- what the book says where a packet is refused
 
 data Choice (b : Book) (e : Endpoint) (r : Reason) : Type 0 where
   limited : is_at_limit b e.address ≡ true → why.HostLimit ≡ r → Choice b e r
@@ -406,7 +406,7 @@ either-says zero one port is = at (in_bounds zero port) refl is
     at true here is = let says = bounds-say zero port here in (omega (arith, says.0, low.0), omega (arith, says.1, high.0))
     at false here is = let says = bounds-say one port is in (omega (arith, says.0, low.1), omega (arith, says.1, high.1))
 
--- where no port is chosen, each owned one has an entry of the protocol
+-- where no port is chosen, each owned port has an entry of the protocol
 none-busy : (b : Book) (e : Endpoint) → IsBook b → port_for b e ≡ None → (port : ℕ) → owns b port ≡ true → is_free_in b.entries e.protocol port ≡ false
 none-busy b e is none port owned =
     let test = is_open_in b.entries b.owned e.protocol in
@@ -415,7 +415,7 @@ none-busy b e is none port owned =
     let closed = chosen-none test (lowest_of b.zero b.one) (highest_of b.zero b.one) (parity_of e.port.0) between none port in
     sym (ap (λ (t : Bool). t && is_free_in b.entries e.protocol port) owned) ∙ closed
 
--- and where each has one, none is chosen
+-- where each owned port has an entry of the protocol, no port is chosen
 busy-none : (b : Book) (e : Endpoint) → ((port : ℕ) → owns b port ≡ true → is_free_in b.entries e.protocol port ≡ false) → port_for b e ≡ None
 busy-none b e busy = at (port_for b e) refl
   where
@@ -457,7 +457,7 @@ all-pairs-there g side bytes is =
     at refused none (limited there same) = record { chooses = needs-port g side bytes why.HostLimit refused none; reached = there }
     at refused none (without there port same) = absurd (cc)
 
--- a way that needs a pair is refused with the answer to the wish
+-- a packet whose way needs a pair is refused by the answer to its wish
 needs-refuses : (g : Shown) (flow : Flow) (x : Direction) (w : Want) (r : Reason) → NeedsPair g flow x → look_for g flow ≡ w → ((by : Pair → Translation) → plan_from g flow by w ≡ Err r) → plan_on g flow x ≡ Err r
 needs-refuses g flow way.Outward w r needs look refuses = ap (λ (v : Want). plan_from g flow Outward v) look ∙ refuses Outward
 needs-refuses g flow way.Inward w r needs look refuses = absurd needs
@@ -473,7 +473,7 @@ chooses-refuses g side bytes is w r look refuses =
     ∙ ap (λ (o : Result Direction Reason). outcome_by (and_then o (λ x. and_then (plan_on g flow x) (if_fits (fits_at g (exit_of x) length))))) is.goes
     ∙ ap (λ (o : Result Plan Reason). outcome_by (and_then o (if_fits (fits_at g (exit_of is.way) length)))) (needs-refuses g flow is.way w r is.needs look refuses)
 
--- what a synced gateway gives an endpoint without a pair
+-- a synced gateway answers the wish of an endpoint without a pair as unknown_wish says
 look-none : (g : Shown) (side : Side) (bytes : List ℕ) (is : NeedsPort g side bytes) → look_for g is.packet.flow ≡ (unknown_wish g.ledger.book (is_full g.link) (source_of is.packet.flow)).answer
 look-none g side bytes is =
     look-synced g is.packet.flow (synced-reads g side bytes (Packet is.packet) is.reads)

@@ -29,7 +29,7 @@ use Rattle.spec_step.proofs.Passing.{Going, IsSound, Passes, Stays, going-then, 
 use Rattle.spec_step.proofs.Packets.{Reads, here, released-goes}
 use Rattle.spec_step.proofs.Records.{AllCome, counted, counted-is, records-take, not-alone}
 
--- From a scene to a later one, as many of the peer's records being taken as the link says.
+-- a part of a step after which as many of the peer's records are taken as the link says
 pub record Arrives (letters : List Letter) (words : List ℕ) (s s2 : GatewayAndOutput) (h : List Record) : Type 0 where
   pub passes : Passes letters words s s.shown.link.taken s2 s2.shown.link.taken h
   pub alone : IsAlone s2.shown
@@ -42,7 +42,7 @@ alone-stays g g2 alone stays = λ t. at (alone (stays.lone t))
     at (inr closed) = inr (stays.closed ∙ closed)
 
 module _ (letters : List Letter) (words : List ℕ) where
-  -- a part in which no record is taken
+  -- a part in which no record is taken leaves as many taken as the link says
   pub arrives-by : (s s2 : GatewayAndOutput) (h : List Record) → Going letters words s s2 → Stands s.shown.ledger.book s.shown.link h → IsSound s.shown → IsAlone s.shown → Arrives letters words s s2 h
   arrives-by s s2 h going stands is alone =
       let x = going s.shown.link.taken h stands is in
@@ -69,7 +69,7 @@ module _ (letters : List Letter) (words : List ℕ) where
   word-synced true c is = refl
   word-synced false c is = absurd (cc)
 
--- the word is taken
+-- the operator's word that is taken is a part of a step of the machine
 word-taken : Reads → (s : GatewayAndOutput) (number : ℕ) (h : List Record) → is_synced s.shown.ledger.book.stage ≡ true → Stands s.shown.ledger.book s.shown.link h → IsSound s.shown → Arrives [] (number ∷ []) s (word_taken s number) h
 word-taken reads s number h synced stands is =
     let g = s.shown in let b = g.ledger.book in let e = g.link in
@@ -126,7 +126,7 @@ restart-session b e = at (is_synced b.stage)
     at true = record { boot = refl; known = refl; taken = refl }
     at false = record { boot = refl; known = refl; taken = refl }
 
--- without the peer's boot known, or with it closed, nothing but a greater one is let through
+-- while the peer's boot isn't known, or is closed, only a datagram of a greater boot is let through
 heard-together : (g : Shown) (d : Datagram) → IsAlone g → IsWellFormed d → refusal g.link d ≡ None → is_restart g.link d ≡ false → is_lone g.ledger.book.stage ≡ false
 heard-together g d alone fits passed same = at (is_lone g.ledger.book.stage) refl
   where
@@ -165,7 +165,7 @@ module _ (reads : Reads) (s : GatewayAndOutput) (h : List Record) (bytes : List 
       (λ e2 boot known k r found. turn-comes bytes e e1 e2 s.shown.moment (taken_of e d) d taken-is boot known k r found)
       (all_taken e d fits)
 
-  -- from the scene at which its records begin to be taken
+  -- the records of a datagram are taken from the scene in which their taking begins
   from : (mid : GatewayAndOutput) (n : ℕ) → (first : Passes (l ∷ []) [] s e.taken mid n h) → n ≡ (met e d).taken → SameSession e1 mid.shown.link → is_lone mid.shown.ledger.book.stage ≡ false → Arrives (l ∷ []) [] s (records_done mid rs) h
   from mid n first at same lone =
       let there : AllCome l mid.shown.link.boot mid.shown.link.known n rs =
@@ -181,7 +181,7 @@ module _ (reads : Reads) (s : GatewayAndOutput) (h : List Record) (bytes : List 
         alone = λ t. let none = not-alone l [] (is_lone done.shown.ledger.book.stage) (is_lone mid.shown.ledger.book.stage) second.stays.lone lone in let same : true ≡ false = sym t ∙ none in absurd (cc);
       }
 
-  -- in the session that there is
+  -- a datagram of the session that there is does so
   on : is_restart e d ≡ false → IsAlone s.shown → Arrives (l ∷ []) [] s (records_done after rs) h
   on same alone =
       let b = s.shown.ledger.book in
@@ -200,7 +200,7 @@ module _ (reads : Reads) (s : GatewayAndOutput) (h : List Record) (bytes : List 
       append-nothing [] = refl
       append-nothing (x ∷ xs) = ap (λ ys. x ∷ ys) (append-nothing xs)
 
-  -- of a greater boot
+  -- a datagram of a greater boot does so
   anew : is_restart e d ≡ true → Arrives (l ∷ []) [] s (records_done (reset after) rs) h
   anew greater =
       let g = after.shown in let b = g.ledger.book in

@@ -1,5 +1,4 @@
--- What is sent outward hides: the frame by which an error is passed on shows of the inside nothing, nor does what the gateway
--- says itself.
+-- What is sent outward hides the inside: the frame by which an error is passed on, and the gateway's own frames.
 use Rattle.std.proofs.Common.{◌≡◌, ◌⊎◌, inl, inr, ℕ, ◌-◌, ◌≤◌, ◌<◌, ◌^◌, Bool, true, false, cond, Option, Some, None, List, [], ◌∷◌, ◌++◌, map, length, take, drop, refl, sym, ap, subst, ◌∙◌, arith, length-append, length-drop, take-append-drop}
 use Rattle.std.specs.List.{AllByRecursion}
 use Rattle.std.proofs.lemmas.List.{append_cancel_left, drop-append-le, length-take-le, take-append-le, take_all}
@@ -45,13 +44,13 @@ use Rattle.spec_step.proofs.Own.{told-is}
 use Rattle.spec_step.proofs.Sending.{back-six, near-mac, next-six}
 use Rattle.spec_step.proofs.Telling.{at_hand}
 
--- what is known of an error passed on outward
+-- the contract by which an error passed on outward hides inside addresses
 pub record Hides : Type 0 where
   pub source : (packet : List ℕ) (from : Ip) (port : Port) → IsIpv4 packet → from.0 < 2 ^ 32 → (header_of (error_outward_of from port packet)).source ≡ from.0
   pub inside : (packet : List ℕ) (from : Ip) (port : Port) → IsIpv4 packet → IsErrorPacket packet → from.0 < 2 ^ 32
       → (header_of (inside_of (payload_of (error_outward_of from port packet)))).destination ≡ from.0
 
--- ---- bytes that are cut behind a packet
+-- ---- bytes that are cut after a packet
 
 -- the first 20 bytes spell the header
 header-front : (xs ys : List ℕ) → 20 ≤ length xs → header_of (xs ++ ys) ≡ header_of xs
@@ -66,7 +65,7 @@ payload-front xs ys long there short =
     ∙ ap (take (t - h)) (drop-append-le h xs ys short)
     ∙ take-append-le (t - h) (drop h xs) ys (omega (arith, length-drop h xs, there))
 
--- bytes of which the first ones are a packet, and those first ones
+-- the first bytes of a list are a packet, and another list is exactly those
 record IsCut (xs ys : List ℕ) : Type 0 where
   header : header_of xs ≡ header_of ys
   payload : payload_of xs ≡ payload_of ys
@@ -104,7 +103,7 @@ own-long : (f : Flow) (header rest more : List ℕ) → 20 ≤ length header →
 own-long f (b0 ∷ b1 ∷ b2 ∷ b3 ∷ b4 ∷ b5 ∷ b6 ∷ b7 ∷ b8 ∷ b9 ∷ b10 ∷ b11 ∷ b12 ∷ b13 ∷ b14 ∷ b15 ∷ b16 ∷ b17 ∷ b18 ∷ b19 ∷ options) rest more long = omega arith
 own-long f _ rest more long = absurd (omega arith)
 
--- cut behind its total length it is the same error
+-- an error passed on begins with the packet that its total length says
 passed-cut : (new : ErrorFlow) (packet : List ℕ) → IsIpv4 packet → IsCut (take (header_of packet).total_length (passed_on new packet)) (passed_on new packet)
 passed-cut new packet ip =
     let h = (header_of packet).header_length in
@@ -177,7 +176,7 @@ step-hides hides hand s s2 frames x wired fits are =
 
 -- ---- what the gateway says itself
 
--- what is known of its own frames at the outside
+-- the contract by which the gateway's own frames at the outside hide inside addresses
 pub record HidesOwn : Type 0 where
   pub answer : (networks : Networks) (active : Bool) (next : Mac) (bytes : List ℕ) → IsWired networks → IsPlaced networks → length next.0 ≡ 6 → AreBytes bytes → IsAskable bytes
       → is_asked networks.outside active (frame_of bytes) ≡ true → may_answer networks Outside (header_of (frame_of bytes).body).source ≡ true → HidesHosts networks (answer_frame networks.outside next bytes)
@@ -212,7 +211,7 @@ step-shows-nothing hides hand s s2 frames x w are =
     subst (λ (fs : List Sent). ShowsNothing networks fs) same
     (subst (λ (fs : List Sent). AllByRecursion (λ (f : Sent). f.side ≡ Outside → HidesHosts networks f.bytes) fs) (sym x.own_are) (all-own-hide hides s2.shown w x.own x.each_own))
 
--- the length that it names is that of the side at which the packet would have left
+-- the length that a complaint names is that of the side at which the packet would have left
 about-mtu : (most : ℕ) (reason : Reason) (packet : List ℕ) (mtu : ℕ) → complaint_about most reason packet ≡ Some (TooBig mtu) → mtu ≡ most
 unfolding complaint_about
 about-mtu most TtlOver packet mtu is = absurd (cc)

@@ -1,4 +1,4 @@
--- Idle pairs let go one by one, and by one fold.
+-- Letting idle pairs go one by one is the same as by one fold.
 use Rattle.std.proofs.Common.{◌≡◌, List, [], ◌∷◌, sym, ap, ◌∙◌, append_assoc}
 use Rattle.std.proofs.lemmas.List.{append-nil}
 use Rattle.nat_types.specs.declared.notes.Note.{Note}
@@ -8,7 +8,7 @@ use Rattle.spec_binding.specs.Rows.{idle_row, noted_by}
 use Rattle.spec_step.specs.Parts.{all_idle_done, idle_done}
 use Rattle.spec_step.specs.Shown.{GatewayAndOutput, id_of, scene, with_notes}
 
--- what a scene is once these pairs were let go
+-- the scene after these pairs were let go by the fold
 abbrev pub idle_gone : GatewayAndOutput → LetGo → GatewayAndOutput
 idle_gone s r = scene (record s.shown { ledger = r.ledger; link = r.link }) (with_notes s.told r.notes)
 

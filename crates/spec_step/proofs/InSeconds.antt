@@ -1,4 +1,4 @@
--- In one second of a life no more is said at a side than may be.
+-- In one second of a life no more answers and complaints are sent at a side than may be.
 use Rattle.std.proofs.Common.{◌≡◌, ◌≢◌, ◌≤◌, ◌<◌, ◌+◌, ◌==◌, ℕ, Bool, true, false, cond, not, ◌&&◌, List, [], ◌∷◌, refl, sym, ap, subst, ◌∙◌, arith}
 use Rattle.std.proofs.lemmas.Bool.Decides.{nat_tests}
 use Rattle.std.proofs.lemmas.List.Sums.{sum_by-cons}
@@ -15,7 +15,7 @@ use Rattle.spec_step.specs.Truly.{IsSetUp}
 use Rattle.spec_step.proofs.Sending.{Frames}
 use Rattle.spec_step.proofs.Truths.{step-told}
 
--- ---- a tally at a moment
+-- ---- a tally at a time
 
 same-test : (m n : ℕ) → m ≡ n → (m == n) ≡ true
 same-test m n e = grind (arith, nat_tests)
@@ -104,7 +104,7 @@ module _ (p : Tally → ℕ) (most : ℕ) (count : List OwnFrame → ℕ) (side 
   abbrev said : Shown → Tally
   said g = (station_on g side).said
 
-  -- what a step does to the number
+  -- what a step does to the number that is counted
   record IsLink (g : Shown) (x : StepOwn) (new : Shown) : Type 0 where
     grows : p (at_moment x.moment (said new)) ≡ p (at_moment x.moment (said g)) + count x.own
     later : g.moment ≤ x.moment
@@ -115,7 +115,7 @@ module _ (p : Tally → ℕ) (most : ℕ) (count : List OwnFrame → ℕ) (side 
   Chain g [] = Unit {0}
   Chain g (x ∷ xs) = (new : Shown) × (IsLink g x new × Chain new xs)
 
-  -- of an earlier second nothing is said any more
+  -- the later steps of a life send nothing in an earlier second
   none-before : (q : ℕ) (g : Shown) (xs : List StepOwn) → Chain g xs → q < second_of g.moment → in_second count q xs ≡ 0
   none-before q g [] chain past = refl
   none-before q g (x ∷ xs) chain past =
@@ -154,7 +154,7 @@ module _ (p : Tally → ℕ) (most : ℕ) (count : List OwnFrame → ℕ) (side 
           omega (arith, none-before q new xs chain.1.1 past, limit (at_moment g.moment (said g)) (within-at g.moment (said g) is))
       at false now false before ih = omega (arith, ih)
 
--- what each side counts at a step
+-- each side counts exactly the own frames that a step sends there
 counted-on : (g new : Shown) (x : StepOwn) → IsStepSaying g x new → (side : Side) → (station_on new side).said ≡ tallied x.moment side x.own (station_on g side).said
 counted-on g new x s side = subst (λ (own : List OwnFrame). (station_on new side).said ≡ tallied x.moment side own (station_on g side).said) (sym s.own_is)
     (subst (λ (m : ℕ). (station_on new side).said ≡ tallied m side s.tells.own (station_on g side).said) (sym s.moment_is) (at side))

@@ -1,4 +1,4 @@
--- An error leaves the pairs as they are, and so does what a gateway says itself.
+-- An error, and what a gateway says itself, leave the pairs as they are.
 use Rattle.std.proofs.Common.{◌≡◌, ap, ℕ, Bool, true, false, cond, List, Result, Ok, Err, refl, ◌∙◌}
 use Rattle.addresses.specs.declared.internet.Ip.{Ip}
 use Rattle.nat_types.specs.declared.gateways.Side.{Side}

@@ -1,4 +1,5 @@
--- A tick lets go what has rested and may be let go: at a lone gateway, and where the peer may be asked for all of it.
+-- A tick lets go the pairs that have rested and may be let go: at a lone gateway, and where the peer may be asked for
+-- all of them.
 use Rattle.std.proofs.Common.{◌≡◌, ◌≤◌, ◌+◌, ℕ, suc, Bool, true, false, cond, ◌&&◌, ◌||◌, not, List, [], ◌∷◌, ◌++◌, length, Option, Some, None, inl, inr, refl, sym, ap, subst, ◌∙◌, arith}
 use Rattle.std.specs.List.{Contains}
 use Rattle.std.proofs.lemmas.Bool.{cases_Bool, cond-true, cond-false, le-ltb}
@@ -76,7 +77,7 @@ row-leaves b ask q k other = at (is_synced b.stage) (slot_of b.entries q) refl
         released-leaves b (is_lone b.stage) ask y y.state k (ap (slot_of b.entries) same ∙ is) (ap (λ (z : Key). same_key z k) same ∙ other)
     at false o is = refl
 
--- what no row lets go stays
+-- an entry that no row lets go stays as it is
 row-quiet : (b : Book) (ask : Bool) (k : Key) (o : Option Entry) → slot_of b.entries k ≡ o → ((lone ask : Bool) → release_row lone ask o ≡ quiet) → idle_row b ask k ≡ quiet
 row-quiet b ask k o held stays = at (is_synced b.stage)
   where
@@ -105,7 +106,7 @@ left-stays false x l ask = refl
 
 -- ---- the row of an entry that may be let go
 
--- it is dropped at a lone gateway, and else asked for
+-- the row of an entry that may be let go: a lone gateway drops it, and any other asks for it
 abbrev going : Bool → Pair → Transition
 going lone p = cond lone (row (Drop p.key) None (Some (Released p))) (asking p)
 
@@ -147,7 +148,7 @@ asks-now now e n heard room =
 
 -- ---- one after another
 
--- what is asked before the rows of so many keys
+-- what holds of an entry before the rows of `n` keys, if it is to be let go
 record Goes (now : ℕ) (lone : Bool) (id : GatewayId) (n : ℕ) (l : Ledger) (e : Link) (x : Entry) : Type 0 where
   synced : is_synced l.book.stage ≡ true
   alone : is_lone l.book.stage ≡ lone
@@ -156,7 +157,7 @@ record Goes (now : ℕ) (lone : Bool) (id : GatewayId) (n : ℕ) (l : Ledger) (e
   heard : lone ≡ false → is_heard e.heard now ≡ true
   places : lone ≡ false → 64 + n ≤ free_places e
 
--- and what comes of it
+-- the entry is let go by the rows of these keys
 record Gone (now : ℕ) (lone : Bool) (id : GatewayId) (ks : List Key) (l : Ledger) (e : Link) (x : Entry) : Type 0 where
   left : slot_of (let_go now ks l e).ledger.book.entries x.pair.key ≡ left_of lone x
   noted : Contains (let_go now ks l e).notes (note id now (Released x.pair))
@@ -257,7 +258,7 @@ ticked-entries s = at (is_due_on_tick (handed_in s.shown).link s.shown.moment)
     at true = (refl, refl)
     at false = (refl, refl)
 
--- what the parts before the idle pairs leave
+-- what the parts of a tick before the idle pairs leave as it was
 record Leaves (s s2 : GatewayAndOutput) : Type 0 where
   ledger : s2.shown.ledger ≡ s.shown.ledger
   link : s2.shown.link ≡ s.shown.link

@@ -1,4 +1,4 @@
--- Lists of packets that wait: without those that a test takes out, within the limit, and with requests noted.
+-- Lists of packets that wait: without those that a test removes, within the limit, and with requests noted.
 use Rattle.std.proofs.Common.{◌≡◌, ◌≤◌, ◌<◌, ◌+◌, ◌-◌, ◌⊎◌, ℕ, zero, suc, Bool, true, false, cond, not, ◌&&◌, ◌||◌, inl, inr, nat_le, nat_lt, List, [], ◌∷◌, ◌++◌, filter, refl, sym, ap, ◌∙◌, arith}
 use Rattle.std.specs.List.{AllByRecursion, list_any}
 use Rattle.std.proofs.lemmas.Bool.{leb-true, ltb-true, ltb-false}
@@ -17,7 +17,8 @@ use Rattle.spec_step.specs.Others.{Asking, Cause, Drops, Sends, Waits, all_noted
 use Rattle.spec_step.specs.Parts.{waiting}
 use Rattle.spec_step.specs.Truly.{AtHand, packets_of}
 
--- a test that keeps all that wait for next hops, one that takes none of them, and one that doesn't look at what was asked
+-- three kinds of tests: one that keeps all packets that wait for next hops, one that takes none of them, and one that
+-- doesn't look at when a hop was asked for
 abbrev pub KeepsHops : (HeldPacket → Bool) → Type 0
 KeepsHops f = (w : HeldPacket) → is_for_pair w.wait ≡ false → f w ≡ true
 
@@ -94,7 +95,7 @@ count-filter f keeps (w ∷ ws) = at (is_for_pair w.wait) (f w) refl refl (count
     at true false is to ih = omega (arith, ih, count-pair w ws is)
     at false false is to ih = let clash : true ≡ false = sym (keeps w is) ∙ to in absurd (cc)
 
--- ---- so many of them
+-- ---- the first `n` of them
 
 hops-append : (n : ℕ) (xs ys : List HeldPacket) → n ≤ hop_count xs → without_hops n (xs ++ ys) ≡ without_hops n xs ++ ys
 hops-append zero xs ys h = refl
@@ -147,7 +148,7 @@ limit-filter f keeps xs =
 pub limit-taken : (g : HeldPacket → Bool) → TakesNone g → (xs : List HeldPacket) → filter g (within_limit xs) ≡ filter g xs
 limit-taken g none xs = hops-taken g none (hop_count xs - 64) xs
 
--- where one more waits
+-- the list within the limit, with one packet more that waits
 pub limit-more : (what : WaitsFor) (kept : List HeldPacket) (side : Side) (bytes : List ℕ) (now : ℕ) → hop_count kept ≤ 64
     → with_room what kept ++ waiting side bytes now what ∷ [] ≡ within_limit (kept ++ waiting side bytes now what ∷ [])
 limit-more (wait.Pair e) kept side bytes now few =
@@ -197,7 +198,7 @@ module _ (now : ℕ) (x : WaitsFor) where
   packets-asked : (ws : List HeldPacket) → packets_of (with_asked now x ws) ≡ packets_of ws
   packets-asked ws = map-asked (λ (v : HeldPacket). let p : AtHand = record { side = v.side; bytes = v.bytes } in p) (λ v n. refl) now x ws
 
-  -- one that was asked for at that moment already
+  -- packets whose hop was asked for at that time already stay as they are
   asked-new : (ws : List HeldPacket) → AllByRecursion (λ (w : HeldPacket). w.asked ≡ now) ws → with_asked now x ws ≡ ws
   asked-new [] all = refl
   asked-new (w ∷ ws) all =
@@ -268,7 +269,7 @@ module _ (now : ℕ) where
       at exit host Sends = refl
       at exit host Drops = asked-new now (wait.Hop exit host) ws all
 
-  -- those that wait after one part and after a second, of which a test takes some out between
+  -- the packets that wait after two parts, where a test removes some in between
   pub noted-then : (qs bs : List Asking) (f : HeldPacket → Bool) (xs ys zs : List HeldPacket) → KeepsHops f → IsByWait f → AllByRecursion (λ (w : HeldPacket). w.asked ≡ now) zs
       → all_noted now bs (within_limit (filter f (all_noted now qs (within_limit (xs ++ ys))) ++ zs)) ≡ all_noted now (qs ++ bs) (within_limit (filter f (xs ++ ys) ++ zs))
   noted-then qs bs f xs ys zs keeps by all =
@@ -282,7 +283,7 @@ module _ (now : ℕ) where
       ∙ ap (λ (ws : List HeldPacket). all_noted now bs (all_noted now qs ws)) (limit-limit (filter f both) zs)
       ∙ sym (noted-join qs bs (within_limit (filter f both ++ zs)))
 
-  -- and those that the test took out
+  -- the packets that the test removed are the same, with or without the requests noted
   pub noted-taken : (qs : List Asking) (g : HeldPacket → Bool) (xs : List HeldPacket) → TakesNone g → IsByWait g → packets_of (filter g (all_noted now qs (within_limit xs))) ≡ packets_of (filter g xs)
   noted-taken qs g xs none by =
       ap packets_of (filter-noted g by qs (within_limit xs)) ∙ packets-noted qs (filter g (within_limit xs)) ∙ ap packets_of (limit-taken g none xs)
@@ -384,7 +385,7 @@ module _ (now : ℕ) (x : WaitsFor) where
       at (inl t) = any-filter f kept t
       at (inr t) = absurd (any-new came all t)
 
--- ---- those that wait for next hops
+-- ---- the packets that wait for next hops
 
 pub hops-stay : (g : HeldPacket → Bool) → TakesNone g → (ws : List HeldPacket) → hops_of (filter (λ w. not (g w)) ws) ≡ hops_of ws
 hops-stay g none [] = refl

@@ -1,5 +1,5 @@
--- What the routers of a gateway are after a line of the state table: from where a line leads to Initialize and from there, and
--- that a tick sends nothing there.
+-- What a gateway's routers are after a line of the state table: which lines lead to Initialize and away from it, and
+-- that a tick in Initialize sends nothing.
 use Rattle.std.proofs.Common.{◌≡◌, ◌⊎◌, ℕ, List, [], ◌∷◌, inl, inr, refl, sym, ap, ◌∙◌}
 use Rattle.nat_types.specs.declared.gateways.Side.{Side}
 use Rattle.nat_types.specs.declared.gateways.Side.TheVariants.{Inside, Outside}
@@ -30,7 +30,7 @@ line-idles table.ActiveYields r event now action r2 says other idle = let no : A
 line-idles table.ActiveOther r event now action r2 says other idle = let no : Active ≡ Initialize = sym says.3 ∙ idle in absurd (cc)
 line-idles table.NothingDue r event now action r2 says other idle = absurd (says.0 idle)
 
--- a stop leads there from everywhere
+-- a stop leads to Initialize from each state
 pub line-stops : (line : Line) (r : Router) (now : ℕ) (action : Action) (r2 : Router) → Says line r table.Stop now action r2 → r2.state ≡ Initialize
 line-stops table.InitializeStart r now action r2 says = let no = says.1 in absurd (cc)
 line-stops table.InitializeOther r now action r2 says = ap (λ (x : Router). x.state) says.3 ∙ says.0
@@ -50,7 +50,7 @@ line-stops table.NothingDue r now action r2 says = at says.1
     at (inl never) = absurd (cc)
     at (inr never) = let clash = never.0 in absurd (cc)
 
--- and only a stop
+-- only a stop leads to Initialize
 pub line-stays : (line : Line) (r : Router) (event : RouterEvent) (now : ℕ) (action : Action) (r2 : Router) → Says line r event now action r2 → (event ≡ table.Stop → ⊥) → r2.state ≡ Initialize → r.state ≡ Initialize
 line-stays table.InitializeStart r event now action r2 says other idle = says.0
 line-stays table.InitializeOther r event now action r2 says other idle = says.0
@@ -66,7 +66,7 @@ line-stays table.ActiveYields r event now action r2 says other idle = let no : B
 line-stays table.ActiveOther r event now action r2 says other idle = sym (ap (λ (x : Router). x.state) says.8) ∙ idle
 line-stays table.NothingDue r event now action r2 says other idle = sym (ap (λ (x : Router). x.state) says.3) ∙ idle
 
--- a tick sends nothing there
+-- a tick in Initialize sends nothing
 pub line-quiet : (line : Line) (r : Router) (now : ℕ) (action : Action) (r2 : Router) → Says line r table.Tick now action r2 → r.state ≡ Initialize → action ≡ Nothing
 line-quiet table.InitializeStart r now action r2 says idle = let no = says.1 in absurd (cc)
 line-quiet table.InitializeOther r now action r2 says idle = says.2
@@ -82,7 +82,7 @@ line-quiet table.ActiveYields r now action r2 says idle = let no = says.4 in abs
 line-quiet table.ActiveOther r now action r2 says idle = let no = says.4 in absurd (cc)
 line-quiet table.NothingDue r now action r2 says idle = says.2
 
--- one that was started isn't there
+-- a router that was started isn't in Initialize
 pub started-begun : (state : State) (r : Router) (now : ℕ) → r.state ≡ state → (started_in state r now).state ≡ Initialize → ⊥
 started-begun Initialize r now is idle = absurd (cc)
 started-begun Backup r now is idle = let no : Backup ≡ Initialize = sym is ∙ idle in absurd (cc)
@@ -98,13 +98,13 @@ pub acts-shown : (s : GatewayAndOutput) (side : Side) (event : RouterEvent) (s2 
 acts-shown s side event s2 a =
     ap (λ (x : GatewayAndOutput). x.shown) a.is ∙ all-framed-shown (scene (with_station s.shown side a.station) s.told) side (frames_of a.station a.action)
 
--- nothing but the interfaces is another
+-- a step of both routers changes only the interfaces
 pub both-shown : (s : GatewayAndOutput) (event : RouterEvent) (s2 : GatewayAndOutput) → (both : BothAct s event s2) → s2.shown ≡ with_station (with_station s.shown Inside both.inside.station) Outside both.outside.station
 both-shown s event s2 both =
     acts-shown both.between Outside event s2 both.outside
     ∙ ap (λ (g : Shown). with_station g Outside both.outside.station) (acts-shown s Inside event both.between both.inside)
 
--- both are stopped
+-- after a stop both routers are in Initialize
 pub both-stopped : (s : GatewayAndOutput) (s2 : GatewayAndOutput) → BothAct s table.Stop s2 → AreIdle s2.shown
 both-stopped s s2 both =
     let one = both.inside in

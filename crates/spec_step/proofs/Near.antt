@@ -1,4 +1,4 @@
--- A neighbour that is to be asked for: where another was asked for, and where one was learnt.
+-- Whether a neighbour may be asked for, after another was asked for and after one was learnt.
 use Rattle.std.proofs.Common.{◌≡◌, ℕ, zero, suc, ◌-◌, Bool, true, false, cond, not, ◌==◌, ◌&&◌, ◌||◌, ◌⊎◌, inl, inr, nat_le, is_some, List, [], ◌∷◌, drop, length, filter, refl, sym, ◌∙◌, arith}
 use Rattle.std.specs.List.{list_any}
 use Rattle.std.proofs.lemmas.Bool.{leb-true}
@@ -81,11 +81,11 @@ module _ (host now : ℕ) where
           last (inl u) = u
           last (inr u) = absurd (cc)
 
--- one that is to be asked for after another was so before
+-- a neighbour that may be asked for, after another one was asked for, could be asked for before
 pub asks-asked : (host a now : ℕ) (known : Neighbours) → asks_at host now (asked_at a now known) ≡ true → asks_at host now known ≡ true
 asks-asked host a now known h = and-more (not (is_some (fixed_mac host known.fixed))) (learnt_asks host now (learnt_asked a now known.learnt)) (learnt_asks host now known.learnt) (any-asked host now a known.learnt) h
 
--- and after one was learnt
+-- a neighbour that may be asked for, after one was learnt, could be asked for before
 pub asks-learnt : (host now : ℕ) (ip : Ip) (mac : Mac) (known : Neighbours) → asks_at host now (record known { learnt = with_entry (record { address = ip; mac = mac; at = now; asked = now }) known.learnt }) ≡ true → asks_at host now known ≡ true
 asks-learnt host now ip mac known h =
     and-more (not (is_some (fixed_mac host known.fixed))) (learnt_asks host now (with_entry (record { address = ip; mac = mac; at = now; asked = now }) known.learnt)) (learnt_asks host now known.learnt) (any-learnt host now ip mac known.learnt) h

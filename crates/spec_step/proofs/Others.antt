@@ -69,8 +69,8 @@ use Rattle.spec_step.proofs.Telling.{at_hand}
 use Rattle.spec_step.proofs.Turning.{back_as}
 use Rattle.spec_step.proofs.Truths.{AllOther, action-frames, after-net, after-wired, routed-wired, set-up-inside, set-up-outside, wired-on}
 
--- From a scene to a later one: these frames were sent, none of which is a translation, nothing was noted, and nobody came to
--- wait.
+-- From a scene to a later one: these frames were sent, none of which is a translation, nothing was noted, and no packet
+-- came to wait.
 pub record Gives (own : List Sent) (s s2 : GatewayAndOutput) : Type 0 where
   pub frames_are : s2.told.frames ≡ s.told.frames ++ own
   pub notes : s2.told.notes ≡ s.told.notes
@@ -115,11 +115,11 @@ gives-one s side bytes none w = record { frames_are = refl; notes = refl; entrie
     sides Inside host t = t
     sides Outside host t = t
 
--- nothing at all
+-- a part that does nothing sends no frame
 gives-here : (s : GatewayAndOutput) → IsFit s.shown → Gives [] s s
 gives-here s w = gives-nothing s s refl refl refl refl (λ side host t. t) (refl, refl) w
 
--- what is sent by itself, and the requests behind
+-- what a part sends by itself, and the requests after that
 pub record Sends-others (owes : List Sent → Type 0) (hand : List AtHand) (over : HeldPacket → Bool) (s s2 : GatewayAndOutput) : Type 0 where
   pub frames : List Sent
   pub frames_are : s2.told.frames ≡ s.told.frames ++ frames
@@ -165,7 +165,7 @@ others-then owes hand over own a b c owed x y = record {
 
 -- ---- ARP
 
--- what is to be asked for by an interface was so by another
+-- a neighbour that may be asked for by one interface could be asked for by the other
 abbrev IsNearer : ℕ → Interface → Interface → Type 0
 IsNearer now old new = (host : ℕ) → asks_at host now new.neighbours ≡ true → asks_at host now old.neighbours ≡ true
 
@@ -239,7 +239,7 @@ pub all-framed-shown : (s : GatewayAndOutput) (side : Side) (fs : List (List ℕ
 all-framed-shown s side [] = refl
 all-framed-shown s side (f ∷ fs) = all-framed-shown (framed s side f) side fs
 
--- the frames of both routers, by the interfaces before
+-- the frames that both routers send, by the interfaces before the step
 pub record BothGive (s : GatewayAndOutput) (event : RouterEvent) (s2 : GatewayAndOutput) : Type 0 where
   pub own : List Sent
   pub owed : AreOfBoth s.shown event s.shown.moment own
@@ -270,7 +270,7 @@ both-give frames s event s2 both w =
 
 -- ---- the turn of a tick, and its own lines
 
--- one that is back sends what its routers' lines say
+-- a gateway that comes back sends what the lines of its routers say
 record BackGives (starts : Bool) (s s2 : GatewayAndOutput) : Type 0 where
   own : List Sent
   owed : AreOfBoth (back_as starts s.shown) table.Tick s.shown.moment own
@@ -304,7 +304,7 @@ back-gives frames s middle false both w =
     near Inside host t = t
     near Outside host t = t
 
--- one that has left sends nothing more: its routers are in Initialize
+-- a gateway that has gone away sends nothing more: its routers are in Initialize
 gone-gives : Frames → (m middle : GatewayAndOutput) → AreIdle m.shown → BothAct (left m) table.Tick middle → IsFit m.shown → Gives [] m middle
 gone-gives frames m middle idle both w =
     let gone = left m in
@@ -343,7 +343,7 @@ turn-gives frames s turned middle Stays takes both w =
     let x = both-give frames s table.Tick middle (subst (λ (x : GatewayAndOutput). BothAct x table.Tick middle) takes both) w in
     record { own = x.own; owed = x.owed; gives = x.gives }
 
--- a side's cable
+-- a change of a side's cable sends no frame
 plugged-asks : (s : GatewayAndOutput) (side : Side) (up : Bool) → Ask-on [] nobody s (side_plugged s side up)
 plugged-asks s Inside up = quiet-asks [] s (side_plugged s Inside up)
     (quiet-by s (side_plugged s Inside up) refl refl refl refl refl ((refl, refl), (refl, refl)) (λ w. (w.0, (record { own = w.1.0.own; known = w.1.0.known }, w.1.1))))
@@ -352,7 +352,7 @@ plugged-asks s Outside up = quiet-asks [] s (side_plugged s Outside up)
 
 -- ---- a frame
 
--- one that is refused as it is read
+-- a frame that is refused as it is read has only the other frames that it should have
 refused-others : Frames → (s : GatewayAndOutput) (side : Side) (bytes : List ℕ) (reason : Reason) → AreBytes bytes → IsFit s.shown
     → Sends-others (FrameOwes s.shown side (Err reason)) (packet_as side bytes (Err reason)) (frees_as s.shown side (Err reason)) s (refused s side side bytes reason)
 refused-others frames s side bytes reason are w = at reason
@@ -423,7 +423,7 @@ ended-asks : Frames → (s : GatewayAndOutput) (o : Option Endpoint) → Ask-on 
 ended-asks frames s None = nothing-asks [] s
 ended-asks frames s (Some e) = pairs-ask frames s (One (wait.Pair e)) (one-apart e)
 
--- the table is another, and this is noted
+-- a part that changes the table, and notes this, is quiet
 table-quiet : (s : GatewayAndOutput) (l : Ledger) (e : Link) (notes : List Note) → Rooted s.shown.ledger.book.entries l.book.entries (retaken_pairs notes) → IsQuiet s (scene (record s.shown { ledger = l; link = e }) (with_notes s.told notes))
 table-quiet s l e notes roots = record { frames = refl; notes = notes; notes_are = refl; roots = roots; kept = refl; known = refl; stations = ((refl, refl), (refl, refl)); wired = λ w. w }
 
@@ -499,7 +499,7 @@ word-asks frames s n (Some reason) is = nothing-asks [] s
 
 -- ---- ticks
 
--- idle pairs that are let go leave the frames and the packets that wait
+-- letting idle pairs go leaves the frames and the packets that wait
 pub record LeavesFrames (s s2 : GatewayAndOutput) : Type 0 where
   pub frames : s2.told.frames ≡ s.told.frames
   pub notes : List Note
@@ -514,7 +514,7 @@ all-idle-leave s (k ∷ ks) =
     let rest = all-idle-leave (idle_done s k) ks in
     record { frames = rest.frames; notes = noted ++ rest.notes; notes_are = rest.notes_are ∙ append_assoc s.told.notes noted rest.notes; kept = rest.kept }
 
--- nobody comes to wait, and the old ones leave
+-- at a tick no packet comes to wait, and the old ones are dropped
 tick-others : Frames → (s : GatewayAndOutput) (now : ℕ) (turned middle : GatewayAndOutput) → GivingWay (ticked s now) turned → BothAct turned table.Tick middle → IsFit s.shown → AreOthers s (Tick now) (idle_taken (old_dropped middle))
 tick-others frames s now turned middle takes acts w =
     let both = turn-gives frames (ticked s now) turned middle (turn_of (ticked s now).shown) takes acts w in
@@ -551,7 +551,7 @@ tick-others frames s now turned middle takes acts w =
 
 -- ---- an event's own parts
 
--- an event at which packets don't become old
+-- an event at which no packet is old has only the other frames that it should have
 others-at : (s : GatewayAndOutput) (event : Event) (done : GatewayAndOutput) → ((w : HeldPacket) → is_old s.shown event w ≡ false) → Sends-others (Owes s.shown event) (packet_in s.shown event) (is_freed s event) s done → AreOthers s event done
 others-at s event done young x = record {
   frames = x.frames;
@@ -573,7 +573,7 @@ others-at s event done young x = record {
   of_hand = x.of_hand;
 }
 
--- one that has the gateway send nothing by itself
+-- an event that has the gateway send nothing by itself has only requests for next hops
 asks-alone : (s : GatewayAndOutput) (event : Event) (done : GatewayAndOutput) → Owes s.shown event [] → IsFit s.shown → Asks (packet_in s.shown event) (is_freed s event) s done → Sends-others (Owes s.shown event) (packet_in s.shown event) (is_freed s event) s done
 asks-alone s event done owed w asks = others-then (Owes s.shown event) (packet_in s.shown event) (is_freed s event) [] s s done owed (gives-here s w) asks
 
@@ -599,7 +599,7 @@ does-others frames s (SideIs side up) done does has is w =
 
 -- ---- the datagram at the end
 
--- what it leaves
+-- what the datagram at the end of a step leaves as it is
 pub record Ends (done end : GatewayAndOutput) : Type 0 where
   pub frames : end.told.frames ≡ done.told.frames
   pub notes : end.told.notes ≡ done.told.notes
@@ -651,7 +651,7 @@ end-others s Stop done x = others-end s Stop done (link_answered done) (answered
 end-others s (PeerOff n) done x = others-end s (PeerOff n) done (link_answered done) (answered-ends done) x
 end-others s (SideIs side up) done x = x
 
--- a whole step
+-- a whole step has only the other frames that it should have
 pub step-others : Frames → (s : GatewayAndOutput) (event : Event) (s2 : GatewayAndOutput) → IsStepOn s event s2 → HasBytes event → IsBook s.shown.ledger.book → IsFit s.shown → AreOthers s event s2
 step-others frames s event s2 step has is w =
     subst (λ (x : GatewayAndOutput). AreOthers s event x) (sym step.sends) (end-others s event step.done (does-others frames s event step.done step.does has is w))

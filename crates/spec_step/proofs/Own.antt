@@ -1,5 +1,6 @@
--- What a gateway says itself, part by part: what holds of the scene after it is said, of the scene in which a packet is kept
--- for it, and of the scene before, holds of the whole.
+-- What a gateway says itself, part by part. A property of scenes holds after a packet is taken, where it holds of the
+-- scene before, of the scene after the frame of the gateway's own is sent, and of the scene in which a packet is kept
+-- for it.
 use Rattle.std.proofs.Common.{◌≡◌, Bool, true, false, cond, ◌&&◌, List, ℕ, Option, Some, None, Result, Ok, Err, refl}
 use Rattle.addresses.specs.declared.ethernet.Mac.{Mac}
 use Rattle.addresses.specs.declared.internet.Ip.{Ip}
@@ -28,7 +29,7 @@ use Rattle.spec_step.specs.Truly.{IsSetUp, known_of}
 use Rattle.spec_step.specs.Verdict.{fits_at, hop_back, if_reply_fits, next_back, reply_via}
 use Rattle.spec_step.proofs.Fitting.{reply-fitted}
 
--- a frame of the gateway's own was sent at a side, with what was said there by then
+-- the scene after a frame of the gateway's own was sent at a side, with this tally of what was sent there
 abbrev pub said_scene : GatewayAndOutput → Side → List ℕ → Tally → GatewayAndOutput
 said_scene s side frame tally = counted (framed s side frame) side (record (station_on s.shown side) { said = tally })
 
@@ -40,7 +41,7 @@ abbrev pub answer_scene : GatewayAndOutput → Side → List ℕ → Mac → Gat
 answer_scene s side bytes next =
     said_scene s side (answer_frame (network_of s.shown.networks side) next bytes) (replied s.shown.moment (station_on s.shown side).said)
 
--- such a scene leaves all else
+-- such a scene leaves everything else as it is
 pub record Beside (s two : GatewayAndOutput) : Type 0 where
   pub ledger : two.shown.ledger ≡ s.shown.ledger
   pub kept : two.shown.kept ≡ s.shown.kept
@@ -67,7 +68,7 @@ said-beside s Outside frame tally = record {
   set_up = λ w. (w.0, (w.1.0, record { own = w.1.1.own; known = w.1.1.known }));
 }
 
--- the sender of a packet of which something is said may be answered
+-- the sender of a packet with a complaint may be answered
 and-third : (a b c d : Bool) → (a && (b && (c && d))) ≡ true → c ≡ true
 and-third true true true d is = refl
 and-third true true false d is = absurd (cc)
@@ -130,7 +131,7 @@ module _ (P : GatewayAndOutput → Type 0) (s : GatewayAndOutput) (side exit : S
 abbrev pub exit_in : GatewayAndOutput → Side → Flow → Side
 exit_in s side flow = exit_for side (direction_of s.shown.networks side flow.protocol flow.source.0 flow.destination.0)
 
--- a packet that is refused leaves the scene, or wants a port, or is complained of
+-- a packet that is refused leaves the scene as it is, or wants a port, or has a complaint
 pub refusal-leaves : (P : GatewayAndOutput → Type 0) (s : GatewayAndOutput) (side : Side) (bytes : List ℕ) (flow : Flow) → P s → P (wanted_by s (source_of flow))
     → ((reason : Reason) (complaint : Complaint) (next : Mac) → complaint_of s.shown.networks side (exit_in s side flow) reason bytes ≡ Some complaint → next_back s.shown side (sender_in bytes) ≡ Some next
     → may_complain s.shown.moment (station_on s.shown side).said ≡ true → P (renewed_behind (complaint_scene s side bytes complaint next) side (hop_back s.shown side (sender_in bytes)))) → (reason : Reason) → P (by_refusal s side bytes flow reason)
@@ -193,9 +194,9 @@ module _ (P : GatewayAndOutput → Type 0) (s : GatewayAndOutput) (side : Side) 
       answers true may = limited may (may_reply s.shown.moment (station_on s.shown side).said) refl
       answers false may = refuses NoBinding
 
--- ---- where it doesn't matter what is said
+-- ---- a property that doesn't depend on what is said
 
--- whatever the gateway says at a side
+-- the property holds whatever the gateway says at a side
 abbrev pub Said : (GatewayAndOutput → Type 0) → GatewayAndOutput → Side → Type 0
 Said P s side = (frame : List ℕ) (tally : Tally) (hop : Ip) → P (renewed_behind (said_scene s side frame tally) side hop)
 

@@ -1,4 +1,4 @@
--- The own frames of a whole step are just those of its takings.
+-- The own frames of a whole step are exactly those of its takings.
 use Rattle.std.proofs.Common.{◌≡◌, ℕ, Bool, true, false, cond, ◌&&◌, List, [], ◌∷◌, ◌++◌, length, Option, Some, None, Result, Ok, Err, refl, sym, ap, subst, ◌∙◌}
 use Rattle.std.specs.List.{AllByRecursion}
 use Rattle.addresses.specs.declared.ethernet.Mac.{Mac}
@@ -51,7 +51,7 @@ use Rattle.spec_step.proofs.Sending.{Frames, answer-other, own-six}
 use Rattle.spec_step.proofs.Truths.{AllOther, action-frames, after-net, after-said, after-wired, answered-says, link-says, record-first, record-says, record_scene, reset-first, reset-says, reset_scene, station-speaks, wired-on, word-first, word-synced, word_scene}
 use Rattle.spec_step.proofs.Turning.{back_as, turn-by}
 
--- where the gateway is sound and set up
+-- a part's own frames are these, where the gateway is sound and set up
 abbrev Justly : List Sent → GatewayAndOutput → GatewayAndOutput → Type 0
 Justly own s s2 = IsSound s.shown → IsSetUp s.shown → Just s s2 own
 
@@ -60,7 +60,7 @@ justly-then xs ys a b c x said y = λ is w.
     let mid = said is w in
     just-then xs ys a b c (x is w) (y mid.0.sound mid.0.wired)
 
--- a part that sends none of its own
+-- a part that sends no frame of the gateway's own adds none to those of the next part
 none-just : (own : List Sent) (s mid s2 : GatewayAndOutput) → Just s mid [] → Just mid s2 own → Just s s2 own
 none-just own s mid s2 first rest = just-then [] own s mid s2 first rest
 
@@ -71,7 +71,7 @@ station-nets g Outside station = refl
 station-just : (s : GatewayAndOutput) (side : Side) (station : Interface) → Just s (scene (with_station s.shown side station) s.told) []
 station-just s side station = quiet-just s (scene (with_station s.shown side station) s.told) refl (station-nets s.shown side station)
 
--- ---- those whose wait is over
+-- ---- the packets whose wait is over
 
 released-just : Frames → (s : GatewayAndOutput) (ended : Ended) → Justly (own_released s ended) s (released s ended)
 released-just frames s ended = λ is w.
@@ -269,7 +269,7 @@ end-frames Stop done = answered-frames done
 end-frames (PeerOff n) done = answered-frames done
 end-frames (SideIs side up) done = refl
 
--- a whole step
+-- the own frames of a whole step are exactly those of its takings
 pub step-just : Frames → (s : GatewayAndOutput) (event : Event) (s2 : GatewayAndOutput) → IsStepOn s event s2 → HasBytes event → IsSound s.shown → IsSetUp s.shown → SaysJust s s2 (own_in s event)
 step-just frames s event s2 step has is w =
     let done = (does-just frames s event step.done step.does has is w).says in

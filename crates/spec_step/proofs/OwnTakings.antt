@@ -1,4 +1,4 @@
--- The own frames of one taking of a packet, and of takings one after another, are just those that its verdict says.
+-- The own frames of one taking of a packet, and of takings one after another, are exactly those that the verdict says.
 use Rattle.std.proofs.Common.{◌≡◌, ℕ, Bool, true, false, cond, List, [], ◌∷◌, ◌++◌, Option, Some, None, Result, Ok, Err, refl, sym, ap, subst, ◌∙◌, append_assoc}
 use Rattle.std.specs.List.{AllByRecursion}
 use Rattle.std.proofs.lemmas.List.{append-nil}
@@ -50,12 +50,12 @@ use Rattle.spec_step.proofs.Saying.{addressed, retaken-says}
 use Rattle.spec_step.proofs.Sending.{Frames, answer-own, carried-leaves, complaint-own, next-six, own-six}
 use Rattle.spec_step.proofs.Sends.{plan-sends}
 
--- and the networks stay
+-- the own frames from a scene to a later one are exactly these, and the networks stay the same
 pub record Just (s s2 : GatewayAndOutput) (own : List Sent) : Type 0 where
   pub says : SaysJust s s2 own
   pub nets : s2.shown.networks ≡ s.shown.networks
 
--- one part behind the other
+-- the own frames of two parts are those of the one, then those of the other
 pub just-then : (xs ys : List Sent) (a b c : GatewayAndOutput) → Just a b xs → Just b c ys → Just a c (xs ++ ys)
 just-then xs ys a b c x y = record {
   says = record {
@@ -68,14 +68,14 @@ just-then xs ys a b c x y = record {
   nets = y.nets ∙ x.nets;
 }
 
--- no frame is sent
+-- a part that sends no frame has no own frames
 pub quiet-just : (s s2 : GatewayAndOutput) → s2.told.frames ≡ s.told.frames → s2.shown.networks ≡ s.shown.networks → Just s s2 []
 quiet-just s s2 same nets = record { says = record { frames = []; frames_are = same ∙ sym (append-nil s.told.frames); own_are = refl }; nets = nets }
 
 pub nothing-just : (s : GatewayAndOutput) → Just s s []
 nothing-just s = quiet-just s s refl refl
 
--- one is, which isn't the gateway's own, or is
+-- a frame that was sent is an own frame, or none
 pub other-just : (s : GatewayAndOutput) (side : Side) (bytes : List ℕ) → is_own_frame s.shown.networks side bytes ≡ false → Just s (framed s side bytes) []
 other-just s side bytes is = record { says = record { frames = record { side = side; bytes = bytes } ∷ []; frames_are = refl; own_are = rw is refl }; nets = refl }
 
@@ -108,7 +108,7 @@ again-just frames s exit hop w = at (asks_again s.shown.moment (wait.Hop exit ho
         (other-just mid exit (request_by s.shown exit hop) (frames.own.request s.shown.networks exit (station_on s.shown exit).network hop (own-six s.shown w exit)))
     at false = nothing-just s
 
--- a packet is kept, and its next hop asked for
+-- a packet is kept and its next hop asked for: the request is no own frame
 asking-just : Frames → (s : GatewayAndOutput) (exit : Side) (one : GatewayAndOutput) (hop : Ip) → Just s one [] → IsSetUp s.shown → Just s (framed one exit (request_by s.shown exit hop)) []
 asking-just frames s exit one hop first w =
     just-then [] [] s one (framed one exit (request_by s.shown exit hop)) first
@@ -122,7 +122,7 @@ wanted-for-just s flow (Hairpin own other) = quiet-just s (wanted_by s (source_o
 kept-just : (s one : GatewayAndOutput) (side : Side) (bytes : List ℕ) (exit : Side) (hop : Ip) → Just s one [] → Just s (keeping one side bytes (wait.Hop exit hop)) []
 kept-just s one side bytes exit hop first = just-then [] [] s one (keeping one side bytes (wait.Hop exit hop)) first (quiet-just one (keeping one side bytes (wait.Hop exit hop)) refl refl)
 
--- an answer that is sent has a next hop
+-- an Echo that is answered has a next hop whose hardware address is known
 reply-sends : (g : Shown) (side : Side) (echo : Echo) (next : Mac) → reply_to g side echo ≡ Ok (reply.Send next) → next_back g side echo.source ≡ Some next
 reply-sends g side echo next is = answers (may_answer g.networks side echo.source.0) is
   where
@@ -155,7 +155,7 @@ reply-sends g side echo next is = answers (may_answer g.networks side echo.sourc
 -- ---- a packet that is refused
 
 module _ (frames : Frames) (s : GatewayAndOutput) (side : Side) (bytes : List ℕ) (are : AreBytes bytes) (w : IsSetUp s.shown) where
-  -- something was said, and the next hop may be asked for behind it
+  -- a frame of the gateway's own was sent, and its next hop may be asked for after it
   said-just : (frame : List ℕ) (two : GatewayAndOutput) (hop : Ip) → two.told.frames ≡ (framed s side frame).told.frames → two.shown.networks ≡ s.shown.networks → IsSetUp two.shown → is_own_frame s.shown.networks side frame ≡ true
       → Just s (renewed_behind two side hop) (let x : Sent = record { side = side; bytes = frame } in x ∷ [])
   said-just frame two hop told nets up own =

@@ -1,4 +1,4 @@
--- What a step does with one packet, and with those whose wait is over, as the machine sees it.
+-- What a step does with one packet, and with packets whose wait is over, as the machine sees it.
 use Rattle.std.proofs.Common.{◌≡◌, ◌<◌, ◌-◌, ℕ, Bool, true, false, cond, List, [], ◌∷◌, ◌++◌, drop, Option, Some, None, Result, Ok, Err, inl, inr, refl, sym, subst, arith}
 use Rattle.std.specs.List.{AllByRecursion, filter}
 use Rattle.byteorder.specs.Numbers.{big_from-lt}
@@ -85,7 +85,7 @@ source-formed bytes are is =
     above body (inr (inl echo)) = rw echo.protocol echo.query.identifier
     above body (inr (inr reply)) = rw reply.protocol reply.query.identifier
 
--- a plan waits for an endpoint that a pair can have
+-- the endpoint for which a plan waits is one that a pair can have
 abbrev pub PlanFits : Result Plan Reason → Type 0
 PlanFits (Ok (Send by next)) = Unit {0}
 PlanFits (Ok (Ask by hop)) = Unit {0}
@@ -169,7 +169,7 @@ pub kept-more : (ws : List HeldPacket) (x : HeldPacket) → AllByRecursion (λ (
 kept-more [] x all one = (one, tt)
 kept-more (w ∷ ws) x all one = (all.0, kept-more ws x all.1 one)
 
--- what is known of a frame by what it is read as
+-- the contract of reading: what is known of a frame by what it is read as
 abbrev pub Reads : Type 0
 Reads = (side : Side) (network : Network) (active up : Bool) (bytes : List ℕ) (reading : Reading) → reading_of side network active up bytes ≡ Ok reading → Carries side bytes reading
 
@@ -259,7 +259,7 @@ module _ (letters : List Letter) (words : List ℕ) where
       let one = wanted_by s e in
       going-then letters words s one _ (wanted-goes s e fits) (keeping-goes one side bytes (wait.Pair e) are)
 
-  -- the gateway says something itself
+  -- a frame of the gateway's own is no act of the machine
   said-goes : (s : GatewayAndOutput) (side : Side) → Said (λ x. Going letters words s x) s side
   said-goes s Inside = λ frame tally hop.
       let one = said_scene s Inside frame tally in
@@ -309,7 +309,7 @@ module _ (letters : List Letter) (words : List ℕ) where
       at (Ok plan) = error-plan-goes s side bytes flow plan are
       at (Err reason) = here s
 
-  -- ---- those whose wait is over
+  -- ---- the packets whose wait is over
 
   pub read-formed : Reads → (g : Shown) (side : Side) (bytes : List ℕ) (packet : PacketRead) → AreBytes bytes → reading_on g side bytes ≡ Ok (Packet packet) → IsWellFormedEndpoint (source_of packet.flow)
   read-formed reads g side bytes packet are read =

@@ -1,4 +1,4 @@
--- An error that is passed on is told of.
+-- What is told of an error that is passed on is true.
 use Rattle.std.proofs.Common.{◌≡◌, inl, ℕ, true, false, Some, List, [], ◌∷◌, refl, sym, ◌∙◌, arith}
 use Rattle.std.proofs.lemmas.List.{append-nil}
 use Rattle.std.proofs.lemmas.List.Sorted.{IsPermutation-refl}
@@ -22,7 +22,7 @@ use Rattle.spec_step.proofs.Erring.{IsErrorGoing, error-may, error-pairs}
 use Rattle.spec_step.proofs.Sending.{near-mac}
 use Rattle.spec_step.proofs.Telling.{Told, at_hand}
 
--- the frame, and the side at which it is sent
+-- the frame by which an error is passed on, and the side at which it is sent
 abbrev pub passing : Shown → List ℕ → Translation → Mac → Sent
 passing g bytes by next = record { side = exit_by by; bytes = passed_frame g.networks by next bytes }
 

@@ -1,4 +1,5 @@
--- Parts of a step as parts of a step of the machine: what one is, none, and one behind the other.
+-- Parts of a step as parts of a step of the machine: a part of one act, a part of none, and two parts one after the
+-- other.
 use Rattle.std.proofs.Common.{◌≡◌, ℕ, true, List, [], ◌++◌, Option, Some, None, refl, sym, ap, subst, ◌∙◌, append_assoc}
 use Rattle.std.proofs.lemmas.List.{append-nil}
 use Rattle.nat_types.specs.declared.notes.Note.{Note}
@@ -14,7 +15,7 @@ use Rattle.spec_step.specs.Machine.{KeepsBytes}
 use Rattle.spec_step.specs.Parts.{by_row}
 use Rattle.spec_step.specs.Shown.{GatewayAndOutput, Shown}
 
--- what holds of a gateway between the parts
+-- what holds of a gateway between the parts of a step
 pub record IsSound (g : Shown) : Type 0 where
   pub book : IsBook g.ledger.book
   pub kept : KeepsBytes g
@@ -39,8 +40,8 @@ stays-then g g2 g3 x y = record {
   lone = λ h. x.lone (y.lone h);
 }
 
--- From a scene of which so many of the peer's records were taken to one of which so many are: nothing was sent to the
--- peer, and acts of the machine with just the notes that were told more.
+-- From a scene in which `n` of the peer's records were taken to one in which `n2` are: nothing was sent to the peer,
+-- and acts of the machine lead there with exactly the notes that were added.
 pub record Passes (letters : List Letter) (words : List ℕ) (s : GatewayAndOutput) (n : ℕ) (s2 : GatewayAndOutput) (n2 : ℕ) (h : List Record) : Type 0 where
   pub notes : List Note
   pub notes_are : s2.told.notes ≡ s.told.notes ++ notes
@@ -49,7 +50,7 @@ pub record Passes (letters : List Letter) (words : List ℕ) (s : GatewayAndOutp
   pub works : Works s.shown.moment letters words s.shown.ledger.book s.shown.link n s2.shown.ledger.book s2.shown.link n2 notes h
   pub sound : IsSound s2.shown
 
--- and one that leaves the link's session as it is
+-- such a part that leaves the link's session as it is
 pub record Goes-on (letters : List Letter) (words : List ℕ) (s : GatewayAndOutput) (n : ℕ) (s2 : GatewayAndOutput) (n2 : ℕ) (h : List Record) : Type 0 where
   pub passes : Passes letters words s n s2 n2 h
   pub stays : Stays s.shown s2.shown
@@ -58,7 +59,7 @@ abbrev pub Going : List Letter → List ℕ → GatewayAndOutput → GatewayAndO
 Going letters words s s2 = (n : ℕ) (h : List Record) → Stands s.shown.ledger.book s.shown.link h → IsSound s.shown → Goes-on letters words s n s2 n h
 
 module _ (letters : List Letter) (words : List ℕ) where
-  -- one behind the other
+  -- two parts, one after the other, make one
   pub passes-then : (s s2 s3 : GatewayAndOutput) (n n2 n3 : ℕ) (h : List Record) → (a : Passes letters words s n s2 n2 h) → Passes letters words s2 n2 s3 n3 a.works.history → Passes letters words s n s3 n3 h
   passes-then s s2 s3 n n2 n3 h a c =
       let b1 = s.shown.ledger.book in let b2 = s2.shown.ledger.book in let b3 = s3.shown.ledger.book in
@@ -79,7 +80,7 @@ module _ (letters : List Letter) (words : List ℕ) where
     stays = stays-then s.shown s2.shown s3.shown a.stays c.stays;
   }
 
-  -- the machine sees nothing
+  -- a part that is no act of the machine is a part of a step of the machine
   pub unseen : (s s2 : GatewayAndOutput) (n : ℕ) (h : List Record) → Stands s.shown.ledger.book s.shown.link h → IsBook s.shown.ledger.book
       → s2.shown.ledger.book ≡ s.shown.ledger.book → s2.shown.link ≡ s.shown.link → s2.told.notes ≡ s.told.notes → s2.told.datagrams ≡ s.told.datagrams → s2.shown.moment ≡ s.shown.moment
       → KeepsBytes s2.shown → Goes-on letters words s n s2 n h
@@ -105,7 +106,7 @@ module _ (letters : List Letter) (words : List ℕ) where
         };
       }
 
-  -- a part during which no record is taken, whatever was pushed before
+  -- two parts without a record taken make one, whatever was pushed before
   pub going-then : (s s2 s3 : GatewayAndOutput) → Going letters words s s2 → Going letters words s2 s3 → Going letters words s s3
   going-then s s2 s3 a c = λ n h stands is.
       let x = a n h stands is in
@@ -118,11 +119,11 @@ module _ (letters : List Letter) (words : List ℕ) where
   pub nothing : (s : GatewayAndOutput) (n : ℕ) (h : List Record) → Stands s.shown.ledger.book s.shown.link h → IsSound s.shown → Goes-on letters words s n s n h
   nothing s n h stands is = unseen s s n h stands is.book refl refl refl refl refl is.kept
 
-  -- what is handed in besides
+  -- a part that was given no letters and words is one that was given these
   pub given : (now : ℕ) (b b2 : Book) (e e2 : Link) (n n2 : ℕ) (ns : List Note) (h : List Record) → Works now [] [] b e n b2 e2 n2 ns h → Works now letters words b e n b2 e2 n2 ns h
   given now b b2 e e2 n n2 ns h w = works-more now [] letters [] words b b2 e e2 n n2 ns h (λ l i. absurd i) (λ k i. absurd i) w
 
-  -- a row
+  -- a row is a part of a step of the machine
   pub row-goes : (s : GatewayAndOutput) (row : Transition) (n : ℕ) (h : List Record) → IsSound s.shown → IsBook (after s.shown.ledger.book row)
       → (let b = s.shown.ledger.book in let e = s.shown.link in Works s.shown.moment [] [] b e n (after b row) (answered e row.answer) n (noted_by b.id s.shown.moment row.what) h)
       → Goes-on letters words s n (by_row s row) n h

@@ -1,5 +1,5 @@
--- What is read of a frame, and the way of a packet, are refused for reasons of their own: never for want of a port, nor because
--- of a host's limit. And only a gateway that is up reads anything.
+-- Reading a frame, and finding a packet's way, are refused for reasons of their own: never because no port is free, nor
+-- because of a host's limit. And only a gateway that is up reads anything.
 use Rattle.std.proofs.Common.{◌≡◌, ℕ, Bool, true, false, cond, Option, Some, None, Result, Ok, Err, List, is_none, nat_le, length, ◌&&◌, ◌||◌, ◌==◌, not, refl}
 use Rattle.std.specs.Option.{option_map}
 use Rattle.addresses.specs.declared.transport.Protocol.{Protocol}
@@ -37,7 +37,7 @@ use Rattle.packet_rules.specs.Queries.{kind_entering, kind_leaving}
 use Rattle.packet_rules.specs.Steps as steps
 use Rattle.packet_rules.specs.Steps.{and_then, reading_of, reason_of, reason_of_icmp, unless}
 
--- the reasons of a choice: no port is free, or the host has all the pairs that it may have
+-- whether a reason is one of choosing a port: no port is free, or the host has all the pairs that it may have
 abbrev pub is_of_choice : Reason → Bool
 is_of_choice why.ShortFrame = false
 is_of_choice why.NotMine = false
@@ -60,7 +60,7 @@ is_of_choice why.HostLimit = true
 is_of_choice why.TooLong = false
 is_of_choice why.TooMany = false
 
--- it isn't refused for one of these
+-- the result isn't refused for one of these two reasons
 abbrev pub IsFine : {X : Type 0} → Result X Reason → Type 0
 IsFine (Ok x) = Unit {0}
 IsFine (Err reason) = is_of_choice reason ≡ false
@@ -237,7 +237,7 @@ pub direction-fine : (n : Networks) (side : Side) (protocol : Protocol) (source 
 direction-fine n Inside protocol source destination = inside-fine n protocol source destination
 direction-fine n Outside protocol source destination = outside-fine n source destination
 
--- the next step of one that is fine is fine, where it is so wherever it is taken
+-- the next step of a result that is fine is fine, where it is fine from each value
 pub then-fine : {X Y : Type 0} (r : Result X Reason) (next : X → Result Y Reason) → IsFine r → ((x : X) → IsFine (next x)) → IsFine (and_then r next)
 then-fine (Ok x) next fine each = each x
 then-fine (Err reason) next fine each = fine

@@ -18,7 +18,8 @@ use Rattle.spec_step.specs.Shown.{GatewayAndOutput, Shown, is_running, scene}
 use Rattle.spec_step.proofs.Passing.{Going, Goes-on, IsSound, goes-then, going-unseen}
 use Rattle.spec_step.proofs.Packets.{Reads, here, released-goes}
 
--- the record is the next behind so many at any end that speaks of these boots, and has a spelling
+-- the record is the next after the `n` that are taken, at any end with these boots, and is
+-- well-formed
 abbrev pub Comes : Letter → ℕ → ℕ → ℕ → Record → Type 0
 Comes l boot known n r = ((e : Link) → e.boot ≡ boot → e.known ≡ known → (offset : ℕ) × IsTurn e n l offset r) × IsWellFormedRecord r
 
@@ -26,7 +27,7 @@ abbrev pub AllCome : Letter → ℕ → ℕ → ℕ → List Record → Type 0
 AllCome l boot known n [] = Unit {0}
 AllCome l boot known n (r ∷ rs) = Comes l boot known n r × AllCome l boot known (suc n) rs
 
--- so many are taken then
+-- how many records are taken after these
 abbrev pub counted : ℕ → List Record → ℕ
 counted n [] = n
 counted n (r ∷ rs) = counted (suc n) rs
@@ -36,7 +37,7 @@ counted-is n [] = omega arith
 counted-is n (r ∷ rs) = let rest = counted-is (suc n) rs in omega (arith, rest)
 
 module _ (letters : List Letter) (words : List ℕ) where
-  -- routers that start are nothing to the machine
+  -- routers that start are no act of the machine
   routed : (now : ℕ) (g : Shown) (told : Output) (b : Bool) → Going letters words (scene g told) (scene (let x : Shown = cond b (record g { inside = started g.inside now; outside = started g.outside now }) g in x) told)
   routed now g told true = going-unseen letters words (scene g told) _ refl refl refl refl refl (λ k. k)
   routed now g told false = here letters words (scene g told)
@@ -53,7 +54,7 @@ module _ (l : Letter) (words : List ℕ) where
   alone-not true P x y = absurd cc
   alone-not false P x y = absurd cc
 
-  -- the record by itself
+  -- a record alone is a part of a step of the machine
   row-takes : (s : GatewayAndOutput) (n : ℕ) (r : Record) → Comes l s.shown.link.boot s.shown.link.known n r
       → (let g = s.shown in let book = g.ledger.book in
       let g2 : Shown = record g { ledger = taken_ledger g.moment g.ledger r; link = answered g.link (taken_answer book (rests_for g.moment g.ledger r) r) } in
@@ -100,7 +101,8 @@ module _ (l : Letter) (words : List ℕ) where
       at_taken e None = refl
       at_taken e (Some r) = refl
 
-  -- with the routers that it may start, and the packets whose wait it ends
+  -- a record, with the routers that it may start and the packets whose wait it ends, is a part of a
+  -- step of the machine
   pub record-takes : Reads → (s : GatewayAndOutput) (n : ℕ) (r : Record) → Comes l s.shown.link.boot s.shown.link.known n r → Takes s n (record_done s r) (suc n)
   record-takes reads s n r comes = λ h stands is lone.
       let g = s.shown in let b = g.ledger.book in
@@ -119,7 +121,7 @@ module _ (l : Letter) (words : List ℕ) where
   not-alone true y f is = sym (f refl) ∙ is
   not-alone false y f is = refl
 
-  -- one after another
+  -- records, one after another, are a part of a step of the machine
   pub records-take : Reads → (s : GatewayAndOutput) (n : ℕ) (rs : List Record) → AllCome l s.shown.link.boot s.shown.link.known n rs → Takes s n (records_done s rs) (counted n rs)
   records-take reads s n [] all = λ h stands is lone. here (l ∷ []) words s n h stands is
   records-take reads s n (r ∷ rs) all = λ h stands is lone.

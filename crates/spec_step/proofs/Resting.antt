@@ -1,5 +1,5 @@
--- A gateway's ledger accounts for the trace after each part of a step, and each note of a part is its own: rows, packets,
--- and those whose wait is over.
+-- A gateway's ledger accounts for the trace after each part of a step, and each note of a part is its own: for rows,
+-- packets, and packets whose wait is over.
 use Rattle.std.proofs.Common.{◌≡◌, ℕ, List, [], ◌∷◌, ◌++◌, reverse, Option, Some, None, Result, Ok, Err, refl, sym, ap, subst, ◌∙◌, append_assoc, Bool, true, false, cond}
 use Rattle.std.specs.List.{AllByRecursion}
 use Rattle.std.proofs.lemmas.List.{append-nil}
@@ -49,8 +49,8 @@ use Rattle.spec_step.proofs.Own.{Said, echo-by, refusal-by, refused-by, said_sce
 use Rattle.spec_step.proofs.Passing.{IsSound}
 use Rattle.icmp.specs.declared.packets.ErrorFlow.{ErrorFlow}
 
--- what is noted from one scene to another, at one moment, and that whatever trace the ledger accounted for before, it does
--- so with these notes
+-- the notes from one scene to another, all at one time; a trace that the ledger accounted for before is accounted for
+-- with these notes
 pub record Rested (s s2 : GatewayAndOutput) : Type 0 where
   pub notes : List Note
   pub notes_are : s2.told.notes ≡ s.told.notes ++ notes
@@ -67,7 +67,7 @@ pub by-join : (id : GatewayId) (now : ℕ) (ns ns2 : List Note) → AreBy id now
 by-join id now [] ns2 x y = y
 by-join id now (n ∷ ns) ns2 x y = (x.0, by-join id now ns ns2 x.1 y)
 
--- one part behind the other
+-- the ledger accounts for two parts, one after the other, where it does for each
 pub resting-then : (a b c : GatewayAndOutput) → Resting a b → Resting b c → Resting a c
 resting-then a b c x y = λ is.
     let one = x is in
@@ -85,7 +85,7 @@ resting-then a b c x y = λ is.
       sound = two.sound;
     }
 
--- nothing is noted, and the ledger stays
+-- the ledger accounts for a part that notes nothing and leaves the ledger as it is
 pub resting-unseen : (s s2 : GatewayAndOutput) → s2.shown.ledger ≡ s.shown.ledger → s2.told.notes ≡ s.told.notes → s2.shown.moment ≡ s.shown.moment → (KeepsBytes s.shown → KeepsBytes s2.shown) → Resting s s2
 resting-unseen s s2 ledger notes moment kept = λ is. record {
   notes = [];
@@ -101,7 +101,7 @@ resting-unseen s s2 ledger notes moment kept = λ is. record {
 pub resting-nothing : (s : GatewayAndOutput) → Resting s s
 resting-nothing s = resting-unseen s s refl refl refl (λ k. k)
 
--- the ledger changes, and this is noted
+-- the ledger accounts for a part that changes it and makes these notes, where it accounts for them
 pub resting-noted : (s : GatewayAndOutput) (l : Ledger) (e : Link) (notes : List Note) → AreBy (id_of s.shown) s.shown.moment notes → l.book.id ≡ id_of s.shown → (IsBook s.shown.ledger.book → IsBook l.book)
     → ((before : List Note) → IsBook s.shown.ledger.book → Accounts s.shown.moment s.shown.ledger before → Accounts s.shown.moment l (reverse notes ++ before))
     → Resting s (scene (record s.shown { ledger = l; link = e }) (with_notes s.told notes))
@@ -194,7 +194,7 @@ plan-rests s side bytes flow (WaitFor e) are formed fits =
     let one = wanted_by s e in
     resting-then s one _ (wanted-rests s e fits) (keeping-rests one side bytes (wait.Pair e) are)
 
--- what a gateway says itself
+-- the ledger accounts for what the gateway says itself, which notes nothing
 said-rests : (s : GatewayAndOutput) (side : Side) → Said (λ x. Resting s x) s side
 said-rests s Inside = λ frame tally hop.
     let one = said_scene s Inside frame tally in
@@ -242,7 +242,7 @@ error-rests s side bytes flow are = at (error_plan s.shown side flow (length_in 
     at (Ok plan) = error-plan-rests s side bytes flow plan are
     at (Err reason) = resting-nothing s
 
--- ---- those whose wait is over
+-- ---- the packets whose wait is over
 
 retaken-rests : Reads → (s : GatewayAndOutput) (side : Side) (bytes : List ℕ) (r : Result Reading Reason) → reading_on s.shown side bytes ≡ r → AreBytes bytes → Resting s (retaken_by s side bytes r)
 retaken-rests reads s side bytes (Ok (Packet packet)) read are = flow-rests s side bytes packet.flow are (read-formed [] [] reads s.shown side bytes packet are read)

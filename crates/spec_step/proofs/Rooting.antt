@@ -1,4 +1,4 @@
--- Where the pairs come from by which a gateway translates after a row: it translated by them before, or takes them up.
+-- The pairs by which a gateway translates after a row: it translated by each before, or takes it up.
 use Rattle.std.proofs.Common.{◌≡◌, ◌⊎◌, inl, inr, ℕ, Bool, true, false, cond, ◌&&◌, is_none, List, [], ◌∷◌, ◌++◌, map, filter, Option, Some, None, refl, sym, ap, subst, ◌∙◌}
 use Rattle.std.proofs.lemmas.Bool.{and_parts}
 use Rattle.std.proofs.lemmas.Grind.{flat_map-append}
@@ -37,7 +37,7 @@ use Rattle.spec_binding.proofs.Offered.{gained-is, was-there, at-key, chosen-say
 use Rattle.spec_step.specs.Others.{MayGoBy, retaken_in, retaken_pairs}
 use Rattle.spec_step.specs.Shown.{Shown}
 
--- each pair of the table then translated before, or is one of these
+-- each pair that the table translates by afterwards translated before, or is one of these
 abbrev pub Rooted : List Entry → List Entry → List Pair → Type 0
 Rooted es es2 ps = (p : Pair) → IsTranslated es2 p → IsTranslated es p ⊎ In p ps
 
@@ -53,12 +53,12 @@ in-right x (z ∷ zs) ys is = inr (in-right x zs ys is)
 pub retaken-join : (ns ms : List Note) → retaken_pairs (ns ++ ms) ≡ retaken_pairs ns ++ retaken_pairs ms
 retaken-join ns ms = flat_map-append (λ (n : Note). retaken_in n.what) ns ms
 
--- a pair by which packets may go may do so with more notes
+-- packets that may go by a pair may still go by it with more notes
 pub has-more : (g : Shown) (ns ms : List Note) (p : Pair) → MayGoBy g ns p → MayGoBy g (ns ++ ms) p
 has-more g ns ms p (inl t) = inl t
 has-more g ns ms p (inr i) = inr (subst (λ (ps : List Pair). In p ps) (sym (retaken-join ns ms)) (in-left p (retaken_pairs ns) (retaken_pairs ms) i))
 
--- one by which they may after a part, with what that part notes
+-- packets that may go by a pair after a part may go by it before, with what the part notes
 pub has-then : (g g2 : Shown) (ns ms : List Note) → ((p : Pair) → IsTranslated g2.ledger.book.entries p → MayGoBy g ns p) → (p : Pair) → MayGoBy g2 ms p → MayGoBy g (ns ++ ms) p
 has-then g g2 ns ms roots p (inl t) = has-more g ns ms p (roots p t)
 has-then g g2 ns ms roots p (inr i) = inr (subst (λ (ps : List Pair). In p ps) (sym (retaken-join ns ms)) (in-right p (retaken_pairs ns) (retaken_pairs ms) i))
@@ -68,7 +68,7 @@ same-rooted es es2 ps same = λ p t. inl (subst (λ (xs : List Entry). IsTransla
 
 -- ---- one entry
 
--- an entry that comes to a key is one of these pairs where it translates
+-- an entry that comes to a key is of one of these pairs, where it translates
 abbrev IsTaken : Option Entry → List Pair → Type 0
 IsTaken None ps = Unit {0}
 IsTaken (Some x) ps = translates x.state ≡ true → In x.pair ps
@@ -92,7 +92,7 @@ turn-rooted es x s ps found taken = set-rooted es (with_state x.pair.key s es) x
 drop-rooted : (es : List Entry) (k : Key) (ps : List Pair) → Rooted es (without k es) ps
 drop-rooted es k ps = set-rooted es (without k es) k None ps (λ q. slot-without k es q) tt
 
--- an entry that translates, where one is given up, is another
+-- an entry that translates after another one was given up was there before
 still-live : (k : Key) (q : Key) (y : Entry) → translates y.state ≡ true → (xs : List Entry) → slot_of (with_state q state.Doomed xs) k ≡ Some y → slot_of xs k ≡ Some y
 still-live k q y live [] is = is
 still-live k q y live (x ∷ xs) is = at (has_key q x) is (still-live k q y live xs)
@@ -336,7 +336,7 @@ load-roots b (rec.Owner first last) = at (b.begun && (none_yet b.entries && name
     at true = λ i now. same-rooted b.entries b.entries [] refl
     at false = λ i now. same-rooted b.entries b.entries [] refl
 
--- a record, wherever it comes
+-- a record at any gateway leads only to pairs that translated before or are taken up
 pub taken-roots : (b : Book) (rests : Bool) (r : Record) (i : GatewayId) (now : ℕ) → Rooted b.entries (taken_book b rests r).entries (retaken_pairs (noted_by i now (taken_what b rests r)))
 taken-roots b rests r i now = at (is_synced b.stage)
   where
@@ -350,7 +350,7 @@ retaken-are : (i : GatewayId) (now : ℕ) (ps : List Pair) → retaken_pairs (re
 retaken-are i now [] = refl
 retaken-are i now (p ∷ ps) = ap (λ (qs : List Pair). p ∷ qs) (retaken-are i now ps)
 
--- an entry that comes back is listed
+-- a pair that comes back is listed
 back-listed : (es : List Entry) (k : Key) (x : Entry) → slot_of es k ≡ Some x → comes_back x.state ≡ true → In x.pair (back_in es)
 back-listed [] k x is back = absurd (cc)
 back-listed (y ∷ ys) k x is back = at (has_key k y) is (λ more. back-listed ys k x more back)

@@ -1,4 +1,5 @@
--- One packet or error, and those whose wait is over: what is told of them is true, and what that rests on holds again.
+-- One packet or error, and packets whose wait is over: what is told of them is true, and what that requires holds
+-- afterwards.
 use Rattle.std.proofs.Common.{◌≡◌, ℕ, Bool, true, false, not, ◌&&◌, List, [], ◌∷◌, ◌++◌, Option, Some, None, Result, Ok, Err, refl, sym, ap, subst, ◌∙◌, cond, IsPermutation, length, inl, arith}
 use Rattle.std.specs.List.{AllByRecursion}
 use Rattle.addresses.specs.declared.ethernet.Mac.{Mac}
@@ -62,7 +63,7 @@ use Rattle.std.proofs.lemmas.List.{append-nil}
 use Rattle.icmp.specs.declared.packets.ErrorFlow.{ErrorFlow}
 use Rattle.icmp.specs.declared.packets.ErrorPacket.{ErrorPacket}
 
--- what is told from one scene to another is true, and what that rests on holds afterwards
+-- what is told from one scene to another is true, and what that requires holds afterwards
 pub record Says (hand : List AtHand) (s s2 : GatewayAndOutput) : Type 0 where
   pub tells : Told hand s s2
   pub sound : IsSound s2.shown
@@ -71,11 +72,11 @@ pub record Says (hand : List AtHand) (s s2 : GatewayAndOutput) : Type 0 where
 abbrev pub Speaks : List AtHand → GatewayAndOutput → GatewayAndOutput → Type 0
 Speaks hand s s2 = IsSound s.shown → IsSetUp s.shown → Says hand s s2
 
--- a part that leaves what decides where packets go
+-- such a part that leaves what decides where packets go
 abbrev pub Saying : List AtHand → GatewayAndOutput → GatewayAndOutput → Type 0
 Saying hand s s2 = IsSound s.shown → IsSetUp s.shown → Says hand s s2 × (known_of s2.shown ≡ known_of s.shown)
 
--- one part behind the other
+-- what is told of two parts, one after the other, is true of both together
 pub speaks-then : (h h2 : List AtHand) (a b c : GatewayAndOutput) → Speaks h a b → Saying h2 b c → Speaks (h ++ h2) a c
 speaks-then h h2 a b c x y = λ is w.
     let one = x is w in
@@ -90,7 +91,7 @@ saying-then h h2 a b c x y = λ is w.
       two.1 ∙ one.1,
     )
 
--- packets are dropped
+-- nothing false is told where packets at hand are dropped
 pub saying-nothing : (s : GatewayAndOutput) (hand : List AtHand) → Saying hand s s
 saying-nothing s hand = λ is w. (record { tells = tells-nothing s hand; sound = is; wired = w }, refl)
 
@@ -116,14 +117,14 @@ wanted-for-says s flow (Outward p) formed = wanted-says s (source_of flow) forme
 wanted-for-says s flow (Inward p) formed = saying-nothing s []
 wanted-for-says s flow (Hairpin own other) formed = wanted-says s (source_of flow) formed
 
--- a frame of another kind
+-- nothing false is told where a frame of another kind is sent
 pub framed-says : (s : GatewayAndOutput) (side : Side) (bytes : List ℕ) → (IsSetUp s.shown → is_other s.shown.networks side bytes ≡ true) → Saying [] s (framed s side bytes)
 framed-says s side bytes none = λ is w. (
   record { tells = framed-tells s side bytes (none w); sound = record { book = is.book; kept = is.kept }; wired = w },
   refl,
 )
 
--- a packet is kept
+-- nothing false is told where a packet is kept
 keeping-says : (s : GatewayAndOutput) (side : Side) (bytes : List ℕ) (w : WaitsFor) → AreBytes bytes → Saying (at_hand side bytes ∷ []) s (keeping s side bytes w)
 keeping-says s side bytes w are = λ is wired. (
   record {
@@ -134,7 +135,7 @@ keeping-says s side bytes w are = λ is wired. (
   refl,
 )
 
--- what a packet is read with
+-- what is known of a packet that was read
 record IsRead (s : GatewayAndOutput) (side : Side) (bytes : List ℕ) (flow : Flow) : Type 0 where
   are : AreBytes bytes
   synced : is_synced s.shown.ledger.book.stage ≡ true
@@ -158,7 +159,7 @@ renewed-says frames s exit hop = at exit (asks_at hop.0 s.shown.moment (station_
     known Inside = ap (λ (n : Neighbours). let k : Known = record (known_of s.shown) { near_inside = n } in k) (forgetful-asked hop.0 s.shown.moment s.shown.inside.neighbours)
     known Outside = ap (λ (n : Neighbours). let k : Known = record (known_of s.shown) { near_outside = n } in k) (forgetful-asked hop.0 s.shown.moment s.shown.outside.neighbours)
 
-    -- the neighbours alone are others
+    -- nothing false is told where only the neighbours change
     asked : (side : Side) → Saying [] s (scene (neighbour_asked s.shown side hop) s.told)
     asked Inside = λ is w. (
       record { tells = tells-unseen s _ refl refl refl refl (refl, (refl, omega arith)); sound = record { book = is.book; kept = is.kept }; wired = wired Inside w },
@@ -229,7 +230,7 @@ again-says frames s exit hop = at (asks_again s.shown.moment (wait.Hop exit hop)
 
 -- ---- a packet that is sent on
 
--- from the scene at which its pairs are there
+-- what is told of a packet that is sent on, from a scene where its pairs translate, is true
 sending-says : Frames → (s one : GatewayAndOutput) (side : Side) (bytes : List ℕ) (by : Translation) (next : Mac) → IsRead s side bytes (flow_in bytes) → plan_of s.shown side (flow_in bytes) (length_in bytes) ≡ Ok (Send by next)
     → one ≡ wanted_for s (flow_in bytes) by → IsBook s.shown.ledger.book → IsSetUp s.shown
     → Saying (at_hand side bytes ∷ []) one (carried_all (framed one (exit_by by) (sent_frame s.shown.networks by next bytes)) (flow_in bytes) (flags_in bytes) by)
@@ -269,7 +270,7 @@ sent-says frames s side bytes by next read plan =
     (saying-then [] (at_hand side bytes ∷ []) s one two first (sending-says frames s one side bytes by next read plan refl is.book w))
     (renewed-says frames two (exit_by by) (hop_by s.shown by flow)) is w
 
--- the addresses of an error itself
+-- the addresses and ports of an error itself
 abbrev pub addressed : ErrorFlow → Flow
 addressed flow = record flow.inside { source = flow.source; destination = flow.destination }
 
@@ -296,7 +297,7 @@ plan-says frames s side bytes flow (AskAgain by hop) read plan fits =
 plan-says frames s side bytes flow (WaitFor e) read plan fits =
     saying-then [] (at_hand side bytes ∷ []) s (wanted_by s e) (by_plan s side bytes flow (WaitFor e)) (wanted-says s e fits) (keeping-says (wanted_by s e) side bytes (wait.Pair e) read.are)
 
--- the gateway says something itself, of the packet in hand
+-- what is told where the gateway says something itself, of the packet at hand, is true
 own-says : Frames → (s : GatewayAndOutput) (side : Side) (bytes : List ℕ) (purpose : Purpose) (frame : List ℕ) (hop : Ip) → (IsSetUp s.shown → is_own_frame s.shown.networks side frame ≡ true)
     → (let x : Sent = record { side = side; bytes = frame } in let o : OwnFrame = record { packet = at_hand side bytes; purpose = purpose; sent = x } in IsSetUp s.shown → IsOwnOf (known_of s.shown) o)
     → (IsWithin (station_on s.shown side).said → IsWithin (counted_for purpose s.shown.moment (station_on s.shown side).said))
@@ -377,14 +378,14 @@ packet-says frames s side bytes packet is are =
 
 -- ---- an error
 
--- what an error is read with
+-- what is known of an error that was read
 record IsErrorRead (s : GatewayAndOutput) (bytes : List ℕ) (flow : ErrorFlow) : Type 0 where
   are : AreBytes bytes
   synced : is_synced s.shown.ledger.book.stage ≡ true
   passes : IsPassable bytes
   flow_is : flow ≡ error_flow_in bytes
 
--- it is passed on
+-- what is told of an error that is passed on is true
 passed-says : Frames → (s : GatewayAndOutput) (side : Side) (bytes : List ℕ) (by : Translation) (next : Mac) → IsErrorRead s bytes (error_flow_in bytes) → IsErrorGoing s.shown side (error_flow_in bytes) by
     → next_to s.shown by (error_flow_in bytes).destination ≡ Some next → Saying (at_hand side bytes ∷ []) s (framed s (exit_by by) (passed_frame s.shown.networks by next bytes))
 passed-says frames s side bytes by next read goes next_is = λ is w. (
@@ -466,7 +467,7 @@ retaken-says frames s side bytes (Ok (Advert a from)) is are = saying-nothing s 
 retaken-says frames s side bytes (Ok (Asked echo)) is are = echo-says frames s side bytes echo is are
 retaken-says frames s side bytes (Err reason) is are = refused-says frames s side side bytes reason are
 
--- ---- those whose wait is over
+-- ---- the packets whose wait is over
 
 all-say : Frames → (s : GatewayAndOutput) (ws : List HeldPacket) → AllByRecursion (λ (w : HeldPacket). AreBytes w.bytes) ws → Saying (packets_of ws) s (all_taken s ws)
 all-say frames s [] all = saying-nothing s []
@@ -478,7 +479,7 @@ module _ (frames : Frames) (s : GatewayAndOutput) (ended : Ended) where
   abbrev start : GatewayAndOutput
   start = scene (record s.shown { kept = left_by ended s.shown.kept }) s.told
 
-  -- from the packets off the list to the list that they were on
+  -- what is told from the scene without the packets that were removed is true from the scene with them
   on-list : Told (packets_of (ended_by ended s.shown.kept)) start (released s ended) → Told [] s (released s ended)
   on-list x = record {
     all = record {

@@ -1,4 +1,4 @@
--- A packet that is sent on is told of truly.
+-- What is told of a packet that is sent on is true.
 use Rattle.std.proofs.Common.{◌≡◌, ℕ, Bool, true, false, Some, Ok, List, [], ◌∷◌, ◌++◌, length, IsPermutation, refl, sym, ap, subst, ◌∙◌, append_assoc, arith}
 use Rattle.std.proofs.lemmas.List.{append-nil}
 use Rattle.std.proofs.lemmas.Grind.{flat_map-append}
@@ -56,12 +56,12 @@ use Rattle.spec_step.proofs.Sends.{AreFound, IsOwn, IsPlanned}
 use Rattle.spec_step.proofs.Telling.{SameSaid, Told, at_hand, within-by}
 use Rattle.spec_step.proofs.Translating.{Translates, carry-note, target-translates, wish-owns, wish-still}
 
--- a tally stays within its limits
+-- the contract by which a tally stays within its limits
 pub record Limited : Type 0 where
   pub replied : (now : ℕ) (tally : Tally) → IsWithin tally → may_reply now tally ≡ true → IsWithin (replied now tally)
   pub complained : (now : ℕ) (tally : Tally) → IsWithin tally → may_complain now tally ≡ true → IsWithin (complained now tally)
 
--- which frames are the gateway's own
+-- the contract that says which frames are the gateway's own
 pub record OwnFrames : Type 0 where
   pub answer : (networks : Networks) (side : Side) (active : Bool) (next : Mac) (bytes : List ℕ) → IsWired networks → IsPlaced networks → length next.0 ≡ 6 → AreBytes bytes → IsAskable bytes
       → is_asked (network_of networks side) active (frame_of bytes) ≡ true → is_own_frame networks side (own_answer (network_of networks side) next bytes) ≡ true
@@ -76,7 +76,7 @@ pub record OwnFrames : Type 0 where
   pub gratuitous : (networks : Networks) (side : Side) (network : Network) → is_own_frame networks side (gratuitous_frame network) ≡ false
   pub advert : (networks : Networks) (side : Side) (network : Network) (priority interval : ℕ) → is_own_frame networks side (advert_frame network priority interval) ≡ false
 
--- what is known of frames: what they are read as, and which of those that are sent are translations
+-- the contracts of frames: what they are read as, and which of those that are sent are translations
 pub record Frames : Type 0 where
   pub reads : Reads
   pub asked : (side : Side) (network : Network) (active up : Bool) (bytes : List ℕ) (echo : Echo) → reading_of side network active up bytes ≡ Ok (Asked echo) → is_asked network active (frame_of bytes) ≡ true
@@ -115,7 +115,7 @@ pub near-is : (g : Shown) (side : Side) → near_on (known_of g) side ≡ unaske
 near-is g Inside = refl
 near-is g Outside = refl
 
--- which hardware address is known
+-- the hardware address that is known for a host is the same, whenever it was last asked for
 pub near-mac : (g : Shown) (side : Side) (host : ℕ) → mac_at host g.moment (near_on (known_of g) side) ≡ mac_at host g.moment (station_on g side).neighbours
 near-mac g side host = ap (mac_at host g.moment) (near-is g side) ∙ mac-forgetful host g.moment (station_on g side).neighbours
 
@@ -129,7 +129,7 @@ own-six g w Outside = w.1.1.own
 
 -- ---- the pairs of a plan
 
--- each of them translates
+-- each pair of a translation translates
 abbrev pub AllTranslate : Book → Translation → Type 0
 AllTranslate b (Outward p) = Translates b p
 AllTranslate b (Inward p) = Translates b p
@@ -154,7 +154,7 @@ found-translate s flow (Hairpin own other) is synced found =
       (first.1, second.1),
     )
 
--- ---- their notes
+-- ---- the notes of the pairs
 
 abbrev pub carry_notes : Shown → Pair → List Note
 carry_notes g p = noted_by (id_of g) g.moment (carry_row g.ledger.book p.key).what
@@ -172,7 +172,7 @@ all-used g (Hairpin own other) t =
     ∙ ap (λ (ps : List Pair). ps ++ used_pairs (carry_notes g other)) (carry-note g.ledger.book own (id_of g) g.moment t.0)
     ∙ ap (λ (ps : List Pair). own ∷ ps) (carry-note g.ledger.book other (id_of g) g.moment t.1)
 
--- what the carrying leaves, and what it notes
+-- what the carrying of a packet by its pairs leaves as it is, and what it notes
 pub record Carries-on (s s2 : GatewayAndOutput) (by : Translation) : Type 0 where
   pub frames : s2.told.frames ≡ s.told.frames
   pub notes : s2.told.notes ≡ s.told.notes ++ all_notes s.shown by
@@ -222,7 +222,7 @@ house-network : (g : Shown) → IsSetUp g → (side : Side) → (station_on g si
 house-network g w Inside = w.0.1.inside_is
 house-network g w Outside = w.0.1.outside_is
 
--- its answer to an Echo is an own frame
+-- the gateway's answer to an Echo is an own frame
 pub answer-own : Frames → (g : Shown) (side : Side) (bytes : List ℕ) (echo : Echo) (next : Mac) → reading_on g side bytes ≡ Ok (Asked echo) → AreBytes bytes → IsSetUp g → next_back g side echo.source ≡ Some next
     → is_own_frame g.networks side (own_answer (network_of g.networks side) next bytes) ≡ true
 answer-own frames g side bytes echo next read are w there =
@@ -239,13 +239,13 @@ answer_of g side bytes next = record {
   sent = record { side = side; bytes = own_answer (network_of g.networks side) next bytes };
 }
 
--- who asked it
+-- the source of an Echo is the sender of its packet
 pub asker : Frames → (g : Shown) (side : Side) (bytes : List ℕ) (echo : Echo) → reading_on g side bytes ≡ Ok (Asked echo) → echo.source ≡ sender_in bytes
 asker frames g side bytes echo read =
     let at = station_on g side in
     ap (λ (e : Echo). e.source) (frames.reads side at.network (is_active at) (is_up g) bytes (Asked echo) read).1
 
--- it is an Echo to the gateway
+-- what is read as an Echo is an Echo to the gateway
 pub asked-is : Frames → (g : Shown) (side : Side) (bytes : List ℕ) (echo : Echo) → reading_on g side bytes ≡ Ok (Asked echo) → IsSetUp g → IsEcho (known_of g) (at_hand side bytes)
 asked-is frames g side bytes echo read w =
     let at = station_on g side in
@@ -285,13 +285,13 @@ complaint-is g side exit bytes reason complaint next are is there = record {
   says = (complaint, (is, refl));
 }
 
--- and so is what it says of a packet
+-- the gateway's complaint of a packet is an own frame
 pub complaint-own : Frames → (g : Shown) (side : Side) (bytes : List ℕ) (complaint : Complaint) (next : Mac) → AreBytes bytes → IsSetUp g → next_back g side (sender_in bytes) ≡ Some next
     → is_own_frame g.networks side (complaint_frame (network_of g.networks side) complaint next bytes) ≡ true
 complaint-own frames g side bytes complaint next are w there =
     frames.own.complaint g.networks side complaint next bytes w.0.0 w.0.1.placed (back-six g side (sender_in bytes) next w there) are
 
--- the frame of a packet, and the notes of its pairs
+-- what is told of a packet that is sent is true: its frame, and the notes of its pairs
 pub sending-tells : (s : GatewayAndOutput) (side : Side) (bytes : List ℕ) (flow : Flow) (flags : TcpFlags) (by : Translation) (frame : List ℕ)
     → IsSentBy (known_of s.shown) (at_hand side bytes) by (let x : Sent = record { side = exit_by by; bytes = frame } in x) → is_own_frame s.shown.networks (exit_by by) frame ≡ false → is_translation (exit_by by) frame ≡ true → AllTranslate s.shown.ledger.book by
     → Told (at_hand side bytes ∷ []) s (carried_all (framed s (exit_by by) frame) flow flags by)

@@ -27,11 +27,11 @@ use Rattle.spec_step.specs.Shown.{Shown}
 use Rattle.spec_step.specs.Verdict.{exit_by, hop_by, look_for, next_by, plan_by, plan_from, plan_of, plan_on, plan_to, target_pair, fits_at, if_fits}
 use Rattle.spec_step.proofs.Fitting.{fitted}
 
--- the pair that the packet's source has, or is given
+-- the pair that the packet's source has, or gets
 abbrev pub IsOwn : Shown → Flow → Pair → Type 0
 IsOwn g flow p = (port : Port) × ((look_for g flow ≡ want.Port port) × (p ≡ new_pair (source_of flow) port))
 
--- the pair of the port that it goes to
+-- the pair of the port that the packet goes to
 abbrev pub IsTarget : Shown → Flow → Pair → Type 0
 IsTarget g flow p = target_pair g flow ≡ Ok p
 
@@ -90,7 +90,7 @@ on-send g side flow way.Hairpin by next there is = at (target_pair g flow) refl 
         by-send g side flow (Hairpin (new_pair (source_of flow) f.0) p) by next there ((f.0, (f.1.0, refl)), target) f.1.1
     at (Err reason) target is = absurd (cc)
 
--- a packet that is sent on is so by its way, its pairs and its next hop
+-- a packet that is sent goes by its way, its pairs and its next hop
 pub plan-sends : (g : Shown) (side : Side) (flow : Flow) (length : ℕ) (by : Translation) (next : Mac) → plan_of g side flow length ≡ Ok (Send by next) → IsPlanned g side flow by next
 plan-sends g side flow length by next is = at (direction_of g.networks side flow.protocol flow.source.0 flow.destination.0) refl is
   where

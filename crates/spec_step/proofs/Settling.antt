@@ -68,7 +68,7 @@ use Rattle.spec_step.proofs.Erring.{ErrorSays, error-says}
 use Rattle.spec_step.proofs.Turning.{back_as, turn-by}
 use Rattle.icmp.specs.declared.packets.ErrorFlow.{ErrorFlow}
 
--- what the parts of a step keep
+-- what the parts of a step keep of a settled gateway
 pub record IsCalm (g : Shown) : Type 0 where
   pub running : is_running g ≡ true → HaveBegun g
   pub idle : is_running g ≡ false → AreIdle g
@@ -80,7 +80,7 @@ Calming s s2 = IsCalm s.shown → IsCalm s2.shown
 calming-then : (a b c : GatewayAndOutput) → Calming a b → Calming b c → Calming a c
 calming-then a b c x y = λ is. y (x is)
 
--- a part that leaves the routers, and whether they run
+-- a part that leaves the routers as they are, and whether they run, keeps a gateway settled
 calm-by : (g g2 : Shown) → is_running g2 ≡ is_running g → g2.inside.router.state ≡ g.inside.router.state → g2.outside.router.state ≡ g.outside.router.state → (IsKept g.kept → IsKept g2.kept) → IsCalm g → IsCalm g2
 calm-by g g2 runs inside outside kept is = record {
   running = λ r. let b = is.running (sym runs ∙ r) in (λ i. b.0 (sym inside ∙ i), λ o. b.1 (sym outside ∙ o));
@@ -123,7 +123,7 @@ keeping-calms s side bytes w place =
     calm-by s.shown (keeping s side bytes w).shown refl refl refl
     (λ k. kept-push s.shown.kept (waiting side bytes s.shown.moment w) k place)
 
--- a neighbour is asked for, or a next hop again
+-- a gateway stays settled where a neighbour, or a next hop, is asked for
 renewed-calms : (s : GatewayAndOutput) (exit : Side) (hop : Ip) → Calming s (renewed_behind s exit hop)
 renewed-calms s exit hop = at exit (asks_at hop.0 s.shown.moment (station_on s.shown exit).neighbours)
   where
@@ -139,7 +139,7 @@ again-calms s exit hop = at (asks_again s.shown.moment (wait.Hop exit hop) s.sho
     at true = calm-by s.shown (record s.shown { kept = with_asked s.shown.moment (wait.Hop exit hop) s.shown.kept }) refl refl refl (kept-asked s.shown.moment (wait.Hop exit hop) s.shown.kept)
     at false = nothing-calms s
 
--- what a gateway says itself
+-- a gateway stays settled where it says something itself
 said-calms : (s : GatewayAndOutput) (side : Side) → Said (λ x. Calming s x) s side
 said-calms s Inside = λ frame tally hop.
     let one = said_scene s Inside frame tally in
@@ -198,7 +198,7 @@ error-calms s side bytes flow = at (error_plan s.shown side flow (length_in byte
     at (Ok plan) says = error-plan-calms s side bytes flow plan says
     at (Err reason) says = nothing-calms s
 
--- ---- those whose wait is over
+-- ---- the packets whose wait is over
 
 retaken-calms : (s : GatewayAndOutput) (side : Side) (bytes : List ℕ) (r : Result Reading Reason) → Calming s (retaken_by s side bytes r)
 retaken-calms s side bytes (Ok (Packet packet)) = flow-calms s side bytes packet.flow
@@ -220,7 +220,7 @@ released-calms s ended =
 
 -- ---- interfaces
 
--- another interface, whose router is in Initialize just where it was
+-- a gateway stays settled with another interface, whose router is in Initialize exactly where the one before was
 station-calms : (g : Shown) (side : Side) (station : Interface) → ((station_on g side).router.state ≡ Initialize → station.router.state ≡ Initialize) → (station.router.state ≡ Initialize → (station_on g side).router.state ≡ Initialize)
     → IsCalm g → IsCalm (with_station g side station)
 station-calms g Inside station idle was is = record {
@@ -285,7 +285,7 @@ both-calm s s2 both =
 both-kept : (s : GatewayAndOutput) (event : RouterEvent) (s2 : GatewayAndOutput) → BothAct s event s2 → IsKept s.shown.kept → IsKept s2.shown.kept
 both-kept s event s2 both places = subst IsKept (sym (ap (λ (g : Shown). g.kept) (both-shown s event s2 both))) places
 
--- a stopped gateway doesn't run, nor one that is away
+-- a gateway that was stopped, or is away, doesn't run
 not-stopped : (synced there : Bool) → ((synced && false) && there) ≡ true → ⊥
 not-stopped true there is = absurd (cc)
 not-stopped false there is = absurd (cc)
@@ -335,13 +335,13 @@ turn-calms s turned gives = λ is.
     (λ middle both. left-calms s middle both is) (λ starts up. back-calms s.shown starts up is) is
     (turn_of s.shown) gives
 
--- a side's cable is another
+-- a gateway stays settled at a change of a side's cable
 plug-calms : (s : GatewayAndOutput) (side : Side) (up : Bool) → Calming s (side_plugged s side up)
 plug-calms s side up = station-calms s.shown side (with_plug (station_on s.shown side) up s.shown.moment) (λ idle. idle) (λ idle. idle)
 
 -- ---- records
 
--- whether it runs stays, where it was synced before or doesn't run afterwards
+-- whether the gateway runs stays the same, where it was synced before or doesn't run afterwards
 runs-on : (a b c d : Bool) → (a ≡ true → b ≡ true) → ((not a && b) && ((b && c) && d)) ≡ false → ((b && c) && d) ≡ ((a && c) && d)
 runs-on true b c d keeps is = ap (λ (x : Bool). (x && c) && d) (keeps refl)
 runs-on false true c d keeps is = is
@@ -351,7 +351,7 @@ and-second : (a b : Bool) → (a && b) ≡ true → b ≡ true
 and-second true b is = is
 and-second false b is = absurd (cc)
 
--- its routers begin where it runs and has just become synced
+-- the routers begin where the gateway runs and became synced
 routed-calms : (g g2 : Shown) → (is_synced g.ledger.book.stage ≡ true → is_synced g2.ledger.book.stage ≡ true) → g2.stopped ≡ g.stopped → g2.away ≡ g.away → g2.inside ≡ g.inside → g2.outside ≡ g.outside → g2.kept ≡ g.kept
     → IsCalm g → IsCalm (with_routers g g2)
 routed-calms g g2 keeps stopped away inside outside kept is = at (has_synced g g2 && is_running g2) refl
@@ -491,7 +491,7 @@ ticked-settles s is = at (is_due_on_tick (handed_in s.shown).link s.shown.moment
     at true due = record { running = is.running; idle = is.idle; answered = refl; places = is.places }
     at false due = record { running = is.running; idle = is.idle; answered = or-none s.shown.link.due (is_time s.shown.link.ticked s.shown.moment) due; places = is.places }
 
--- the word of a side leaves the link
+-- a change of a side's cable leaves the link as it is
 plug-owes : (s : GatewayAndOutput) (side : Side) (up : Bool) → (side_plugged s side up).shown.link ≡ s.shown.link
 plug-owes s Inside up = refl
 plug-owes s Outside up = refl
@@ -506,7 +506,7 @@ ended-settles s (SideIs side up) done does was is =
     let same : done.shown.link ≡ s.shown.link = ap (λ (x : GatewayAndOutput). x.shown.link) does ∙ plug-owes s side up in
     record { running = is.running; idle = is.idle; answered = ap (λ (e : Link). e.due) same ∙ was.answered; places = is.places }
 
--- a whole step
+-- a settled gateway is settled after a whole step
 pub step-settles : (s : GatewayAndOutput) (event : Event) (s2 : GatewayAndOutput) → IsStepOn s event s2 → IsSettled s.shown → IsSettled s2.shown
 step-settles s event s2 step is =
     subst (λ (x : GatewayAndOutput). IsSettled x.shown) (sym step.sends)

@@ -1,5 +1,5 @@
--- What a step does with an ARP packet, at a router and with old packets, as the machine sees it: nothing, but for the
--- packets whose wait an ARP packet ends.
+-- What a step does with an ARP packet, at a router, and with old packets is no act of the machine, but for the packets
+-- whose wait an ARP packet ends.
 use Rattle.std.proofs.Common.{ℕ, Bool, true, false, cond, List, [], ◌∷◌, Option, Some, None, refl, subst, sym}
 use Rattle.addresses.specs.declared.ethernet.Mac.{Mac}
 use Rattle.nat_types.specs.declared.gateways.Side.{Side}
@@ -23,7 +23,7 @@ use Rattle.spec_step.proofs.Turning.{back_as, turn-by}
 use Rattle.spec_step.proofs.Packets.{Reads, framed-goes, here, kept-filter, released-goes}
 
 module _ (letters : List Letter) (words : List ℕ) where
-  -- an interface is another
+  -- a change of an interface is no act of the machine
   station-goes : (s : GatewayAndOutput) (side : Side) (station : Interface) → Going letters words s (scene (with_station s.shown side station) s.told)
   station-goes s Inside station = going-unseen letters words s _ refl refl refl refl refl (λ k. k)
   station-goes s Outside station = going-unseen letters words s _ refl refl refl refl refl (λ k. k)
@@ -63,7 +63,7 @@ module _ (letters : List Letter) (words : List ℕ) where
   pub old-goes : (s : GatewayAndOutput) → Going letters words s (old_dropped s)
   old-goes s = going-unseen letters words s (old_dropped s) refl refl refl refl refl (λ k. kept-filter _ s.shown.kept k)
 
-  -- the turn of a tick
+  -- the turn of a tick is no act of the machine
   pub turn-goes : (s s2 : GatewayAndOutput) → GivingWay s s2 → Going letters words s s2
   turn-goes s s2 takes =
       turn-by (λ x. Going letters words s x) s s2
@@ -74,7 +74,7 @@ module _ (letters : List Letter) (words : List ℕ) where
       back true = going-unseen letters words s _ refl refl refl refl refl (λ k. k)
       back false = going-unseen letters words s _ refl refl refl refl refl (λ k. k)
 
-  -- a cable
+  -- a change of a side's cable is no act of the machine
   pub plugged-goes : (s : GatewayAndOutput) (side : Side) (up : Bool) → Going letters words s (side_plugged s side up)
   plugged-goes s side up = station-goes s side (with_plug (station_on s.shown side) up s.shown.moment)
 

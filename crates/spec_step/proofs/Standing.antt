@@ -1,4 +1,5 @@
--- A router that has begun stands as it is while packets, errors, Echos, ARP packets, datagrams and words are taken.
+-- A router that has begun stays as it is while packets, errors, Echos, ARP packets, datagrams and the operator's words
+-- are taken.
 use Rattle.std.proofs.Common.{◌≡◌, ℕ, Bool, true, false, cond, ◌&&◌, List, [], ◌∷◌, Option, Some, None, Result, Ok, Err, refl, sym, ap, subst, ◌∙◌}
 use Rattle.addresses.specs.declared.ethernet.Mac.{Mac}
 use Rattle.addresses.specs.declared.internet.Ip.{Ip}
@@ -46,14 +47,14 @@ use Rattle.spec_step.specs.Steps.{word_by}
 use Rattle.spec_step.specs.Verdict.{error_hop, error_plan, exit_by, hop_by, plan_of, reading_on}
 use Rattle.spec_step.proofs.Own.{Said, echo-by, refusal-by, refused-by, said_scene}
 
--- a router that has begun stands as it was
+-- a router that has begun stays as it was
 abbrev pub Keeps : Router → Router → Type 0
 Keeps r r2 = (r.state ≡ Initialize → ⊥) → r2 ≡ r
 
 keeps-then : (a b c : Router) → Keeps a b → Keeps b c → Keeps a c
 keeps-then a b c x y = λ begun. y (λ idle. begun (sym (ap (λ (r : Router). r.state) (x begun)) ∙ idle)) ∙ x begun
 
--- both do
+-- both routers that have begun stay as they were
 pub record Stands (s s2 : GatewayAndOutput) : Type 0 where
   pub inside : Keeps s.shown.inside.router s2.shown.inside.router
   pub outside : Keeps s.shown.outside.router s2.shown.outside.router
@@ -91,7 +92,7 @@ carried-all-stands s flow flags (Hairpin own other) = stands-by s (carried_all s
 keeping-stands : (s : GatewayAndOutput) (side : Side) (bytes : List ℕ) (w : WaitsFor) → Stands s (keeping s side bytes w)
 keeping-stands s side bytes w = stands-by s (keeping s side bytes w) refl refl
 
--- a neighbour is asked for, or a next hop again
+-- a router that has begun stays as it was where a neighbour, or a next hop, is asked for
 renewed-stands : (s : GatewayAndOutput) (exit : Side) (hop : Ip) → Stands s (renewed_behind s exit hop)
 renewed-stands s exit hop = at exit (asks_at hop.0 s.shown.moment (station_on s.shown exit).neighbours)
   where
@@ -107,7 +108,7 @@ again-stands s exit hop = at (asks_again s.shown.moment (wait.Hop exit hop) s.sh
     at true = record { inside = λ begun. refl; outside = λ begun. refl }
     at false = nothing-moves s
 
--- what a gateway says itself
+-- a router that has begun stays as it was where the gateway says something itself
 said-stands : (s : GatewayAndOutput) (side : Side) → Said (λ x. Stands s x) s side
 said-stands s Inside = λ frame tally hop.
     let one = said_scene s Inside frame tally in
@@ -167,7 +168,7 @@ error-stands s side bytes flow = at (error_plan s.shown side flow (length_in byt
     at (Ok plan) = error-plan-stands s side bytes flow plan
     at (Err reason) = nothing-moves s
 
--- ---- those whose wait is over
+-- ---- the packets whose wait is over
 
 retaken-stands : (s : GatewayAndOutput) (side : Side) (bytes : List ℕ) (r : Result Reading Reason) → Stands s (retaken_by s side bytes r)
 retaken-stands s side bytes (Ok (Packet packet)) = flow-stands s side bytes packet.flow
@@ -196,7 +197,7 @@ after-router station p now = at (is_learnable station.network p)
     at true = refl
     at false = refl
 
--- another interface with the same router
+-- a router that has begun stays as it was where another interface has the same router
 station-stands : (s : GatewayAndOutput) (side : Side) (station : Interface) → station.router ≡ (station_on s.shown side).router → Stands s (scene (with_station s.shown side station) s.told)
 station-stands s Inside station same = record { inside = λ begun. same; outside = λ begun. refl }
 station-stands s Outside station same = record { inside = λ begun. refl; outside = λ begun. same }
@@ -226,7 +227,7 @@ plug-stands s Outside up = stands-by s (side_plugged s Outside up) refl refl
 
 -- ---- records
 
--- a start leaves a router that has begun
+-- a start leaves a router that has begun as it is
 start-keeps : (state : State) (r : Router) (now : ℕ) → r.state ≡ state → Keeps r (started_in state r now)
 start-keeps Initialize r now is = λ begun. absurd (begun is)
 start-keeps Backup r now is = λ begun. refl

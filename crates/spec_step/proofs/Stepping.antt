@@ -30,7 +30,7 @@ frame-goes reads s side bytes (Ok (Error packet)) s2 read are does = subst (λ (
 frame-goes reads s side bytes (Ok (Asked echo)) s2 read are does = subst (λ (x : GatewayAndOutput). Going [] [] s x) (sym does) (echo-goes [] [] s side bytes echo are)
 frame-goes reads s side bytes (Err reason) s2 read are does = subst (λ (x : GatewayAndOutput). Going [] [] s x) (sym does) (refused-goes [] [] s side side bytes reason)
 
--- where the event's own parts begin: a tick moves the clock first
+-- the scene where the event's own parts begin: at a tick the clock has moved
 abbrev pub begun_on : GatewayAndOutput → Event → GatewayAndOutput
 begun_on s (Frame side bytes) = s
 begun_on s (Comes bytes) = s

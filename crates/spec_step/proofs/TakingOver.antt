@@ -1,4 +1,5 @@
--- Where no advertisement is heard, a router in Backup waits for its timer, and is Active behind the tick at which it is due.
+-- Where no advertisement is heard, a router in Backup waits for its timer, and is Active after the tick at which it is
+-- due.
 use Rattle.std.proofs.Common.{◌≡◌, ◌⊎◌, ◌≤◌, ℕ, Bool, true, false, not, ◌&&◌, List, [], ◌∷◌, Some, Result, Ok, Err, inl, inr, Option, refl, sym, ap, subst, ◌∙◌, ◌<◌, ◌+◌, arith}
 use Rattle.nat_types.specs.declared.gateways.Side.{Side}
 use Rattle.nat_types.specs.declared.gateways.Side.TheVariants.{Inside, Outside}
@@ -33,7 +34,7 @@ use Rattle.spec_step.proofs.Lines.{acts-shown, both-shown}
 use Rattle.spec_step.proofs.Settling.{step-settles}
 use Rattle.spec_step.proofs.Standing.{Keeps, Stands, arp-stands, datagram-stands, echo-stands, error-stands, flow-stands, plug-stands, refused-stands, stands-by, stands-then, ticked-stands, word-stands}
 
--- a router waits in Backup for a timer that is due at a moment, or took over already
+-- a router waits in Backup for a timer that is due at the time `due`, or took over already
 abbrev Awaits : Router → ℕ → Type 0
 Awaits r due = ((r.state ≡ Backup) × (r.active_down_timer ≡ Some due)) ⊎ (r.state ≡ Active)
 
@@ -41,7 +42,7 @@ awaits-begun : (r : Router) (due : ℕ) → Awaits r due → r.state ≡ Initial
 awaits-begun r due (inl behind) idle = let no : Backup ≡ Initialize = sym behind.0 ∙ idle in absurd (cc)
 awaits-begun r due (inr active) idle = let no : Active ≡ Initialize = sym active ∙ idle in absurd (cc)
 
--- and behind a moment it took over where the timer is due
+-- after a tick at the time `now` the router took over, where its timer was due
 record TookOver (r : Router) (due now : ℕ) : Type 0 where
   waits : Awaits r due
   over : due ≤ now → r.state ≡ Active
@@ -157,7 +158,7 @@ tick-awaits s now s2 side due step ran runs waits =
 
 -- ---- the other events
 
--- an advertisement at the one side leaves the other
+-- an advertisement on one side leaves the router of the other side as it is
 other-side : (s s2 : GatewayAndOutput) (at side : Side) (event : table.Event) (due : ℕ) → (same_side at side && true) ≡ false → RouterActs s at event s2 → Awaits (router_on s.shown side) due → Awaits (router_on s2.shown side) due
 other-side s s2 Inside Inside event due other acts waits = absurd (cc)
 other-side s s2 Inside Outside event due other acts waits = subst (λ (g : Shown). Awaits (router_on g Outside) due) (sym (acts-shown s Inside event s2 acts)) waits
@@ -173,7 +174,7 @@ frame-awaits s s2 at side bytes (Ok (Error packet)) due silent does waits = subs
 frame-awaits s s2 at side bytes (Ok (Asked echo)) due silent does waits = subst (λ (x : GatewayAndOutput). Awaits (router_on x.shown side) due) (sym does) (awaits-on s _ side due (echo-stands s at bytes echo) waits)
 frame-awaits s s2 at side bytes (Err reason) due silent does waits = subst (λ (x : GatewayAndOutput). Awaits (router_on x.shown side) due) (sym does) (awaits-on s _ side due (refused-stands s at at bytes reason) waits)
 
--- the datagram behind an event leaves the routers
+-- the datagram after an event leaves the routers as they are
 answered-awaits : (s s2 done : GatewayAndOutput) (side : Side) (due : ℕ) → s2 ≡ link_answered done → Awaits (router_on done.shown side) due → Awaits (router_on s2.shown side) due
 answered-awaits s s2 done side due sends waits =
     subst (λ (x : GatewayAndOutput). Awaits (router_on x.shown side) due) (sym sends) (awaits-on done (link_answered done) side due (stands-by done (link_answered done) refl refl) waits)
@@ -200,7 +201,7 @@ step-awaits s (PeerOff n) s2 side due step silent ran runs waits =
 step-awaits s (SideIs at up) s2 side due step silent ran runs waits =
     subst (λ (x : GatewayAndOutput). Awaits (router_on x.shown side) due) (sym (step.sends ∙ step.does)) (awaits-on s _ side due (plug-stands s at up) waits)
 
--- ---- one step behind the other
+-- ---- one step after the other
 
 -- a settled gateway with a router that has begun runs
 ran : (g : Shown) (side : Side) (due : ℕ) → IsSettled g → Awaits (router_on g side) due → is_running g ≡ true
@@ -244,7 +245,7 @@ takes-over g side due now events last new settled behind steps one is =
     let over = tick-awaits (scene last one.before) now (scene new one.after) side due one.step (ran last side due waiting.settled waiting.waits) one.runs waiting.waits in
     active-on new side (over.over is)
 
--- ---- an advertisement that is followed puts the timer off
+-- ---- an advertisement that is followed sets the timer to a later time
 
 line-follows : (line : Line) (r : Router) (priority interval source now : ℕ) (action : Action) (r2 : Router) → Says line r (table.Heard priority interval source) now action r2
     → r.state ≡ Backup → 0 < priority → Follows r priority

@@ -1,4 +1,4 @@
--- A wish for a port uses no pair, and a packet that is kept is told of.
+-- A wish for a port uses no pair, and what is told of a packet that is kept is true.
 use Rattle.std.proofs.Common.{◌≡◌, ℕ, Bool, true, false, cond, List, [], ◌∷◌, Option, Some, None, IsPermutation, refl, sym, subst, nat_lt, ◌++◌, inl, arith}
 use Rattle.std.proofs.lemmas.List.{append-nil, map-append}
 use Rattle.std.proofs.lemmas.List.Sorted.{IsPermutation-append_comm, IsPermutation-append_right, IsPermutation-cons, IsPermutation-refl, IsPermutation-trans}
@@ -76,7 +76,7 @@ by-useless b full e None =
 pub wish-useless : (b : Book) (full : Bool) (e : Endpoint) → IsUseless (wish_of b full e).row
 wish-useless b full e = either-wish (is_synced b.stage) (wish_by b full e (entry_of b.entries e)) (wish want.NotNow quiet) (by-useless b full e (entry_of b.entries e)) (λ i now. refl)
 
--- a list that makes room loses these
+-- the packets that a list loses where a place is made in it
 record IsMade (w : WaitsFor) (kept : List HeldPacket) : Type 0 where
   lost : List HeldPacket
   are : IsPermutation (packets_of kept) (packets_of lost ++ packets_of (with_room w kept))
@@ -103,7 +103,7 @@ room-made (wait.Hop exit host) kept = let m = at (nat_lt (hop_count kept) 64) (f
     at true first = ([], IsPermutation-refl (packets_of kept))
     at false first = first
 
--- a packet is kept
+-- what is told of a packet that is kept is true
 pub keeping-tells : (s : GatewayAndOutput) (side : Side) (bytes : List ℕ) (w : WaitsFor) → Told (at_hand side bytes ∷ []) s (keeping s side bytes w)
 keeping-tells s side bytes w =
     let view = λ (x : HeldPacket). at_hand x.side x.bytes in

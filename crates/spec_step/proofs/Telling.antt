@@ -1,4 +1,5 @@
--- What is told of a part: nothing, one part behind the other, frames of another kind, and packets whose wait is over.
+-- What is told of a part is true: of a part of which nothing is told, of two parts one after the other, of frames of
+-- another kind, and of packets whose wait is over.
 use Rattle.std.proofs.Common.{◌≡◌, ◌≤◌, arith, inl, ℕ, true, not, ◌&&◌, List, [], ◌∷◌, ◌++◌, map, filter, flat_map, IsPermutation, refl, sym, ap, ◌∙◌, subst, append_assoc}
 use Rattle.std.specs.List.{AllByRecursion}
 use Rattle.std.proofs.lemmas.List.{map-append, append-nil}
@@ -29,14 +30,14 @@ use Rattle.spec_step.specs.Truly.{AreSent, AtHand, Known, Sending, Tells, is_own
 use Rattle.spec_step.proofs.FrameKinds.{other-none}
 use Rattle.spec_step.proofs.Rooting.{has-more, has-then, same-rooted}
 
--- what is told of a part, and where the pairs come from by which the gateway translates after it
+-- what is told of a part, and the pairs by which the gateway translates after it
 pub record Told (hand : List AtHand) (s s2 : GatewayAndOutput) : Type 0 where
   pub all : TellsAll hand s s2
   pub roots : (p : Pair) → IsTranslated s2.shown.ledger.book.entries p → MayGoBy s.shown all.notes p
   pub within : AreWithin s.shown → AreWithin s2.shown
   pub later : s.shown.moment ≤ s2.shown.moment
 
--- nothing was said, and the clock doesn't run back
+-- no frame of the gateway's own was sent, and the clock doesn't run back
 abbrev pub SameSaid : Shown → Shown → Type 0
 SameSaid g g2 = (g2.inside.said ≡ g.inside.said) × ((g2.outside.said ≡ g.outside.said) × (g.moment ≤ g2.moment))
 
@@ -46,7 +47,7 @@ within-by g g2 same within = (subst IsWithin (sym same.0) within.0, subst IsWith
 abbrev pub at_hand : Side → List ℕ → AtHand
 at_hand side bytes = record { side = side; bytes = bytes }
 
--- ---- the same elements
+-- ---- lists with the same elements
 
 pub swap-front : {X : Type 0} (a b c : List X) → IsPermutation (a ++ (b ++ c)) (b ++ (a ++ c))
 swap-front a b c =
@@ -58,7 +59,7 @@ shuffled a b c d =
     subst (λ xs. IsPermutation xs ((a ++ c) ++ (b ++ d))) (sym (append_assoc a b (c ++ d)))
     (subst (λ ys. IsPermutation (a ++ (b ++ (c ++ d))) ys) (sym (append_assoc a c (b ++ d))) (IsPermutation-append_right a _ _ (swap-front b c d)))
 
--- what is done, dropped and kept of two hands
+-- what is sent, dropped and kept of the packets at hand in two parts
 joined : {X : Type 0} (m d kb h ka m2 d2 kc h2 : List X) → IsPermutation (m ++ (d ++ kb)) (h ++ ka) → IsPermutation (m2 ++ (d2 ++ kc)) (h2 ++ kb)
     → IsPermutation ((m ++ m2) ++ ((d ++ d2) ++ kc)) ((h ++ h2) ++ ka)
 joined m d kb h ka m2 d2 kc h2 one two =
@@ -73,7 +74,7 @@ joined m d kb h ka m2 d2 kc h2 one two =
     let all = IsPermutation-trans _ _ _ s1 (IsPermutation-trans _ _ _ s2 (IsPermutation-trans _ _ _ s3 (IsPermutation-trans _ _ _ s4 (IsPermutation-trans _ _ _ s5 s6)))) in
     subst (λ xs. IsPermutation xs ((h ++ h2) ++ ka)) (sym start) (subst (λ ys. IsPermutation (m ++ (m2 ++ (d ++ (d2 ++ kc)))) ys) end all)
 
--- the same, where some are passed on
+-- what is sent, passed on, dropped and kept of the packets at hand in two parts
 passed-joined : {X : Type 0} (m e d kb h ka m2 e2 d2 kc h2 : List X) → IsPermutation (m ++ (e ++ (d ++ kb))) (h ++ ka) → IsPermutation (m2 ++ (e2 ++ (d2 ++ kc))) (h2 ++ kb)
     → IsPermutation ((m ++ m2) ++ ((e ++ e2) ++ ((d ++ d2) ++ kc))) ((h ++ h2) ++ ka)
 passed-joined m e d kb h ka m2 e2 d2 kc h2 one two =
@@ -83,7 +84,7 @@ passed-joined m e d kb h ka m2 e2 d2 kc h2 one two =
     let mixed = IsPermutation-append_left ((d ++ d2) ++ kc) _ _ (shuffled m m2 e e2) in
     subst (λ xs. IsPermutation xs ((h ++ h2) ++ ka)) (append_assoc (m ++ m2) (e ++ e2) ((d ++ d2) ++ kc)) (IsPermutation-trans _ _ _ mixed both)
 
--- and some answered
+-- what is sent, passed on, answered, dropped and kept of the packets at hand in two parts
 all-joined : {X : Type 0} (m e o d kb h ka m2 e2 o2 d2 kc h2 : List X) → IsPermutation (m ++ (e ++ (o ++ (d ++ kb)))) (h ++ ka) → IsPermutation (m2 ++ (e2 ++ (o2 ++ (d2 ++ kc)))) (h2 ++ kb)
     → IsPermutation ((m ++ m2) ++ ((e ++ e2) ++ ((o ++ o2) ++ ((d ++ d2) ++ kc)))) ((h ++ h2) ++ ka)
 all-joined m e o d kb h ka m2 e2 o2 d2 kc h2 one two =
@@ -126,7 +127,7 @@ own-append k (o ∷ os) ps x y = (x.0, own-append k os ps x.1 y)
 
 -- ---- parts
 
--- packets are dropped
+-- nothing false is told where packets at hand are dropped
 pub tells-nothing : (s : GatewayAndOutput) (hand : List AtHand) → Told hand s s
 tells-nothing s hand = record {
   all = record {
@@ -220,7 +221,7 @@ module _ (h h2 : List AtHand) (a b c : GatewayAndOutput) (same : known_of c.show
       ∙ ap (tallied c.shown.moment side y.all.own) (one ∙ ap (λ (n : ℕ). tallied n side x.all.own ta) (sym moment))
       ∙ sym (tallied-append c.shown.moment side x.all.own y.all.own ta)
 
-  -- one behind the other
+  -- what is told of two parts, one after the other, is true of both together
   pub tells-then : Told (h ++ h2) a c
   tells-then = record {
     all = record {
@@ -248,7 +249,7 @@ module _ (h h2 : List AtHand) (a b c : GatewayAndOutput) (same : known_of c.show
     later = omega (arith, x.later, y.later);
   }
 
--- a part of which nothing is told, and that leaves the packets that wait
+-- nothing false is told of a part that makes only these notes, which name no use, and leaves the packets that wait
 pub tells-quietly : (s s2 : GatewayAndOutput) (notes : List Note) → s2.told.frames ≡ s.told.frames → s2.told.notes ≡ s.told.notes ++ notes → used_pairs notes ≡ [] → s2.shown.kept ≡ s.shown.kept
     → ((p : Pair) → IsTranslated s2.shown.ledger.book.entries p → MayGoBy s.shown notes p) → SameSaid s.shown s2.shown → Told [] s s2
 tells-quietly s s2 notes frames noted none kept roots said = record {
@@ -277,12 +278,12 @@ tells-quietly s s2 notes frames noted none kept roots said = record {
   later = said.1.1;
 }
 
--- and that notes nothing and leaves the table
+-- nothing false is told of a part that sends and notes nothing, and leaves the table
 pub tells-unseen : (s s2 : GatewayAndOutput) → s2.told.frames ≡ s.told.frames → s2.told.notes ≡ s.told.notes → s2.shown.ledger.book.entries ≡ s.shown.ledger.book.entries → s2.shown.kept ≡ s.shown.kept → SameSaid s.shown s2.shown → Told [] s s2
 tells-unseen s s2 frames notes entries kept said =
     tells-quietly s s2 [] frames (notes ∙ sym (append-nil s.told.notes)) refl kept (same-rooted s.shown.ledger.book.entries s2.shown.ledger.book.entries [] entries) said
 
--- a frame of another kind
+-- nothing false is told where a frame of another kind is sent
 pub framed-tells : (s : GatewayAndOutput) (side : Side) (bytes : List ℕ) → is_other s.shown.networks side bytes ≡ true → Told [] s (framed s side bytes)
 framed-tells s side bytes other =
     let none = other-none s.shown.networks side bytes other in
@@ -312,7 +313,7 @@ framed-tells s side bytes other =
       later = omega arith;
     }
 
--- the gateway said something of the packet in hand, and has counted it
+-- the scene after the gateway said something of the packet at hand, and counted it
 abbrev pub own_scene : GatewayAndOutput → OwnFrame → GatewayAndOutput
 own_scene s o =
     let side = o.packet.side in
@@ -416,7 +417,7 @@ old-tells s =
       later = omega arith;
     }
 
--- the kept packets, those whose wait ends first
+-- the kept packets are those whose wait ends and the others
 pub split-kept : (ended : Ended) (kept : List HeldPacket) → IsPermutation (packets_of (ended_by ended kept) ++ packets_of (left_by ended kept)) (packets_of kept)
 split-kept ended kept =
     let view = λ (w : HeldPacket). at_hand w.side w.bytes in
@@ -424,7 +425,7 @@ split-kept ended kept =
     let both = IsPermutation-map view _ _ (IsPermutation-filter_both over (λ w. not (over w)) (λ w. refl) kept) in
     IsPermutation-sym _ _ (subst (λ ps. IsPermutation (packets_of kept) ps) (map-append view (ended_by ended kept) (left_by ended kept)) both)
 
--- what was told is true of the translated frames alone: all other packets are among those that were dropped
+-- what was told is true of the translated frames alone, where all other packets are taken as dropped
 pub truly-of : (hand : List AtHand) (s s2 : GatewayAndOutput) → TellsAll hand s s2 → Tells hand s s2
 truly-of hand s s2 x =
     let view = λ (t : Sending). t.packet in

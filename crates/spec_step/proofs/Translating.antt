@@ -1,4 +1,4 @@
--- The pairs that a packet is sent by translate: the note of each names it.
+-- The pairs by which a packet is sent translate, and a note names each of them.
 use Rattle.std.proofs.Common.{◌≡◌, ℕ, Bool, true, false, cond, Option, Some, None, Ok, [], ◌∷◌, refl, sym, ap, subst, ◌∙◌}
 use Rattle.std.proofs.lemmas.Bool.{cond-false, cond-true}
 use Rattle.addresses.specs.declared.transport.Port.{Port}
@@ -31,7 +31,7 @@ use Rattle.spec_step.specs.Shown.{Shown}
 use Rattle.spec_step.specs.Truly.{used_pairs}
 use Rattle.spec_step.specs.Verdict.{pair_at, pair_in, target_pair}
 
--- packets are translated by this pair
+-- packets are translated by the pair
 pub record Translates (b : Book) (p : Pair) : Type 0 where
   pub synced : is_synced b.stage ≡ true
   pub entry : Entry
@@ -46,7 +46,7 @@ state-note i now q state.Live is = refl
 state-note i now q state.Closing is = absurd (cc)
 state-note i now q state.Held is = refl
 
--- a packet that it carries is noted as its use
+-- a packet that a pair carries is noted as a use of it
 pub carry-note : (b : Book) (p : Pair) (i : GatewayId) (now : ℕ) → Translates b p → used_pairs (noted_by i now (carry_row b p.key).what) ≡ p ∷ []
 carry-note b p i now t = at (is_synced b.stage) (slot_of b.entries p.key) t.synced t.found
   where
@@ -67,7 +67,7 @@ pair-is p e port a b c =
 -- ---- the pair of an endpoint whose packet is translated at once
 
 module _ (b : Book) (full : Bool) (e : Endpoint) (is : IsBook b) where
-  -- a pair that was there
+  -- packets are translated by the pair that an endpoint has already, where its entry translates
   known-owns : is_synced b.stage ≡ true → (x : Entry) → entry_of b.entries e ≡ Some x → (port : Port) → x.pair.key.port ≡ port → translates x.state ≡ true → Translates b (new_pair e port)
   known-owns synced x there port at live =
       let found = found-slot (serves e) b.entries x is.keys there in
@@ -90,7 +90,7 @@ module _ (b : Book) (full : Bool) (e : Endpoint) (is : IsBook b) where
   known-says synced x there p state.Closing pair st port says = absurd (cc)
   known-says synced x there p state.Held pair st port says = let one : p.key.port ≡ port = cc in known-owns synced x there port (ap (λ (q : Pair). q.key.port) pair ∙ one) (ap translates st)
 
-  -- one that is added
+  -- packets are translated by the pair that is added for an endpoint
   new-owns : is_synced b.stage ≡ true → (q port : Port) → port_for b e ≡ Some q → q ≡ port → Translates (after b (row (Add (entry_in state.Live (new_pair e q))) None (Some (Retaken (new_pair e q))))) (new_pair e port)
   new-owns synced q port chosen same =
       let fresh = chosen-says b e q chosen in
@@ -128,7 +128,7 @@ module _ (b : Book) (full : Bool) (e : Endpoint) (is : IsBook b) where
       at true says = absurd (cc)
       at false says = new-says synced (port_for b e) refl port says
 
-  -- an endpoint that is answered with a port has a pair that translates then
+  -- an endpoint whose wish is answered with a port has a pair that translates afterwards
   pub wish-owns : (port : Port) → (wish_of b full e).answer ≡ want.Port port → Translates (after b (wish_of b full e).row) (new_pair e port)
   wish-owns port says = at (is_synced b.stage) refl says
     where
@@ -137,7 +137,7 @@ module _ (b : Book) (full : Bool) (e : Endpoint) (is : IsBook b) where
       at true synced says = by-says synced (entry_of b.entries e) refl port says
       at false synced says = absurd (cc)
 
-  -- ---- a pair that translates goes on doing so, whatever an endpoint wishes
+  -- ---- a pair that translates still does, whatever an endpoint wishes
 
   module _ (p : Pair) (t : Translates b p) where
     same-still : Translates (after b quiet) p

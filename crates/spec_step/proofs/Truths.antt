@@ -1,4 +1,5 @@
--- What each part of a step tells is true: interfaces, datagrams, the operator's word, ticks; and so what a whole step tells.
+-- What each part of a step tells is true, and so is what a whole step tells: at interfaces, datagrams, the operator's
+-- word and ticks.
 use Rattle.std.proofs.Common.{◌≡◌, ℕ, Bool, true, false, cond, not, ◌&&◌, List, [], ◌∷◌, ◌++◌, length, Option, Some, None, Result, Ok, Err, refl, sym, ap, subst, ◌∙◌, arith, min}
 use Rattle.std.specs.List.{AllByRecursion}
 use Rattle.std.proofs.Math.Nat.{le-max_left}
@@ -58,7 +59,7 @@ use Rattle.spec_step.proofs.Telling.{Told, at_hand, old-tells, tells-quietly, te
 use Rattle.spec_step.proofs.Unused.{idle-useless, restart-useless, retaken-useless, taken-useless}
 use Rattle.spec_step.specs.Others.{is_other}
 
--- a part that leaves what decides where packets go
+-- what is told of a part that leaves what decides where packets go is true
 pub speaks-of : (h : List AtHand) (s s2 : GatewayAndOutput) → Saying h s s2 → Speaks h s s2
 speaks-of h s s2 x = λ is w. (x is w).0
 
@@ -214,7 +215,7 @@ ended-says : Frames → (s : GatewayAndOutput) (o : Option Endpoint) → Saying 
 ended-says frames s None = saying-nothing s []
 ended-says frames s (Some e) = released-says frames s (One (wait.Pair e))
 
--- the scene in which a record is taken, before anybody's wait is over
+-- the scene after a record is taken, before any wait ends
 abbrev pub record_scene : GatewayAndOutput → Record → GatewayAndOutput
 record_scene s r = scene (record_shown s.shown r) (record_told s.shown r s.told)
 
@@ -253,7 +254,7 @@ link-says s e = λ is w. (
   refl,
 )
 
--- the scene in which a greater boot is heard, before anybody's wait is over
+-- the scene after a greater boot is heard, before any wait ends
 abbrev pub reset_scene : GatewayAndOutput → GatewayAndOutput
 reset_scene s =
     let g = s.shown in let b = g.ledger.book in
@@ -298,7 +299,7 @@ datagram-says frames s bytes (Ok d) read are = at (refusal s.shown.link d)
     at (Some fault) = saying-nothing s []
 datagram-says frames s bytes (Err fault) read are = saying-nothing s []
 
--- the scene in which the operator's word is taken, before anybody's wait is over
+-- the scene after the operator's word is taken, before any wait ends
 abbrev pub word_scene : GatewayAndOutput → ℕ → GatewayAndOutput
 word_scene s n =
     let g = s.shown in let b = g.ledger.book in
@@ -321,7 +322,7 @@ word-first s n synced =
 taken-says : Frames → (s : GatewayAndOutput) (n : ℕ) → is_synced s.shown.ledger.book.stage ≡ true → Saying [] s (word_taken s n)
 taken-says frames s n synced = saying-then [] [] s (word_scene s n) (word_taken s n) (word-first s n synced) (released-says frames (word_scene s n) AllPairs)
 
--- a word that is taken finds the gateway synced
+-- a word that is taken is taken by a synced gateway
 pub word-synced : (g : Shown) (n : ℕ) → word_refusal g n ≡ None → is_synced g.ledger.book.stage ≡ true
 word-synced g n is = at (is_synced g.ledger.book.stage) _ is
   where
@@ -364,7 +365,7 @@ ticked-speaks s now = λ is w. record {
   wired = w;
 }
 
--- the turn of a tick
+-- nothing false is told at the turn of a tick
 turn-says : Frames → (s s2 : GatewayAndOutput) → GivingWay s s2 → Saying [] s s2
 turn-says frames s s2 takes =
     turn-by (λ x. Saying [] s x) s s2
@@ -391,7 +392,7 @@ turn-says frames s s2 takes =
       refl,
     )
 
--- a side's cable
+-- nothing false is told at a change of a side's cable
 plugged-says : (s : GatewayAndOutput) (side : Side) (up : Bool) → Saying [] s (side_plugged s side up)
 plugged-says s Inside up = λ is w. (
   record { tells = tells-unseen s (side_plugged s Inside up) refl refl refl refl (refl, (refl, omega arith)); sound = record { book = is.book; kept = is.kept }; wired = (w.0, (record { own = w.1.0.own; known = w.1.0.known }, w.1.1)) },
@@ -456,7 +457,7 @@ end-tells s Stop done x w = answered-ends [] s done x w
 end-tells s (PeerOff n) done x w = answered-ends [] s done x w
 end-tells s (SideIs side up) done x w = (x, w)
 
--- a whole step
+-- what a whole step tells is true
 pub step-told : Frames → (s : GatewayAndOutput) (event : Event) (s2 : GatewayAndOutput) → IsStepOn s event s2 → HasBytes event → IsSound s.shown → IsSetUp s.shown → Told (hand_of event) s s2 × IsSetUp s2.shown
 step-told frames s event s2 step has is w =
     let said = does-speak frames s event step.done step.does has is w in

@@ -1,4 +1,5 @@
--- What a record, an idle pair, a greater boot and the operator's word note: no use of a pair.
+-- The notes of a record, an idle pair, a greater boot and the operator's word: none is a use of a
+-- pair.
 use Rattle.std.proofs.Common.{◌≡◌, ℕ, Bool, true, false, cond, ◌&&◌, is_none, Option, Some, None, List, [], ◌∷◌, refl}
 use Rattle.nat_types.specs.declared.gateways.GatewayId.{GatewayId}
 use Rattle.nat_types.specs.declared.notes.NoteKind.{NoteKind}
@@ -106,7 +107,7 @@ synced-useless b rests rec.Want = λ i now. refl
 synced-useless b rests (rec.Grant g) = grant-useless b g
 synced-useless b rests (rec.Owner first last) = λ i now. refl
 
--- ---- a record, wherever it comes
+-- ---- a record at any gateway
 
 load-useless : (r : Record) (o : Option Load) (i : GatewayId) (now : ℕ) → used_pairs (noted_by i now (load_what r o)) ≡ []
 load-useless (rec.Install p) None i now = refl

@@ -17,15 +17,17 @@ use Rattle.interfaces.specs.Stations.{new_station}
 use Rattle.spec_step.specs.Parts.{started}
 use Rattle.spec_step.specs.Shown.{Shown}
 
--- the ports of a range
+-- the first and the last port of a range
 abbrev pub bounds_of : PortRange → PortBounds
 bounds_of range = record { lowest = range.lowest; highest = range.highest }
 
--- A whole table's batch finds room in the link, and 64 answers beside it: Begin, Done, an Owner and a Put for each key.
+-- The number of the link's places. A whole table's batch fits (Begin, Done, an Owner and a Put for each key), and 64
+-- answers besides.
 abbrev pub link_places : PortBounds → PortBounds → ℕ
 link_places zero one = 2 * key_count zero one + 66
 
--- A gateway in the life of this number, without a table, which is to hash by the fixed keys; its routers stand in Initialize.
+-- A gateway as it begins the life of this number: without a table, with the fixed hash keys, and with its routers in
+-- Initialize.
 unfoldable pub begun : Settings → GatewayId → ℕ → Shown
 begun settings id boot =
     let zero = bounds_of settings.ports.zero in
@@ -42,7 +44,7 @@ begun settings id boot =
       kept = [];
     }
 
--- Gateway 0 as it is founded in the life of this number: alone, with its range of ports, and its routers started.
+-- Gateway 0 as it is founded in the life of this number: lone, with its range of ports, and with its routers started.
 unfoldable pub founded : Settings → ℕ → Shown
 founded settings boot =
     let g = begun settings Zero boot in
@@ -53,11 +55,11 @@ founded settings boot =
       outside = started g.outside 0;
     }
 
--- the same gateway, whose table hashes by these hashers
+-- the gateway whose table hashes by these hashers, else the same
 abbrev pub hashing : Hashers → Shown → Shown
 hashing hashers g = record g { ledger = record g.ledger { hashers = hashers } }
 
--- what a gateway's beginning asks of the settings: both ranges go from a lowest to a highest port
+-- what the beginning of a gateway requires of the settings: both ranges go from a lowest to a highest port
 pub record HasRanges (settings : Settings) : Type 0 where
   pub zero : AreBounds (bounds_of settings.ports.zero)
   pub one : AreBounds (bounds_of settings.ports.one)

@@ -1,5 +1,5 @@
--- Going on: when a packet or an error is sent, when no port is free for a packet, and when its host has all the pairs that
--- it may have.
+-- Going on: where a packet or an error is sent, where no port is free for a packet, and where its host has all the
+-- pairs that it may have.
 use Rattle.std.specs.Prelude.{◌≡◌, ℕ, true, false, Option, Some, None, Ok, List}
 use Rattle.addresses.specs.declared.ethernet.Mac.{Mac}
 use Rattle.nat_types.specs.declared.gateways.Side.{Side}
@@ -25,7 +25,7 @@ use Rattle.packet_rules.specs.Networks.{direction_of}
 use Rattle.spec_step.specs.Shown.{Shown}
 use Rattle.spec_step.specs.Verdict.{exit_by, fits_at, next_by, next_to, reading_on, target_pair}
 
--- an entry that was found is of this pair, and translates
+-- the entry that was found is of this pair, and translates
 pub record Translates (found : Option Entry) (p : Pair) : Type 0 where
   pub entry : Entry
   pub is : found ≡ Some entry
@@ -34,7 +34,8 @@ pub record Translates (found : Option Entry) (p : Pair) : Type 0 where
 
 -- ---- a packet
 
--- The pairs of a packet translate: outward that of its source, inward that of the port that it goes to, of a hairpin both.
+-- The pairs of a packet translate: outward the pair of its source, inward the pair of the port that it goes to, for a
+-- hairpin both.
 abbrev pub HavePairs : Shown → Flow → Translation → Type 0
 HavePairs g flow (Outward p) = Translates (entry_of g.ledger.book.entries (source_of flow)) p
 HavePairs g flow (Inward p) = Translates (slot_of g.ledger.book.entries (target_of flow)) p
@@ -42,8 +43,8 @@ HavePairs g flow (Hairpin own other) =
     Translates (entry_of g.ledger.book.entries (source_of flow)) own
     × Translates (slot_of g.ledger.book.entries (target_of flow)) other
 
--- A frame that came in has a packet that is valid and whose time to live is above one; the packet may go this way, its pairs
--- translate, its next hop's hardware address is known, and it is no longer than what is sent there.
+-- The frame that came in has a packet that goes on: it is valid, its time to live is above one, it may go this way, its
+-- pairs translate, its next hop's hardware address is known, and it is no longer than what is sent there.
 pub record MayGoOn (g : Shown) (side : Side) (bytes : List ℕ) (by : Translation) : Type 0 where
   pub packet : Datagram
   pub reads : reading_on g side bytes ≡ Ok (Packet packet)
@@ -56,8 +57,8 @@ pub record MayGoOn (g : Shown) (side : Side) (bytes : List ℕ) (by : Translatio
 
 -- ---- an error
 
--- The pairs of an error translate: outward that of the endpoint to which the packet inside came in, inward that of the port
--- by which it went out, of a hairpin both.
+-- The pairs of an error translate: outward the pair of the endpoint to which the packet inside came in, inward the pair
+-- of the port by which it went out, for a hairpin both.
 abbrev pub HaveErrorPairs : Shown → ErrorFlow → Translation → Type 0
 HaveErrorPairs g flow (Outward p) =
     Translates (entry_of g.ledger.book.entries (endpoint_about flow)) p
@@ -67,7 +68,7 @@ HaveErrorPairs g flow (Hairpin own other) =
     Translates (entry_of g.ledger.book.entries (endpoint_about flow)) own
     × Translates (slot_of g.ledger.book.entries (key_about flow)) other
 
--- the same of a frame that has an error
+-- the frame that came in has an error that goes on, under the conditions of MayGoOn
 pub record MayPassOn (g : Shown) (side : Side) (bytes : List ℕ) (by : Translation) : Type 0 where
   pub packet : ErrorPacket
   pub reads : reading_on g side bytes ≡ Ok (Error packet)
@@ -79,13 +80,14 @@ pub record MayPassOn (g : Shown) (side : Side) (bytes : List ℕ) (by : Translat
 
 -- ---- a packet for which a port has to be chosen
 
--- the ways that need a pair of the packet's source: outward, and back in to a pair that translates
+-- the way of a packet needs a pair of the packet's source: outward, and back in to a pair that translates
 abbrev pub NeedsPair : Shown → Flow → Direction → Type 0
 NeedsPair g flow way.Outward = Unit {0}
 NeedsPair g flow way.Inward = ⊥
 NeedsPair g flow way.Hairpin = (p : Pair) × (target_pair g flow ≡ Ok p)
 
--- A frame that came in has such a packet, and its source has no pair (a proposal that was given up counts as none).
+-- A port has to be chosen for the packet of a frame that came in: its way needs a pair of its source, which has none. A
+-- proposal that was given up counts as none.
 pub record NeedsPort (g : Shown) (side : Side) (bytes : List ℕ) : Type 0 where
   pub packet : Datagram
   pub reads : reading_on g side bytes ≡ Ok (Packet packet)
@@ -95,14 +97,15 @@ pub record NeedsPort (g : Shown) (side : Side) (bytes : List ℕ) : Type 0 where
   pub needs : NeedsPair g packet.flow way
   pub none : entry_of g.ledger.book.entries (source_of packet.flow) ≡ None
 
--- its host is below its limit, and each port that the gateway owns has an entry of the packet's protocol
+-- A port has to be chosen and none is free: the host is below its limit, and each port that the gateway owns has an
+-- entry of the packet's protocol.
 pub record HasNoPort (g : Shown) (side : Side) (bytes : List ℕ) : Type 0 where
   pub chooses : NeedsPort g side bytes
   pub below : is_at_limit g.ledger.book chooses.packet.flow.source ≡ false
   pub busy : (port : ℕ) → owns g.ledger.book port ≡ true
       → is_free_in g.ledger.book.entries chooses.packet.flow.protocol port ≡ false
 
--- its host has as many pairs as it may have, or more
+-- A port has to be chosen, and the host has as many pairs as it may have, or more.
 pub record HasAllPairs (g : Shown) (side : Side) (bytes : List ℕ) : Type 0 where
   pub chooses : NeedsPort g side bytes
   pub reached : is_at_limit g.ledger.book chooses.packet.flow.source ≡ true

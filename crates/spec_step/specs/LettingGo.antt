@@ -1,4 +1,4 @@
--- Letting go: which pairs a tick lets go, and what becomes of them.
+-- Letting go: which pairs a tick lets go, and what is left of them.
 use Rattle.std.specs.Prelude.{◌≡◌, ◌≤◌, ℕ, ◌+◌, Bool, true, Option, Some, None, List, ◌++◌, length, if◌then◌else◌}
 use Rattle.std.specs.List.{Contains}
 use Rattle.nat_types.specs.declared.notes.Note.{Note}
@@ -14,33 +14,35 @@ use Rattle.spec_binding.specs.Ledgers.{Ledger, is_heard}
 use Rattle.spec_pair.specs.Talk.{note}
 use Rattle.spec_step.specs.Shown.{GatewayAndOutput, id_of}
 
--- An entry of the table that may be let go (a Live one, and at a lone gateway a Held one, too) has had its rest by a moment.
+-- An entry of the table may be let go (a Live one, and at a lone gateway a Held one too), and has had its rest at the
+-- time `now`.
 pub record HasRested (l : Ledger) (now : ℕ) (x : Entry) : Type 0 where
   pub held : slot_of l.book.entries x.pair.key ≡ Some x
   pub may : may_go (is_lone l.book.stage) x.state ≡ true
   pub rests : rests_at l.book.entries l.lives x.pair.key now ≡ true
 
--- how many have
+-- how many entries may be let go and have had their rest
 abbrev pub rested_count : Ledger → ℕ → ℕ
 rested_count l now = length (idle_keys_in (is_lone l.book.stage) now l.book.entries l.lives)
 
--- The peer may be asked for all of them: it was heard at most 300 centiseconds ago, and the link has a place for each Ask
--- beside the 64 that are kept for answers.
+-- The peer may be asked for all of these entries: it was heard at most 300 centiseconds ago, and the link has a place
+-- for each Ask besides the 64 that are kept for answers.
 pub record CanAskForAll (l : Ledger) (e : Link) (now : ℕ) : Type 0 where
   pub heard : is_heard e.heard now ≡ true
   pub places : 64 + rested_count l now ≤ free_places e
 
--- what is left of an entry that is let go: nothing at a lone gateway, else what waits for the peer's answer
+-- what is left of an entry that is let go: nothing at a lone gateway, else a closing entry that waits for the peer's
+-- answer
 abbrev pub left_of : Bool → Entry → Option Entry
 left_of lone x = (if lone then None else Some (entry_in Closing x.pair))
 
--- a step noted the release of a pair, by the gateway and at its moment
+-- the step noted the release of the pair, by the gateway and at the time of its clock after the step
 pub record NotesRelease (s : GatewayAndOutput) (p : Pair) (s2 : GatewayAndOutput) : Type 0 where
   pub notes : List Note
   pub are : s2.told.notes ≡ s.told.notes ++ notes
   pub released : Contains notes (note (id_of s.shown) s2.shown.moment (Released p))
 
--- an entry was let go at a step
+-- the entry was let go at the step
 pub record IsLetGo (s : GatewayAndOutput) (x : Entry) (s2 : GatewayAndOutput) : Type 0 where
   pub left : let l = s.shown.ledger in
       slot_of s2.shown.ledger.book.entries x.pair.key ≡ left_of (is_lone l.book.stage) x

@@ -1,4 +1,4 @@
--- A step as the pair machine sees it.
+-- A step of a gateway as the pair machine sees it.
 use Rattle.std.specs.Prelude.{◌≡◌, ◌<◌, ◌≤◌, ℕ, true, List, [], ◌∷◌, ◌++◌, get_or, length, map, reverse, Result, Ok, Err, ◌⊎◌}
 use Rattle.std.specs.List.{AllByRecursion}
 use Rattle.nat_types.specs.declared.notes.Note.{Note}
@@ -16,11 +16,11 @@ use Rattle.spec_step.specs.declared.events.Event.{Event}
 use Rattle.spec_step.specs.declared.events.Event.TheVariants.{Frame, Datagram, Tick, Stop, PeerOff, Side as SideIs}
 use Rattle.spec_step.specs.Shown.{GatewayAndOutput, Shown, id_of, serves}
 
--- the box of a gateway, where h is what was pushed or promised in the session
+-- the box of a gateway, where `h` has what was pushed or promised in the session
 abbrev pub box_of : Shown → List Record → Box
 box_of g h = box_at g.ledger.book g.link h g.link.taken
 
--- h is the list of all records that it pushed or promised in the session
+-- `h` has all records that the gateway pushed or promised in the session
 abbrev pub HasPushed : Shown → List Record → Type 0
 HasPushed g h = Stands g.ledger.book g.link h
 
@@ -28,16 +28,16 @@ HasPushed g h = Stands g.ledger.book g.link h
 abbrev pub IsAlone : Shown → Type 0
 IsAlone g = is_lone g.ledger.book.stage ≡ true → (g.link.known ≡ 0) ⊎ (g.link.closed ≡ true)
 
--- each is a byte
+-- each number is a byte
 abbrev pub AreBytes : List ℕ → Type 0
 AreBytes bytes = (place : ℕ) → get_or bytes place 0 < 256
 
--- each packet that it keeps is bytes
+-- each packet that the gateway keeps is bytes
 abbrev pub KeepsBytes : Shown → Type 0
 KeepsBytes g = AllByRecursion (λ w. AreBytes w.bytes) g.kept
 
--- What holds of a gateway that has pushed or promised h in the session: its book's facts, that it is lone only by right,
--- that it keeps bytes.
+-- What a step requires of a gateway that has pushed or promised `h` in the session: its book is a book, it is lone only
+-- where IsAlone allows it, and the packets that it keeps are bytes.
 pub record IsStanding (g : Shown) (h : List Record) : Type 0 where
   pub book : IsBook g.ledger.book
   pub alone : IsAlone g
@@ -53,11 +53,12 @@ HasBytes Stop = Unit {0}
 HasBytes (PeerOff n) = Unit {0}
 HasBytes (SideIs side up) = Unit {0}
 
--- the letters that an event hands in: the datagram's, where the bytes are one
+-- the letters that an event brings: its datagram, where the bytes are one
 abbrev pub letter_in : Result Letters LinkFault → List Letter
 letter_in (Ok d) = letter_of d ∷ []
 letter_in (Err fault) = []
 
+-- the letter that an event brings: one at most, of the datagram that comes
 abbrev pub letters_in : Event → List Letter
 letters_in (Frame side bytes) = []
 letters_in (Datagram bytes) = letter_in (reading bytes.now)
@@ -66,7 +67,7 @@ letters_in Stop = []
 letters_in (PeerOff n) = []
 letters_in (SideIs side up) = []
 
--- the operator's word
+-- the operator's words that an event brings: one or none
 abbrev pub words_in : Event → List ℕ
 words_in (Frame side bytes) = []
 words_in (Datagram bytes) = []
@@ -75,8 +76,8 @@ words_in Stop = []
 words_in (PeerOff n) = n ∷ []
 words_in (SideIs side up) = []
 
--- From a scene to a later one, of a gateway that had pushed h: there is a list that it has pushed then, and acts of the
--- machine with just the notes and the letters that were told more.
+-- From a scene to a later one, of a gateway that had pushed `h`: it has pushed some list in the later scene, and acts
+-- of the machine lead there with exactly the notes and the letters that were added to the output.
 pub record Goes (letters : List Letter) (words : List ℕ) (old new : GatewayAndOutput) (h : List Record) : Type 0 where
   pub history : List Record
   pub pushed : HasPushed new.shown history
@@ -84,10 +85,10 @@ pub record Goes (letters : List Letter) (words : List ℕ) (old new : GatewayAnd
   pub notes_are : new.told.notes ≡ old.told.notes ++ notes
   pub sent : List Letters
   pub datagrams_are : new.told.datagrams ≡ old.told.datagrams ++ map spelling sent
-  -- at most one, which is that of its link as it stands then
+  -- at most one letter was sent, and it is of the link as it is in the later scene
   pub few : length sent ≤ 1
   pub own : AllByRecursion (λ d. d ≡ datagram_of (serves new.shown) new.shown.link) sent
-  -- and it is still who it was
+  -- the gateway is the same, of the same founding
   pub house : IsSameHouse old.shown.ledger.book new.shown.ledger.book
   pub step : let g = old.shown in
       IsStep (ranges_of g.ledger.book) (id_of g) new.shown.moment (box_of g h) (box_of new.shown history)

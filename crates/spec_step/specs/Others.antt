@@ -1,5 +1,5 @@
--- The other frames of a step, which are neither of a packet that was translated, nor of an error that was passed on, nor the
--- gateway's own: an answer to an ARP request, the frames of the routers' actions, and requests for next hops.
+-- The other frames of a step: those that are neither of a translated packet, nor of an error passed on, nor the
+-- gateway's own. They are an answer to an ARP request, the frames of the routers' actions, and requests for next hops.
 use Rattle.std.specs.Prelude.{◌≡◌, ◌⊎◌, ℕ, zero, suc, ◌-◌, Bool, true, false, not, ◌&&◌, ◌||◌, Option, Some, None, Result, Ok, Err, List, [], ◌∷◌, ◌++◌, map, if◌then◌else◌}
 use Rattle.std.specs.List.{AllByRecursion, filter, flat_map}
 use Rattle.std.specs.List.Sorted.{IsPermutation}
@@ -61,33 +61,36 @@ use Rattle.spec_step.specs.Steps.{clock_after, word_refusal}
 use Rattle.spec_step.specs.Truly.{AreItsPairs, AtHand, Known, known_of, near_on, packets_of}
 use Rattle.spec_step.specs.Verdict.{exit_by, reading_on}
 
--- a frame that left at this side is of none of these
+-- whether a frame that left at this side is an other frame
 unfoldable pub is_other : Networks → Side → List ℕ → Bool
 is_other networks side bytes =
     not (is_own_frame networks side bytes) && (not (is_translation side bytes) && not (is_error_frame bytes))
 
+-- the other frames among these
 abbrev pub other_frames : Networks → List Sent → List Sent
 other_frames networks frames = filter (λ f. is_other networks f.side f.bytes) frames
 
+-- these frames, sent at a side
 abbrev pub sent_on : Side → List (List ℕ) → List Sent
 sent_on side frames = map (λ bytes. record { side = side; bytes = bytes }) frames
 
--- the answer to an ARP packet, where it asks for an address of the interface
+-- the answer to an ARP packet that asks for an address of the interface, or nothing
 abbrev pub answers_by : Interface → ArpPacket → Option Mac → List (List ℕ)
 answers_by station p (Some mac) = answer_frame station.network p mac ∷ []
 answers_by station p None = []
 
+-- the answer to an ARP packet at an interface, or nothing
 abbrev pub answers : Interface → ArpPacket → List (List ℕ)
 answers station p = answers_by station p (answer_to station.network (is_active station) p)
 
--- the frames of an action that the state table has for the router on a side
+-- the frames of an action that the state table has for the router on a side, at this event and time
 pub record AreOfAction (g : Shown) (side : Side) (event : RouterEvent) (moment : ℕ) (frames : List Sent) : Type 0 where
   pub station : Interface
   pub action : Action
   pub step : IsRouterStep (station_on g side) event moment action station
   pub are : frames ≡ sent_on side (frames_of station action)
 
--- those of both routers, that of the inside first
+-- the frames of both routers' actions, the inside router's first
 pub record AreOfBoth (g : Shown) (event : RouterEvent) (moment : ℕ) (frames : List Sent) : Type 0 where
   pub one : List Sent
   pub two : List Sent
@@ -95,17 +98,17 @@ pub record AreOfBoth (g : Shown) (event : RouterEvent) (moment : ℕ) (frames : 
   pub outside : AreOfAction g Outside event moment two
   pub are : frames ≡ one ++ two
 
--- those of a tick that begins with this turn: of the stop, else of the tick's own lines
+-- the frames that a tick with this turn has the gateway send by itself: those of the stop, else of the tick
 abbrev pub TurnOwes : Turn → Shown → List Sent → Type 0
 TurnOwes Leaves g own = AreOfBoth g table.Stop g.moment own
 TurnOwes Returns g own = AreOfBoth (returned g) table.Tick g.moment own
 TurnOwes Stays g own = AreOfBoth g table.Tick g.moment own
 
--- at the tick's moment
+-- the frames that a tick has the gateway send by itself, at the tick's time
 abbrev pub TickOwes : Shown → List Sent → Type 0
 TickOwes g own = TurnOwes (turn_of g) g own
 
--- what an event has the gateway send by itself
+-- the frames that a frame has the gateway send by itself, by what it is read as
 abbrev pub FrameOwes : Shown → Side → Result Reading Reason → List Sent → Type 0
 FrameOwes g side (Ok (Arp p)) own = own ≡ sent_on side (answers (station_on g side) p)
 FrameOwes g side (Ok (Advert a from)) own = AreOfAction g side (table.Heard a.priority a.interval from.0) g.moment own
@@ -114,6 +117,7 @@ FrameOwes g side (Ok (Error packet)) own = own ≡ []
 FrameOwes g side (Ok (Asked echo)) own = own ≡ []
 FrameOwes g side (Err reason) own = own ≡ []
 
+-- the frames that an event has the gateway send by itself
 abbrev pub Owes : Shown → Event → List Sent → Type 0
 Owes g (Frame side bytes) own = FrameOwes g side (reading_on g side bytes.now) own
 Owes g (Datagram bytes) own = own ≡ []
@@ -124,7 +128,7 @@ Owes g (SideIs side up) own = own ≡ []
 
 -- ---- the packets whose wait an event ends
 
--- an ARP packet: those that wait for its sender, where that may be learnt
+-- whether an ARP packet ends a packet's wait: it waits for the ARP packet's sender, which may be learnt
 abbrev pub frees_as : Shown → Side → Result Reading Reason → HeldPacket → Bool
 frees_as g side (Ok (Arp p)) w = is_learnable (station_on g side).network p && ends (One (wait.Hop side p.sender_ip)) w.wait
 frees_as g side (Ok (Advert a from)) w = false
@@ -133,18 +137,19 @@ frees_as g side (Ok (Error packet)) w = false
 frees_as g side (Ok (Asked echo)) w = false
 frees_as g side (Err reason) w = false
 
--- a record: those that wait for the pair of the endpoint that it answers
+-- whether a record ends a packet's wait: it waits for the pair of the endpoint that the record answers
 abbrev pub frees_for : Option Endpoint → HeldPacket → Bool
 frees_for None w = false
 frees_for (Some e) w = ends (One (wait.Pair e)) w.wait
 
--- records, one after another
+-- whether one of these records, taken one after another, ends a packet's wait
 abbrev pub free_by : GatewayAndOutput → List Record → HeldPacket → Bool
 free_by s [] w = false
 free_by s (r ∷ rs) w = let g = s.shown in
     frees_for (taken_ended g.ledger.book (rests_for g.moment g.ledger r) r) w || free_by (record_done s r) rs w
 
--- a datagram that is let through: of a greater boot all that wait for pairs, then by its records
+-- whether a datagram that is let through ends a packet's wait: a greater boot ends all waits for pairs, and then its
+-- records end theirs
 abbrev pub frees_heard : GatewayAndOutput → Letters → Option LinkFault → HeldPacket → Bool
 frees_heard s d None w = let e = s.shown.link in
     let after = with_link s (after_take e d s.shown.moment) in
@@ -152,15 +157,17 @@ frees_heard s d None w = let e = s.shown.link in
     else free_by after (records_taken e d) w
 frees_heard s d (Some fault) w = false
 
+-- whether a datagram ends a packet's wait, where it is read and let through
 abbrev pub frees_read : GatewayAndOutput → Result Letters LinkFault → HeldPacket → Bool
 frees_read s (Ok d) w = frees_heard s d (refusal s.shown.link d) w
 frees_read s (Err fault) w = false
 
--- the operator's word, where it is taken: all that wait for pairs
+-- whether the operator's word ends a packet's wait: where it is taken, it ends all waits for pairs
 abbrev pub frees_unless : Option Reason → HeldPacket → Bool
 frees_unless None w = ends AllPairs w.wait
 frees_unless (Some reason) w = false
 
+-- whether an event ends a packet's wait
 abbrev pub is_freed : GatewayAndOutput → Event → HeldPacket → Bool
 is_freed s (Frame side bytes) w = frees_as s.shown side (reading_on s.shown side bytes.now) w
 is_freed s (Datagram bytes) w = frees_read s (reading bytes.now) w
@@ -169,7 +176,7 @@ is_freed s Stop w = false
 is_freed s (PeerOff n) w = frees_unless (word_refusal s.shown n) w
 is_freed s (SideIs side up) w = false
 
--- one that a tick finds too old
+-- whether an event is a tick that finds a packet's wait too long
 abbrev pub is_old : Shown → Event → HeldPacket → Bool
 is_old g (Frame side bytes) w = false
 is_old g (Datagram bytes) w = false
@@ -180,7 +187,8 @@ is_old g (SideIs side up) w = false
 
 -- ---- the packets that come to wait
 
--- the packet of an event, where the frame is read as one, or something may be said of it (none is read as too long)
+-- the packet of a frame, where the frame is read as one, or a complaint of it may be sent (no frame is read as too
+-- long)
 abbrev pub packet_as : Side → List ℕ → Result Reading Reason → List AtHand
 packet_as side bytes (Ok (Arp p)) = []
 packet_as side bytes (Ok (Advert a from)) = []
@@ -191,6 +199,7 @@ packet_as side bytes (Err TtlOver) = record { side = side; bytes = bytes } ∷ [
 packet_as side bytes (Err TooLong) = record { side = side; bytes = bytes } ∷ []
 packet_as side bytes (Err reason) = []
 
+-- the packet of an event, if there is one
 abbrev pub packet_in : Shown → Event → List AtHand
 packet_in g (Frame side bytes) = packet_as side bytes.now (reading_on g side bytes.now)
 packet_in g (Datagram bytes) = []
@@ -199,7 +208,7 @@ packet_in g Stop = []
 packet_in g (PeerOff n) = []
 packet_in g (SideIs side up) = []
 
--- the pair that was taken up, if the note says so
+-- the pair that a note says was taken up, if it does
 abbrev pub retaken_in : NoteKind → List Pair
 retaken_in (Used pair) = []
 retaken_in (Released pair) = []
@@ -208,6 +217,7 @@ retaken_in Synced = []
 retaken_in Crashed = []
 retaken_in (Booted number) = []
 
+-- the pairs of the Retaken notes, in the order of the notes
 abbrev pub retaken_pairs : List Note → List Pair
 retaken_pairs notes = flat_map (λ note. retaken_in note.what) notes
 
@@ -215,27 +225,27 @@ retaken_pairs notes = flat_map (λ note. retaken_in note.what) notes
 abbrev pub MayGoBy : Shown → List Note → Pair → Type 0
 MayGoBy g notes pair = IsTranslated g.ledger.book.entries pair ⊎ In pair (retaken_pairs notes)
 
--- the pair of the port that a packet goes to
+-- the pair of the port that a packet goes to, if any
 abbrev pub targets : Translation → List Pair
 targets (Outward pair) = []
 targets (Inward pair) = pair ∷ []
 targets (Hairpin own other) = other ∷ []
 
--- a packet of one of the three protocols goes the way that the rules say, by its pairs
+-- a packet of TCP, UDP or an ICMP query goes the way that the rules say, by its pairs
 pub record IsPacketBy (networks : Networks) (packet : AtHand) (by : Translation) : Type 0 where
   pub passes : IsForwardable packet.bytes
   pub way : let flow = flow_in packet.bytes in
       direction_of networks packet.side flow.protocol flow.source.0 flow.destination.0 ≡ Ok (way_of by)
   pub pairs : AreItsPairs (flow_in packet.bytes) by
 
--- and so does an ICMP error, by its own
+-- an ICMP error goes the way that the rules say, by its pairs
 pub record IsErrorBy (networks : Networks) (packet : AtHand) (by : Translation) : Type 0 where
   pub passes : IsPassable packet.bytes
   pub way : error_direction networks packet.side (error_flow_in packet.bytes) ≡ Ok (way_of by)
   pub pairs : AreErrorPairs (error_flow_in packet.bytes) by
 
--- The host is the next hop of a packet or an error, at the side at which it leaves: it goes the way that the rules say, by its
--- pairs, and it may go by that of the port that it goes to.
+-- The host is the next hop of a packet or an error, at the side at which it leaves. The packet goes the way that the
+-- rules say, by its pairs, and packets may go by the pair of the port that it goes to.
 pub record IsOnward (k : Known) (may : Pair → Type 0) (packet : AtHand) (by : Translation) (exit : Side) (host : Ip)
     : Type 0 where
   pub goes : IsPacketBy k.networks packet by ⊎ IsErrorBy k.networks packet by
@@ -243,7 +253,7 @@ pub record IsOnward (k : Known) (may : Pair → Type 0) (packet : AtHand) (by : 
   pub exit_is : exit ≡ exit_by by
   pub hop : host.0 ≡ hop_of k.networks by (flow_in packet.bytes).destination.0
 
--- or that of what the gateway says itself to the packet's sender, at the side at which the packet came
+-- the host is the next hop of what the gateway says itself to the packet's sender, at the side at which the packet came
 pub record IsBack (k : Known) (packet : AtHand) (exit : Side) (host : Ip) : Type 0 where
   pub source : may_answer k.networks packet.side (sender_in packet.bytes).0 ≡ true
   pub exit_is : exit ≡ packet.side
@@ -255,26 +265,26 @@ IsEcho k packet =
     IsAskable packet.bytes
     × ((active : Bool) × (is_asked (network_of k.networks packet.side) active (frame_of packet.bytes) ≡ true))
 
--- there is something to say of the packet where it is dropped
+-- there is a complaint to send of the packet where it is dropped
 abbrev pub IsTold : Known → AtHand → Type 0
 IsTold k packet = (reason : Reason) × ((exit : Side) × ((complaint : Complaint)
     × (complaint_of k.networks packet.side exit reason packet.bytes ≡ Some complaint)))
 
--- the next hop of a packet or an error, or of the answer to an Echo
+-- the host is the next hop of a packet or an error, or of the answer to an Echo
 abbrev pub IsNextHop : Known → (Pair → Type 0) → AtHand → Side → Ip → Type 0
 IsNextHop k may packet exit host =
     ((by : Translation) × IsOnward k may packet by exit host) ⊎ (IsEcho k packet × IsBack k packet exit host)
 
--- no hardware address is known for a host
+-- no hardware address is known for the host
 abbrev pub IsUnknown : Known → Side → Ip → Type 0
 IsUnknown k exit host = mac_at host.0 k.moment (near_on k exit) ≡ None
 
--- a packet waits for the pair of its own endpoint, or for its own next hop
+-- the wait is the packet's own: for the pair of its endpoint, or for its next hop, whose hardware address isn't known
 abbrev pub IsItsWait : Known → (Pair → Type 0) → AtHand → WaitsFor → Type 0
 IsItsWait k may packet (wait.Pair e) = e ≡ source_of (flow_in packet.bytes)
 IsItsWait k may packet (wait.Hop exit host) = IsNextHop k may packet exit host × IsUnknown k exit host
 
--- it does so since now
+-- the packet waits for that since now
 pub record IsNew (k : Known) (may : Pair → Type 0) (w : HeldPacket) : Type 0 where
   pub since : w.since ≡ k.moment
   pub asked : w.asked ≡ k.moment
@@ -282,58 +292,64 @@ pub record IsNew (k : Known) (may : Pair → Type 0) (w : HeldPacket) : Type 0 w
 
 -- ---- requests
 
--- Why a packet's next hop is asked for: the packet comes to wait for it; it, or what the gateway says of it, was sent to it
--- just now; or it is dropped, because another waits for it.
+-- The cause for which a packet's next hop is asked for. Waits: the packet comes to wait for it. Sends: the packet, or
+-- what the gateway says of it, was sent to it in this step. Drops: the packet is dropped, because another waits for it.
 pub data Cause : Type 0 where
   Waits : Cause
   Sends : Cause
   Drops : Cause
 
+-- whether the packet of a request comes to wait
 abbrev pub has_come : Cause → Bool
 has_come Waits = true
 has_come Sends = false
 has_come Drops = false
 
--- one request: of which packet, its next hop and the side, and why
+-- a request for a next hop: for which packet, at which side, for which host, and for which cause
 pub record Asking : Type 0 where
   pub packet : AtHand
   pub exit : Side
   pub host : Ip
   pub cause : Cause
 
+-- the frame of a request
 abbrev pub request_of : Shown → Asking → Sent
 request_of g a = record { side = a.exit; bytes = request_by g a.exit a.host }
 
+-- the frames of these requests
 abbrev pub requests : Shown → List Asking → List Sent
 requests g askings = map (request_of g) askings
 
--- Of one that comes to wait and of one that is dropped no hardware address is known for the host; the packet that waited
--- before for it was last asked for 100 cs ago or more. Behind a packet that was sent, the host is a neighbour that was learnt
--- or renewed 90,000 cs ago or more, and last asked for 100 cs ago or more.
+-- When a request may be made, by its cause. Waits and Drops: no hardware address is known for the host; at Drops the
+-- packet that waits for it already was last asked for 100 cs ago or more. Sends: the host is a neighbour that was
+-- learnt or renewed 90,000 cs ago or more, and last asked for 100 cs ago or more.
 abbrev pub IsCause : Shown → Known → Side → Ip → Cause → Type 0
 IsCause g k exit host Waits = IsUnknown k exit host
 IsCause g k exit host Sends = asks_at host.0 k.moment (station_on g exit).neighbours ≡ true
 IsCause g k exit host Drops = IsUnknown k exit host × (asks_again k.moment (wait.Hop exit host) g.kept ≡ true)
 
--- behind what was sent it may be the next hop of what the gateway said of a packet, too
+-- the host of a request is its packet's next hop; at Sends it may be the next hop of the gateway's complaint of the
+-- packet, too
 abbrev pub IsHost : Known → (Pair → Type 0) → AtHand → Side → Ip → Cause → Type 0
 IsHost k may packet exit host Waits = IsNextHop k may packet exit host
 IsHost k may packet exit host Sends =
     IsNextHop k may packet exit host ⊎ (IsTold k packet × IsBack k packet exit host)
 IsHost k may packet exit host Drops = IsNextHop k may packet exit host
 
+-- the request may be made: for this host, and for this cause
 pub record IsDue (g : Shown) (k : Known) (may : Pair → Type 0) (a : Asking) : Type 0 where
   pub hop : IsHost k may a.packet a.exit a.host a.cause
   pub cause : IsCause g k a.exit a.host a.cause
 
--- those of packets that come to wait, and the packets of the others
+-- the requests of packets that come to wait
 abbrev pub firsts : List Asking → List Asking
 firsts askings = filter (λ a. has_come a.cause) askings
 
+-- the packets of the other requests
 abbrev pub packets_asked : List Asking → List AtHand
 packets_asked askings = map (λ a. a.packet) (filter (λ a. not (has_come a.cause)) askings)
 
--- the packet of a request as it waits from now on
+-- the packet of a request, as it waits from the time `now` on
 abbrev pub waiting_by : ℕ → Asking → HeldPacket
 waiting_by now a = waiting a.packet.side a.packet.bytes now (wait.Hop a.exit a.host)
 
@@ -343,30 +359,31 @@ hops_of kept = filter (λ w. not (is_for_pair w.wait)) kept
 
 -- ---- who waits afterwards
 
--- the packets without the first so many of those that wait for next hops
+-- the packets without the first `n` of those that wait for next hops
 abbrev pub without_hops : ℕ → List HeldPacket → List HeldPacket
 without_hops zero kept = kept
 without_hops (suc n) kept = without_hops n (without_first_hop kept)
 
--- of those that wait for next hops the last 64
+-- the packets with only the last 64 of those that wait for next hops
 abbrev pub within_limit : List HeldPacket → List HeldPacket
 within_limit kept = without_hops (hop_count kept - 64) kept
 
--- a request that goes out again is noted at the packet that waits for its host
+-- the packets, where a request that goes out again (Drops) is noted at the packet that waits for its host
 abbrev pub noted_at : ℕ → Side → Ip → Cause → List HeldPacket → List HeldPacket
 noted_at now exit host Waits kept = kept
 noted_at now exit host Sends kept = kept
 noted_at now exit host Drops kept = with_asked now (wait.Hop exit host) kept
 
+-- the packets, where each request that goes out again is noted at the packet that waits for its host
 abbrev pub all_noted : ℕ → List Asking → List HeldPacket → List HeldPacket
 all_noted now [] kept = kept
 all_noted now (a ∷ askings) kept = all_noted now askings (noted_at now a.exit a.host a.cause kept)
 
--- The other frames in their order: what the event has the gateway send by itself, then requests for next hops. One goes out
--- for each packet that comes to wait for its next hop. The packets that waited before still do, but for those whose wait the
--- event ends, for old ones, and for the first of those for next hops where there would be more than 64; behind them wait those
--- that came. These, and the packets of the other requests, are, each once at most, of the event's own packet and of those
--- whose wait it ended.
+-- The other frames of a step in their order: what the event has the gateway send by itself, then requests for next
+-- hops. One request goes out for each packet that comes to wait for its next hop. The packets that waited before wait
+-- on, but for those whose wait the event ends, for old ones, and for the first of those that wait for next hops where
+-- there would be more than 64. After them wait the packets that came to wait. These, and the packets of the other
+-- requests, are the event's own packet and those whose wait it ended, each at most once.
 pub record AreOthers (s : GatewayAndOutput) (event : Event) (s2 : GatewayAndOutput) : Type 0 where
   pub frames : List Sent
   pub frames_are : s2.told.frames ≡ s.told.frames ++ frames

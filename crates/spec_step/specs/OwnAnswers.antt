@@ -1,5 +1,6 @@
--- Own answers: the own frames of a step are, one for one and in order, answers to Echos at hand and complaints of packets at
--- hand that are dropped, each to its packet's sender and at the side at which the packet came.
+-- Own answers: the own frames of a step are, one for one and in order, answers to Echos at hand and complaints of
+-- packets at hand that are dropped, each to its packet's sender and at the side at which the packet came. A complaint
+-- is an ICMP error of the gateway's own.
 use Rattle.std.specs.Prelude.{◌≡◌, ℕ, Bool, true, Option, Some, None, Result, Ok, Err, List, [], ◌∷◌, ◌++◌, if◌then◌else◌}
 use Rattle.std.specs.List.{AllByRecursion, filter}
 use Rattle.addresses.specs.declared.ethernet.Mac.{Mac}
@@ -31,19 +32,19 @@ use Rattle.spec_step.specs.Shown.{GatewayAndOutput, Shown, station_on}
 use Rattle.spec_step.specs.Verdict.{next_back, plan_of, reading_on, reply_to}
 use Rattle.spec_step.specs.Truly.{AtHand, Known, is_own, near_on}
 
--- what a frame of the gateway's own is for: it answers an Echo, or says of a packet that it is dropped, for a reason, and
--- would have left at a side
+-- the purpose of an own frame: it answers an Echo, or complains of a packet that is dropped for a reason and would have
+-- left at a side
 pub data Purpose : Type 0 where
   Answers : Purpose
   Complains : Reason → Side → Purpose
 
--- one own frame, of which packet and what for
+-- an own frame: its packet, its purpose, and the frame that was sent
 pub record OwnFrame : Type 0 where
   pub packet : AtHand
   pub purpose : Purpose
   pub sent : Sent
 
--- The bytes are the answer to the packet, an Echo to the box; or what there is to say of it.
+-- The bytes are the answer to the packet, which is an Echo to the gateway, or the complaint of it.
 abbrev pub IsSaid : Networks → AtHand → Purpose → Mac → List ℕ → Type 0
 IsSaid networks packet Answers next bytes =
     IsAskable packet.bytes
@@ -53,7 +54,8 @@ IsSaid networks packet (Complains reason exit) next bytes =
     (complaint : Complaint) × ((complaint_of networks packet.side exit reason packet.bytes ≡ Some complaint)
     × (bytes ≡ complaint_frame (network_of networks packet.side) complaint next packet.bytes))
 
--- It is sent to the sender of its packet, who may be answered, by the next hop, at the side at which the packet came.
+-- The own frame is sent to the sender of its packet, who may be answered, by the next hop, at the side at which the
+-- packet came.
 pub record IsOwnOf (k : Known) (o : OwnFrame) : Type 0 where
   pub bytes : AreBytes o.packet.bytes
   pub sender : may_answer k.networks o.packet.side (sender_in o.packet.bytes).0 ≡ true
@@ -62,14 +64,14 @@ pub record IsOwnOf (k : Known) (o : OwnFrame) : Type 0 where
   pub hop : mac_at (back_hop k.networks o.packet.side (sender_in o.packet.bytes).0) k.moment (near_on k o.packet.side) ≡ Some next
   pub says : IsSaid k.networks o.packet o.purpose next o.sent.bytes
 
--- those of the frames that are the gateway's own
+-- the frames that are the gateway's own
 abbrev pub own_frames : Networks → List Sent → List Sent
 own_frames networks frames = filter (is_own networks) frames
 
 -- ---- exactly which
 
--- what is said of a packet, where there is something to say: nothing where the next hop isn't known, or too much was said in
--- this second
+-- the frame with a packet's complaint, if any: none where the next hop isn't known, or too many complaints were sent at
+-- that side in this second
 abbrev pub saying_to : Shown → Side → List ℕ → Option Complaint → Option Mac → List Sent
 saying_to g side bytes (Some complaint) (Some next) =
     let frame = complaint_frame (network_of g.networks side) complaint next bytes in
@@ -77,7 +79,7 @@ saying_to g side bytes (Some complaint) (Some next) =
 saying_to g side bytes (Some complaint) None = []
 saying_to g side bytes None next = []
 
--- where it is dropped, because its time to live is over or because it is too long
+-- the complaint of a packet that is dropped because its time to live is over or because it is too long
 abbrev pub own_refused : Shown → Side → Side → List ℕ → Reason → List Sent
 own_refused g side exit bytes TtlOver =
     saying_to g side bytes (complaint_of g.networks side exit TtlOver bytes) (next_back g side (sender_in bytes))
@@ -85,7 +87,7 @@ own_refused g side exit bytes TooLong =
     saying_to g side bytes (complaint_of g.networks side exit TooLong bytes) (next_back g side (sender_in bytes))
 own_refused g side exit bytes reason = []
 
--- an Echo to the gateway is answered where it is Sent
+-- the answer to an Echo that is Sent, or the complaint of an Echo that is dropped
 abbrev pub own_reply : Shown → Side → List ℕ → Result Reply Reason → List Sent
 own_reply g side bytes (Ok (reply.Send next)) =
     record { side = side; bytes = answer_frame (network_of g.networks side) next bytes } ∷ []
@@ -93,13 +95,15 @@ own_reply g side bytes (Ok (reply.Ask hop)) = []
 own_reply g side bytes (Ok (reply.AskAgain hop)) = []
 own_reply g side bytes (Err reason) = own_refused g side side bytes reason
 
+-- the complaint of a packet that is refused, or nothing
 abbrev pub own_plan : Shown → Side → List ℕ → Flow → Result Plan Reason → List Sent
 own_plan g side bytes flow (Ok plan) = []
 own_plan g side bytes flow (Err reason) =
     let way = direction_of g.networks side flow.protocol flow.source.0 flow.destination.0 in
     own_refused g side (exit_for side way) bytes reason
 
--- the own frames of one taking of a packet, which is read as this; an error that is passed on, waits or is too long says nothing
+-- the own frames of one taking of a packet, by what it is read as; an error has none, whether it is passed on, waits or
+-- is too long
 abbrev pub own_read : Shown → Side → List ℕ → Result Reading Reason → List Sent
 own_read g side bytes (Ok (Arp p)) = []
 own_read g side bytes (Ok (Advert a from)) = []
@@ -108,15 +112,16 @@ own_read g side bytes (Ok (Error packet)) = []
 own_read g side bytes (Ok (Asked echo)) = own_reply g side bytes (reply_to g side echo)
 own_read g side bytes (Err reason) = own_refused g side side bytes reason
 
+-- the own frames of one taking of a packet
 abbrev pub own_of : Shown → Side → List ℕ → List Sent
 own_of g side bytes = own_read g side bytes (reading_on g side bytes)
 
--- those of packets whose wait is over, one after another
+-- the own frames of packets whose wait is over, taken one after another
 abbrev pub all_own_of : GatewayAndOutput → List HeldPacket → List Sent
 all_own_of s [] = []
 all_own_of s (w ∷ ws) = own_of s.shown w.side w.bytes ++ all_own_of (taken_again s w) ws
 
--- From a scene to a later one: among the frames that were told more, these are the gateway's own.
+-- From a scene to a later one: the gateway's own frames among those that were added are exactly these.
 pub record SaysJust (old new : GatewayAndOutput) (own : List Sent) : Type 0 where
   pub frames : List Sent
   pub frames_are : new.told.frames ≡ old.told.frames ++ frames
@@ -124,17 +129,18 @@ pub record SaysJust (old new : GatewayAndOutput) (own : List Sent) : Type 0 wher
 
 -- ---- how much is said
 
+-- the tally after an own frame of this purpose was sent at the time `now`
 abbrev pub counted_for : Purpose → ℕ → Tally → Tally
 counted_for Answers now tally = replied now tally
 counted_for (Complains reason exit) now tally = complained now tally
 
--- the tally of a side after these were sent, one by one, at a moment
+-- the tally of a side after these own frames were sent, one by one, at the time `now`
 abbrev pub tallied : ℕ → Side → List OwnFrame → Tally → Tally
 tallied now side [] tally = tally
 tallied now side (o ∷ own) tally =
     tallied now side own (if same_side o.packet.side side then counted_for o.purpose now tally else tally)
 
--- no more was said at either side than may be in one second
+-- no more was sent at either side than may be in one second
 abbrev pub AreWithin : Shown → Type 0
 AreWithin g = IsWithin g.inside.said × IsWithin g.outside.said
 

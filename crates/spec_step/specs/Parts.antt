@@ -1,5 +1,5 @@
--- The parts of a step: what each does to a gateway and to what it has told, and the takings of the packets whose wait it
--- ended.
+-- The parts of a step: what each does to a scene (a gateway and its output), and the takings of the packets whose wait
+-- it ended.
 use Rattle.std.specs.Prelude.{ℕ, ◌+◌, Bool, not, ◌&&◌, Option, Some, None, Result, Ok, Err, List, [], ◌∷◌, ◌++◌, take, drop, if◌then◌else◌}
 use Rattle.std.specs.List.{filter}
 use Rattle.addresses.specs.declared.ethernet.Mac.{Mac}
@@ -69,17 +69,17 @@ use Rattle.spec_step.specs.Verdict.{error_hop, error_plan, exit_by, hop_back, ho
 
 -- ---- rows of the binding protocol
 
--- a row is done: the book and its lives change, a record may be pushed, and a note is made
+-- the scene after a row: the book and its lives change, a record may be pushed, and a note may be made
 abbrev pub by_row : GatewayAndOutput → Transition → GatewayAndOutput
 by_row s row = let g = s.shown in
     scene (record g { ledger = ledger_after g.moment row.change g.ledger; link = answered g.link row.answer })
     (with_notes s.told (noted_by (id_of g) g.moment row.what))
 
--- the endpoint of a packet's source wants a port
+-- the scene after the endpoint of a packet's source wished for a port
 abbrev pub wanted_by : GatewayAndOutput → Endpoint → GatewayAndOutput
 wanted_by s e = by_row s (wish_of s.shown.ledger.book (is_full s.shown.link) e).row
 
--- the pair of a key carries a packet
+-- the scene after the pair of a key carried a packet
 abbrev pub carried_by : GatewayAndOutput → Key → Carried → GatewayAndOutput
 carried_by s k p = let g = s.shown in
     scene (record g { ledger = carried_ledger k p g.ledger })
@@ -87,18 +87,21 @@ carried_by s k p = let g = s.shown in
 
 -- ---- one packet
 
--- the flags of a TCP segment; those of a UDP datagram or an ICMP query aren't read
+-- the flags of a TCP segment; for a UDP datagram or an ICMP query they aren't used
 abbrev pub flags_in : List ℕ → TcpFlags
 flags_in bytes = (segment_of (payload_of (frame_of bytes).body)).flags
 
+-- the far end of a session
 abbrev pub remote : Ip → Port → Remote
 remote address port = record { address = address; port = port }
 
+-- a packet as the session of its pair sees it
 abbrev pub carried : Remote → Way → TcpFlags → ℕ → Carried
 carried r way flags now = record { remote = r; way = way; flags = flags; at = now }
 
--- The packet as the sessions of its pairs see it. Of a hairpin the sender's pair sees the outside virtual address and the
--- port that it goes to, the other pair that address and the sender's outside port.
+-- The scene after the pairs of a packet carried it. Each pair's session sees the packet's far end: for a hairpin the
+-- sender's pair sees the outside virtual address and the port that the packet goes to, and the other pair sees that
+-- address and the sender's outside port.
 abbrev pub carried_all : GatewayAndOutput → Flow → TcpFlags → Translation → GatewayAndOutput
 carried_all s flow flags (Outward p) =
     carried_by s p.key (carried (remote flow.destination flow.destination_port) goes.Outward flags s.shown.moment)
@@ -110,20 +113,22 @@ carried_all s flow flags (Hairpin own other) =
     (carried_by s own.key (carried (remote here flow.destination_port) goes.Outward flags s.shown.moment))
     other.key (carried (remote here own.key.port) goes.Inward flags s.shown.moment)
 
--- a packet of the inside has its endpoint's pair made, or proposed, or a port wanted for it
+-- the scene after a packet of the inside had its endpoint's pair made, or proposed, or a port wanted for it
 abbrev pub wanted_for : GatewayAndOutput → Flow → Translation → GatewayAndOutput
 wanted_for s flow (Outward p) = wanted_by s (source_of flow)
 wanted_for s flow (Inward p) = s
 wanted_for s flow (Hairpin own other) = wanted_by s (source_of flow)
 
+-- the scene after a frame was sent at a side
 abbrev pub framed : GatewayAndOutput → Side → List ℕ → GatewayAndOutput
 framed s side bytes = scene s.shown (with_frame s.told side bytes)
 
--- a packet as it came, which waits for this from a moment on
+-- a packet as it came, which waits for `what` from the time `now` on
 abbrev pub waiting : Side → List ℕ → ℕ → WaitsFor → HeldPacket
 waiting side bytes now what = record { side = side; bytes = bytes; since = now; wait = what; asked = now }
 
--- a packet is kept as it came; where it waits for a next hop and 64 do, the first of these makes room
+-- the scene where a packet is kept as it came; where it waits for a next hop and 64 packets do already, the first of
+-- these is dropped
 abbrev pub keeping : GatewayAndOutput → Side → List ℕ → WaitsFor → GatewayAndOutput
 keeping s side bytes what = let g = s.shown in
     scene (record g { kept = with_room what g.kept ++ waiting side bytes g.moment what ∷ [] }) s.told
@@ -134,19 +139,20 @@ keeping s side bytes what = let g = s.shown in
 abbrev pub request_by : Shown → Side → Ip → List ℕ
 request_by g exit hop = request_frame (station_on g exit).network hop
 
--- a neighbour on a side is asked for now
+-- the gateway where a neighbour on a side is asked for now
 abbrev pub neighbour_asked : Shown → Side → Ip → Shown
 neighbour_asked g exit hop = let station = station_on g exit in
     with_station g exit (record station { neighbours = asked_at hop.0 g.moment station.neighbours })
 
--- behind a packet that was sent to it, a neighbour learnt or renewed long ago is asked for, where it wasn't just now
+-- the scene after a packet was sent to a neighbour: one that was learnt or renewed long ago is asked for, where it
+-- wasn't lately
 abbrev pub renewed_behind : GatewayAndOutput → Side → Ip → GatewayAndOutput
 renewed_behind s exit hop = let g = s.shown in
     if asks_at hop.0 g.moment (station_on g exit).neighbours
     then framed (scene (neighbour_asked g exit hop) s.told) exit (request_by g exit hop)
     else s
 
--- a next hop for which another packet waits is asked for again, where it wasn't just now
+-- the scene where a next hop for which another packet waits is asked for again, where it wasn't lately
 abbrev pub asked_again : GatewayAndOutput → Side → Ip → GatewayAndOutput
 asked_again s exit hop = let g = s.shown in let what = wait.Hop exit hop in
     if asks_again g.moment what g.kept
@@ -155,18 +161,19 @@ asked_again s exit hop = let g = s.shown in let what = wait.Hop exit hop in
 
 -- ---- plans
 
--- how many bytes a frame's packet has, and who sent it
+-- how many bytes a frame's packet has
 abbrev pub length_in : List ℕ → ℕ
 length_in bytes = (header_of (frame_of bytes).body).total_length
 
+-- who sent a frame's packet
 abbrev pub sender_in : List ℕ → Ip
 sender_in bytes = record { 0 = (header_of (frame_of bytes).body).source }
 
--- something of the gateway's own was sent at a side, and counted there
+-- the scene where a frame of the gateway's own, sent at a side, is counted there
 abbrev pub counted : GatewayAndOutput → Side → Interface → GatewayAndOutput
 counted s side station = scene (with_station s.shown side station) s.told
 
--- a plan is done
+-- the scene after a packet's plan was carried out
 abbrev pub by_plan : GatewayAndOutput → Side → List ℕ → Flow → Plan → GatewayAndOutput
 by_plan s side bytes flow (Send by next) =
     renewed_behind
@@ -182,7 +189,8 @@ by_plan s side bytes flow (AskAgain by hop) = asked_again s (exit_by by) hop
 by_plan s side bytes flow (WaitFor endpoint) =
     keeping (wanted_by s endpoint) side bytes (wait.Pair endpoint)
 
--- what is said of a packet that is dropped goes out where its next hop is known, and not too much was said in this second
+-- the scene after the complaint of a dropped packet: the complaint goes out where its next hop is known, and not too
+-- many were sent in this second
 abbrev pub complained_to : GatewayAndOutput → Side → List ℕ → Complaint → Option Mac → GatewayAndOutput
 complained_to s side bytes complaint (Some next) =
     if may_complain s.shown.moment (station_on s.shown side).said
@@ -192,12 +200,14 @@ complained_to s side bytes complaint (Some next) =
     else s
 complained_to s side bytes complaint None = s
 
+-- the scene after the complaint of a dropped packet, if there is one
 abbrev pub complained : GatewayAndOutput → Side → List ℕ → Option Complaint → GatewayAndOutput
 complained s side bytes (Some complaint) =
     complained_to s side bytes complaint (next_back s.shown side (sender_in bytes))
 complained s side bytes None = s
 
--- a packet is dropped, which would have left at `exit`: it is said where its time to live is over, or it is too long
+-- the scene after a packet was dropped that would have left at `exit`: there is a complaint where its time to live is
+-- over, or it is too long
 abbrev pub refused : GatewayAndOutput → Side → Side → List ℕ → Reason → GatewayAndOutput
 refused s side exit bytes TtlOver =
     complained s side bytes (complaint_of s.shown.networks side exit TtlOver bytes)
@@ -205,22 +215,24 @@ refused s side exit bytes TooLong =
     complained s side bytes (complaint_of s.shown.networks side exit TooLong bytes)
 refused s side exit bytes reason = s
 
--- where no port was free ports may be asked for
+-- the scene after a packet's plan was refused: where no port was free, ports may be asked for
 abbrev pub by_refusal : GatewayAndOutput → Side → List ℕ → Flow → Reason → GatewayAndOutput
 by_refusal s side bytes flow NoPort = wanted_by s (source_of flow)
 by_refusal s side bytes flow reason =
     let way = direction_of s.shown.networks side flow.protocol flow.source.0 flow.destination.0 in
     refused s side (exit_for side way) bytes reason
 
+-- the scene after the verdict on a packet was carried out: a plan, or a refusal
 abbrev pub by_verdict : GatewayAndOutput → Side → List ℕ → Flow → Result Plan Reason → GatewayAndOutput
 by_verdict s side bytes flow (Ok plan) = by_plan s side bytes flow plan
 by_verdict s side bytes flow (Err reason) = by_refusal s side bytes flow reason
 
+-- the scene after a packet was taken
 abbrev pub flow_taken : GatewayAndOutput → Side → List ℕ → Flow → GatewayAndOutput
 flow_taken s side bytes flow = by_verdict s side bytes flow (plan_of s.shown side flow (length_in bytes))
 
--- An error's plan is done: a frame, a request, or a packet more that waits. No pair is made, used, renewed or ended, nothing is noted,
--- and nothing is pushed.
+-- The scene after an error's plan was carried out: the error is sent, or it waits and its next hop is asked for, or that
+-- hop is asked for again. No pair is made, used, renewed or ended, nothing is noted, and nothing is pushed.
 abbrev pub by_error_plan : GatewayAndOutput → Side → List ℕ → ErrorFlow → Plan → GatewayAndOutput
 by_error_plan s side bytes flow (Send by next) =
     renewed_behind
@@ -234,14 +246,17 @@ by_error_plan s side bytes flow (AskAgain by hop) = asked_again s (exit_by by) h
 -- no error waits for a pair
 by_error_plan s side bytes flow (WaitFor endpoint) = s
 
+-- the scene after the verdict on an error was carried out: a plan, or a drop
 abbrev pub by_error_verdict : GatewayAndOutput → Side → List ℕ → ErrorFlow → Result Plan Reason → GatewayAndOutput
 by_error_verdict s side bytes flow (Ok plan) = by_error_plan s side bytes flow plan
 by_error_verdict s side bytes flow (Err reason) = s
 
+-- the scene after an ICMP error was taken
 abbrev pub error_taken : GatewayAndOutput → Side → List ℕ → ErrorFlow → GatewayAndOutput
 error_taken s side bytes flow = by_error_verdict s side bytes flow (error_plan s.shown side flow (length_in bytes))
 
--- An Echo to the gateway's answer is done: its Reply, a request, or a packet more that waits. It is no use of a pair either.
+-- The scene after the plan for an Echo to the gateway was carried out: the Echo is answered, or it waits and the next hop
+-- of its answer is asked for, or that hop is asked for again. An Echo is no use of a pair.
 abbrev pub by_reply : GatewayAndOutput → Side → List ℕ → Ip → Reply → GatewayAndOutput
 by_reply s side bytes source (reply.Send next) =
     renewed_behind
@@ -251,14 +266,16 @@ by_reply s side bytes source (reply.Ask hop) =
     framed (keeping s side bytes (wait.Hop side hop)) side (request_by s.shown side hop)
 by_reply s side bytes source (reply.AskAgain hop) = asked_again s side hop
 
+-- the scene after the verdict on an Echo was carried out: a plan, or a drop
 abbrev pub by_reply_verdict : GatewayAndOutput → Side → List ℕ → Ip → Result Reply Reason → GatewayAndOutput
 by_reply_verdict s side bytes source (Ok plan) = by_reply s side bytes source plan
 by_reply_verdict s side bytes source (Err reason) = refused s side side bytes reason
 
+-- the scene after an Echo to the gateway was taken
 abbrev pub echo_taken : GatewayAndOutput → Side → List ℕ → Echo → GatewayAndOutput
 echo_taken s side bytes echo = by_reply_verdict s side bytes echo.source (reply_to s.shown side echo)
 
--- a kept packet is read again from the first step on
+-- the scene after a kept packet was read again and taken
 abbrev pub retaken_by : GatewayAndOutput → Side → List ℕ → Result Reading Reason → GatewayAndOutput
 retaken_by s side bytes (Ok (Packet packet)) = flow_taken s side bytes packet.flow
 retaken_by s side bytes (Ok (Error packet)) = error_taken s side bytes packet.flow
@@ -267,26 +284,29 @@ retaken_by s side bytes (Ok (Advert a from)) = s
 retaken_by s side bytes (Ok (Asked echo)) = echo_taken s side bytes echo
 retaken_by s side bytes (Err reason) = refused s side side bytes reason
 
+-- the scene after a kept packet was taken again
 abbrev pub taken_again : GatewayAndOutput → HeldPacket → GatewayAndOutput
 taken_again s w = retaken_by s w.side w.bytes (reading_on s.shown w.side w.bytes)
 
--- one after another, in the order of keeping
+-- the scene after these kept packets were taken again, one after another, in the order in which they were kept
 abbrev pub all_taken : GatewayAndOutput → List HeldPacket → GatewayAndOutput
 all_taken s [] = s
 all_taken s (w ∷ ws) = all_taken (taken_again s w) ws
 
--- the packets whose wait is over go off the list, and are taken again
+-- the scene after the packets whose wait is over were removed from the list and taken again
 abbrev pub released : GatewayAndOutput → Ended → GatewayAndOutput
 released s ended =
     all_taken (scene (record s.shown { kept = left_by ended s.shown.kept }) s.told) (ended_by ended s.shown.kept)
 
 -- ---- ARP and VRRP
 
+-- the scene after an ARP request was answered, where it is
 abbrev pub answered_by : GatewayAndOutput → Side → ArpPacket → Option Mac → GatewayAndOutput
 answered_by s side p (Some mac) = framed s side (answer_frame (station_on s.shown side).network p mac)
 answered_by s side p None = s
 
--- the sender may be learnt, a request is answered, and whoever waited for that host waits no more
+-- the scene after an ARP packet: its sender may be learnt, a request is answered, and a packet that waited for its
+-- sender waits no more
 abbrev pub arp_taken : GatewayAndOutput → Side → ArpPacket → GatewayAndOutput
 arp_taken s side p =
     let station = station_on s.shown side in
@@ -294,11 +314,12 @@ arp_taken s side p =
     let told = answered_by heard side p (answer_to station.network (is_active station) p) in
     if is_learnable station.network p then released told (One (wait.Hop side p.sender_ip)) else told
 
+-- the scene after these frames were sent at a side, in order
 abbrev pub all_framed : GatewayAndOutput → Side → List (List ℕ) → GatewayAndOutput
 all_framed s side [] = s
 all_framed s side (frame ∷ frames) = all_framed (framed s side frame) side frames
 
--- the frames that an action sends, in order
+-- the frames that a router's action sends, in order
 abbrev pub frames_of : Interface → Action → List (List ℕ)
 frames_of station Nothing = []
 frames_of station (Advertise priority) =
@@ -308,11 +329,11 @@ frames_of station (AdvertiseAndArp priority) =
     ∷ gratuitous_frame station.network
     ∷ []
 
--- a router moved: its interface is this one, and its action's frames are sent
+-- the scene after a router's step: its interface is this one, and its action's frames are sent
 abbrev pub acted : GatewayAndOutput → Side → Interface → Action → GatewayAndOutput
 acted s side station action = all_framed (scene (with_station s.shown side station) s.told) side (frames_of station action)
 
--- the router of an interface begins (RFC 9568, section 6.4.1)
+-- the router as it begins (RFC 9568, section 6.4.1); one that has begun already stays as it is
 abbrev pub started_in : State → Router → ℕ → Router
 started_in Initialize r now = record r {
   state = Backup;
@@ -322,23 +343,25 @@ started_in Initialize r now = record r {
 started_in Backup r now = r
 started_in Active r now = r
 
+-- the interface whose router begins
 abbrev pub started : Interface → ℕ → Interface
 started s now = record s { router = started_in s.router.state s.router now }
 
--- both routers begin
+-- the gateway whose routers both begin
 abbrev pub routers_started : Shown → Shown
 routers_started g = record g { inside = started g.inside g.moment; outside = started g.outside g.moment }
 
 -- ---- cables
 
--- a side's cable is said to be in (true) or out
+-- the scene after a side's cable was said to be in (true) or out
 abbrev pub side_plugged : GatewayAndOutput → Side → Bool → GatewayAndOutput
 side_plugged s side up = let g = s.shown in
     scene (with_station g side (with_plug (station_on g side) up g.moment)) s.told
 
 -- ---- the link
 
--- a greater boot of the peer was heard: the reset, its batch, and the packets that waited for pairs
+-- the scene after a greater boot of the peer was heard: the book is reset, its batch is promised, and the packets that
+-- waited for pairs are taken again
 abbrev pub reset : GatewayAndOutput → GatewayAndOutput
 reset s = let g = s.shown in let book = g.ledger.book in
     released
@@ -346,7 +369,7 @@ reset s = let g = s.shown in let book = g.ledger.book in
     (with_notes s.told (restart_notes book g.moment)))
     AllPairs
 
--- the gateway became synced by this record
+-- whether the gateway became synced between the two
 abbrev pub has_synced : Shown → Shown → Bool
 has_synced g g2 = not (is_synced g.ledger.book.stage) && is_synced g2.ledger.book.stage
 
@@ -354,7 +377,7 @@ has_synced g g2 = not (is_synced g.ledger.book.stage) && is_synced g2.ledger.boo
 abbrev pub with_routers : Shown → Shown → Shown
 with_routers g g2 = if has_synced g g2 && is_running g2 then routers_started g2 else g2
 
--- a record is taken
+-- the gateway after a record was taken
 abbrev pub record_shown : Shown → Record → Shown
 record_shown g r = let book = g.ledger.book in
     with_routers g (record g {
@@ -362,44 +385,52 @@ record_shown g r = let book = g.ledger.book in
       link = answered g.link (taken_answer book (rests_for g.moment g.ledger r) r);
     })
 
+-- the output after a record was taken
 abbrev pub record_told : Shown → Record → Output → Output
 record_told g r told = let book = g.ledger.book in
     with_notes told (noted_by (id_of g) g.moment (taken_what book (rests_for g.moment g.ledger r) r))
 
+-- the scene after the packets that waited for the endpoint's pair were taken again
 abbrev pub wait_ended : Option Endpoint → GatewayAndOutput → GatewayAndOutput
 wait_ended None s = s
 wait_ended (Some e) s = released s (One (wait.Pair e))
 
+-- the scene after a record was taken, with the packets whose wait it ended
 abbrev pub record_done : GatewayAndOutput → Record → GatewayAndOutput
 record_done s r = let g = s.shown in
     wait_ended (taken_ended g.ledger.book (rests_for g.moment g.ledger r) r)
     (scene (record_shown g r) (record_told g r s.told))
 
+-- the scene after these records were taken, one after another
 abbrev pub records_done : GatewayAndOutput → List Record → GatewayAndOutput
 records_done s [] = s
 records_done s (r ∷ rs) = records_done (record_done s r) rs
 
+-- the scene with another end of the link
 abbrev pub with_link : GatewayAndOutput → Link → GatewayAndOutput
 with_link s e = scene (record s.shown { link = e }) s.told
 
--- a datagram is heard: a greater boot's reset, then each record
+-- the scene after a datagram was heard: a greater boot's reset, then each record
 abbrev pub heard_by : GatewayAndOutput → Datagram → GatewayAndOutput
 heard_by s d = let e = s.shown.link in
     let after = with_link s (after_take e d s.shown.moment) in
     records_done (if is_restart e d then reset after else after) (records_taken e d)
 
+-- the scene after a datagram that is let through was heard; one that is not changes nothing
 abbrev pub heard_unless : GatewayAndOutput → Datagram → Option LinkFault → GatewayAndOutput
 heard_unless s d None = heard_by s d
 heard_unless s d (Some fault) = s
 
+-- the scene after a datagram that was read; bytes that are no datagram change nothing
 abbrev pub datagram_read : GatewayAndOutput → Result Datagram LinkFault → GatewayAndOutput
 datagram_read s (Ok d) = heard_unless s d (refusal s.shown.link d)
 datagram_read s (Err fault) = s
 
+-- the scene after these bytes came over the link
 abbrev pub datagram_taken : GatewayAndOutput → List ℕ → GatewayAndOutput
 datagram_taken s bytes = datagram_read s (reading bytes)
 
--- the operator's word is taken: the session ends, pairs are revived, and the gateway is alone
+-- the scene after the operator's word was taken: the session ends, pairs are revived, and the gateway is lone
 abbrev pub word_taken : GatewayAndOutput → ℕ → GatewayAndOutput
 word_taken s n = let g = s.shown in let book = g.ledger.book in
     released
@@ -409,26 +440,28 @@ word_taken s n = let g = s.shown in let book = g.ledger.book in
 
 -- ---- a tick's own parts
 
--- an idle pair is let go: alone it is dropped, else its owner asks, where the peer was heard lately and the link isn't full
+-- the scene after an idle pair was let go: a lone gateway drops it, else its owner asks, where the peer was heard
+-- lately and the link isn't full
 abbrev pub idle_done : GatewayAndOutput → Key → GatewayAndOutput
 idle_done s k = let g = s.shown in
     by_row s (idle_row g.ledger.book (may_ask g.moment g.link) k)
 
+-- the scene after the idle pairs of these keys were let go, one after another
 abbrev pub all_idle_done : GatewayAndOutput → List Key → GatewayAndOutput
 all_idle_done s [] = s
 all_idle_done s (k ∷ ks) = all_idle_done (idle_done s k) ks
 
--- the idle pairs of a moment, by protocol and port
+-- the scene after the idle pairs of this time were let go, in the order of protocol and port
 abbrev pub idle_taken : GatewayAndOutput → GatewayAndOutput
 idle_taken s = let l = s.shown.ledger in all_idle_done s (idle_keys_in (is_lone l.book.stage) s.shown.moment l.book.entries l.lives)
 
--- kept packets of 300 centiseconds and more are dropped
+-- the scene after kept packets of 300 centiseconds and more were dropped
 abbrev pub old_dropped : GatewayAndOutput → GatewayAndOutput
 old_dropped s = scene (record s.shown { kept = filter (is_young s.shown.moment) s.shown.kept }) s.told
 
 -- ---- the datagram at a step's end
 
--- what the link wants of a promised batch is handed in
+-- the gateway after the records of a promised batch that the link has places for were fed to it
 abbrev pub handed_in : Shown → Shown
 handed_in g = let book = g.ledger.book in let n = wanted g.link in
     record g {
@@ -436,23 +469,26 @@ handed_in g = let book = g.ledger.book in let n = wanted g.link in
       link = with_fed g.link (take n book.coming);
     }
 
+-- the bytes of the datagram that is due
 abbrev pub datagram_in : Shown → List ℕ
 datagram_in g = spelling (datagram_of (serves g) g.link)
 
--- the datagram that is due at the end of a step
+-- the scene after the datagram that is due at the end of a step, if one is
 abbrev pub answer_sent : Shown → Output → GatewayAndOutput
 answer_sent g told =
     scene (record g { link = sent_on_answer g.link }) (if g.link.due then with_datagram told (datagram_in g) else told)
 
+-- the scene after the end of a step: the batch is fed, and the datagram that is due is sent
 abbrev pub link_answered : GatewayAndOutput → GatewayAndOutput
 link_answered s = answer_sent (handed_in s.shown) s.told
 
--- and at the end of a tick
+-- the scene after the datagram that is due at the end of a tick, if one is
 abbrev pub tick_sent : Shown → Output → GatewayAndOutput
 tick_sent g told =
     if is_due_on_tick g.link g.moment
     then scene (record g { link = sent_on_tick g.link g.moment }) (with_datagram told (datagram_in g))
     else scene g told
 
+-- the scene after the end of a tick: the batch is fed, and the datagram that is due is sent
 abbrev pub link_ticked : GatewayAndOutput → GatewayAndOutput
 link_ticked s = tick_sent (handed_in s.shown) s.told

@@ -1,5 +1,6 @@
--- Errors passed on, and Own answers: the error frames of a step are, one for one and in order, errors at hand with addresses and ports
--- replaced, by pairs that translate there; what an error sent outward hides; and that an error is no use of its pairs.
+-- Errors passed on, and Own answers. The error frames of a step are, one for one and in order, errors at hand with
+-- addresses and ports replaced, by pairs that translate there. An error sent outward hides inside addresses, and an
+-- error is no use of its pairs.
 use Rattle.std.specs.Prelude.{◌≡◌, Some, List, not, ◌&&◌, ◌++◌, map}
 use Rattle.std.specs.List.{AllByRecursion, filter, flat_map}
 use Rattle.std.specs.List.Sorted.{IsPermutation}
@@ -20,8 +21,8 @@ use Rattle.spec_step.specs.Shown.{GatewayAndOutput, Shown}
 use Rattle.spec_step.specs.Truly.{AreSent, AtHand, Known, Sending, is_own, known_of, near_on, packets_of, translated_frames, used_pairs}
 use Rattle.spec_step.specs.Verdict.{exit_by}
 
--- The frame is the error passed on: it goes the way that the rules say, by its pairs, by all of which packets may go, to its
--- next hop, at the side at which it leaves.
+-- The frame is the error passed on: it goes the way that the rules say, by its pairs, by all of which packets may go,
+-- to its next hop, at the side at which it leaves.
 pub record IsPassedOn (k : Known) (may : Pair → Type 0) (packet : AtHand) (by : Translation) (sent : Sent) : Type 0 where
   pub goes : IsErrorBy k.networks packet by
   pub translate : AllByRecursion may (pairs_of by)
@@ -30,17 +31,19 @@ pub record IsPassedOn (k : Known) (may : Pair → Type 0) (packet : AtHand) (by 
   pub hop : mac_at (hop_of k.networks by (error_flow_in packet.bytes).destination.0) k.moment (near_on k (exit_by by)) ≡ Some next
   pub bytes_are : sent.bytes ≡ passed_frame k.networks by next packet.bytes
 
+-- each of these sendings is an error passed on
 abbrev pub ArePassedOn : Known → (Pair → Type 0) → List Sending → Type 0
 ArePassedOn k may passed = AllByRecursion (λ d. IsPassedOn k may d.packet d.by d.sent) passed
 
--- those of the frames that are errors, and none of the gateway's own
+-- the frames that are errors, without the gateway's own
 abbrev pub error_frames : Networks → List Sent → List Sent
 error_frames networks frames = filter (λ f. not (is_own networks f) && is_error_frame f.bytes) frames
 
--- From a scene to a later one, with these packets in hand: what was told more, errors among it, and what the gateway said
--- itself. Beside the packets that were translated, as `Tells` has them, stand the errors that were passed on, and the packets
--- that were answered or complained of: others of those at hand or kept before, each once, and none of them is kept afterwards.
--- The gateway translated by the errors' pairs before, or takes them up on the way. What it says is counted at its side.
+-- From a scene to a later one, with the packets `hand` at hand: what was added to the output, with the errors and the
+-- gateway's own frames. `Tells` says it of the packets that were translated. The errors that were passed on, and the
+-- packets that were answered or complained of, are others of those at hand or kept before, each once, and none is kept
+-- afterwards. The gateway translated by the errors' pairs before, or takes them up in the step. Each own frame is
+-- counted at its side.
 pub record TellsAll (hand : List AtHand) (old new : GatewayAndOutput) : Type 0 where
   pub frames : List Sent
   pub frames_are : new.told.frames ≡ old.told.frames ++ frames
@@ -63,20 +66,20 @@ pub record TellsAll (hand : List AtHand) (old new : GatewayAndOutput) : Type 0 w
       (map (λ d. d.packet) done ++ (map (λ d. d.packet) passed
       ++ (map (λ o. o.packet) own ++ (dropped ++ packets_of new.shown.kept))))
 
--- in each error among these frames that was sent outward the source, and the destination of the packet inside, are the
+-- in each error among these frames that was sent outward, the source, and the destination of the packet inside, are the
 -- outside virtual address
 abbrev pub HidesAllInside : Networks → List Sent → Type 0
 HidesAllInside networks frames =
     AllByRecursion (λ f. f.side ≡ Outside → HidesInside networks.outside.interface.virtual_ip.0 f.bytes) (error_frames networks frames)
 
--- no pair is made, used, renewed or ended from a scene to a later one, and nothing is noted, pushed or sent to the peer
+-- from a scene to a later one no pair is made, used, renewed or ended, and nothing is noted, pushed or sent to the peer
 pub record LeavesPairs (old new : GatewayAndOutput) : Type 0 where
   pub ledger : new.shown.ledger ≡ old.shown.ledger
   pub link : new.shown.link ≡ old.shown.link
   pub notes : new.told.notes ≡ old.told.notes
   pub datagrams : new.told.datagrams ≡ old.told.datagrams
 
--- nothing of a gateway changes but how much was said at its sides, and when neighbours were last asked for
+-- of a gateway only the counts of its own frames and the times at which neighbours were last asked for change
 pub record ChangesLittle (old new : Shown) : Type 0 where
   pub known : known_of new ≡ known_of old
   pub stopped : new.stopped ≡ old.stopped

@@ -1,4 +1,4 @@
--- What a step notes, and that the gateway's ledger accounts for it.
+-- The notes of a step, and the gateway's ledger that accounts for them.
 use Rattle.std.specs.Prelude.{◌≡◌, ℕ, ◌+◌, ◌*◌, List, ◌++◌, length, reverse}
 use Rattle.std.specs.List.{AllByRecursion}
 use Rattle.nat_types.specs.declared.gateways.GatewayId.{GatewayId}
@@ -6,7 +6,7 @@ use Rattle.nat_types.specs.declared.notes.Note.{Note}
 use Rattle.spec_binding.specs.Uses.{Accounts}
 use Rattle.spec_step.specs.Shown.{GatewayAndOutput, Shown, id_of}
 
--- each note is by this gateway, at this moment
+-- each of these notes is by this gateway, at this time
 abbrev pub AreBy : GatewayId → ℕ → List Note → Type 0
 AreBy id now notes = AllByRecursion (λ n. (n.by ≡ id) × (n.at ≡ now)) notes
 
@@ -14,8 +14,9 @@ AreBy id now notes = AllByRecursion (λ n. (n.by ≡ id) × (n.at ≡ now)) note
 abbrev pub AccountsOn : Shown → List Note → Type 0
 AccountsOn g notes = Accounts g.moment g.ledger notes
 
--- From a scene to a later one of the same gateway: the notes that were told more, each its own, at the moment of its clock
--- then; and whatever trace its ledger accounted for, it accounts for that trace with these notes behind it.
+-- From a scene to a later one of the same gateway: the notes that were added are the gateway's own, at the time of its
+-- clock in the later scene. Each trace that the ledger accounted for is accounted for with these notes added as the
+-- newest.
 pub record Rests (old new : GatewayAndOutput) : Type 0 where
   pub notes : List Note
   pub notes_are : new.told.notes ≡ old.told.notes ++ notes
@@ -23,8 +24,9 @@ pub record Rests (old new : GatewayAndOutput) : Type 0 where
   pub id : id_of new.shown ≡ id_of old.shown
   pub accounts : (before : List Note) → AccountsOn old.shown before → AccountsOn new.shown (reverse notes ++ before)
 
--- No step makes more notes: one for each entry that is revived or let go; of each kept packet that is taken again three;
--- and of each of 64 records one, and then of the packets that it frees.
+-- The most notes that a step makes: one for each entry that is revived or let go, three for each kept packet that is
+-- taken again, three for the event's own packet, and for each of 64 records one, and three for each kept packet that it
+-- may free.
 abbrev pub most_notes : Shown → ℕ
 most_notes g =
     let freed = 3 * length g.kept in

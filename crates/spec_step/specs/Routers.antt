@@ -1,4 +1,4 @@
--- What the routers of a gateway do.
+-- The steps of a gateway's routers.
 use Rattle.std.specs.Prelude.{◌≡◌}
 use Rattle.nat_types.specs.declared.gateways.Side.{Side}
 use Rattle.nat_types.specs.declared.gateways.Side.TheVariants.{Inside, Outside}
@@ -15,7 +15,7 @@ pub record RouterActs (s : GatewayAndOutput) (side : Side) (event : RouterEvent)
   pub step : IsRouterStep (station_on s.shown side) event s.shown.moment action station
   pub is : s2 ≡ acted s side station action
 
--- both routers, that of the inside first
+-- both routers take that step, the router of the inside first
 pub record BothAct (s : GatewayAndOutput) (event : RouterEvent) (s2 : GatewayAndOutput) : Type 0 where
   pub between : GatewayAndOutput
   pub inside : RouterActs s Inside event between

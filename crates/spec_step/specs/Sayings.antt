@@ -1,4 +1,4 @@
--- The own frames of a whole step: those of the takings that it has, in their order.
+-- The own frames of a whole step: those of its takings, in their order.
 use Rattle.std.specs.Prelude.{ℕ, Option, Some, None, Result, Ok, Err, List, [], ◌∷◌, ◌++◌, if◌then◌else◌}
 use Rattle.nat_types.specs.declared.gateways.Side.{Side}
 use Rattle.nat_types.specs.declared.pairs.Endpoint.{Endpoint}
@@ -29,12 +29,13 @@ use Rattle.spec_step.specs.Shown.{GatewayAndOutput, id_of, scene, station_on, wi
 use Rattle.spec_step.specs.Steps.{word_refusal}
 use Rattle.spec_step.specs.Verdict.{reading_on}
 
--- of the packets whose wait is over
+-- the own frames of the packets whose wait is over
 abbrev pub own_released : GatewayAndOutput → Ended → List Sent
 own_released s ended =
     all_own_of (scene (record s.shown { kept = left_by ended s.shown.kept }) s.told) (ended_by ended s.shown.kept)
 
--- of an ARP packet: of those that waited for its sender, where that may be learnt
+-- the own frames at an ARP packet: of the packets that waited for its sender, where the sender may
+-- be learnt
 abbrev pub own_arp : GatewayAndOutput → Side → ArpPacket → List Sent
 own_arp s side p =
     let station = station_on s.shown side in
@@ -42,7 +43,7 @@ own_arp s side p =
     let told = answered_by heard side p (answer_to station.network (is_active station) p) in
     if is_learnable station.network p then own_released told (One (wait.Hop side p.sender_ip)) else []
 
--- of a frame: of its own packet, or of an ARP packet
+-- the own frames at a frame: of its own packet, or at its ARP packet
 abbrev pub own_framed : GatewayAndOutput → Side → List ℕ → Result Reading Reason → List Sent
 own_framed s side bytes (Ok (Arp p)) = own_arp s side p
 own_framed s side bytes (Ok (Advert a from)) = []
@@ -51,21 +52,23 @@ own_framed s side bytes (Ok (Error packet)) = []
 own_framed s side bytes (Ok (Asked echo)) = own_read s.shown side bytes (Ok (Asked echo))
 own_framed s side bytes (Err reason) = own_read s.shown side bytes (Err reason)
 
--- of records: of those that waited for the pairs that they answer
+-- the own frames at the end of a wait: of the packets that waited for the endpoint's pair
 abbrev pub own_ended : Option Endpoint → GatewayAndOutput → List Sent
 own_ended None s = []
 own_ended (Some e) s = own_released s (One (wait.Pair e))
 
+-- the own frames at a record: of the packets whose wait it ends
 abbrev pub own_record : GatewayAndOutput → Record → List Sent
 own_record s r = let g = s.shown in
     own_ended (taken_ended g.ledger.book (rests_for g.moment g.ledger r) r)
     (scene (record_shown g r) (record_told g r s.told))
 
+-- the own frames at records, one after another
 abbrev pub own_records : GatewayAndOutput → List Record → List Sent
 own_records s [] = []
 own_records s (r ∷ rs) = own_record s r ++ own_records (record_done s r) rs
 
--- of a greater boot, and of the operator's word: of all that waited for pairs
+-- the own frames at a greater boot of the peer: of all packets that waited for pairs
 abbrev pub own_reset : GatewayAndOutput → List Sent
 own_reset s = let g = s.shown in let book = g.ledger.book in
     own_released
@@ -73,6 +76,7 @@ own_reset s = let g = s.shown in let book = g.ledger.book in
     (with_notes s.told (restart_notes book g.moment)))
     AllPairs
 
+-- the own frames at a datagram that is let through, or none
 abbrev pub own_heard : GatewayAndOutput → Datagram → Option LinkFault → List Sent
 own_heard s d None = let e = s.shown.link in
     let after = with_link s (after_take e d s.shown.moment) in
@@ -80,10 +84,12 @@ own_heard s d None = let e = s.shown.link in
     else own_records after (records_taken e d)
 own_heard s d (Some fault) = []
 
+-- the own frames at a datagram, where it is read
 abbrev pub own_datagram : GatewayAndOutput → Result Datagram LinkFault → List Sent
 own_datagram s (Ok d) = own_heard s d (refusal s.shown.link d)
 own_datagram s (Err fault) = []
 
+-- the own frames at the operator's word, where it is taken: of all packets that waited for pairs
 abbrev pub own_word : GatewayAndOutput → ℕ → Option Reason → List Sent
 own_word s n None = let g = s.shown in let book = g.ledger.book in
     own_released
@@ -92,7 +98,7 @@ own_word s n None = let g = s.shown in let book = g.ledger.book in
     AllPairs
 own_word s n (Some reason) = []
 
--- of an event; a tick, a stop and the word of a side have none
+-- the own frames at an event; a tick, a stop and the state of a side's cable have none
 abbrev pub own_in : GatewayAndOutput → Event → List Sent
 own_in s (Frame side bytes) = own_framed s side bytes.now (reading_on s.shown side bytes.now)
 own_in s (Comes bytes) = own_datagram s (reading bytes.now)

@@ -8,12 +8,13 @@ use Rattle.spec_step.specs.Shown.{Shown, is_running}
 abbrev pub AreIdle : Shown → Type 0
 AreIdle g = (g.inside.router.state ≡ Initialize) × (g.outside.router.state ≡ Initialize)
 
--- neither router is
+-- neither router is in Initialize
 abbrev pub HaveBegun : Shown → Type 0
 HaveBegun g = (g.inside.router.state ≡ Initialize → ⊥) × (g.outside.router.state ≡ Initialize → ⊥)
 
--- Its routers have begun where it runs and are idle where it doesn't, its link owes no datagram, and of the packets that it
--- keeps at most 64 wait for pairs and 64 for next hops, no two for the same.
+-- A gateway is settled: its routers have begun where it runs and are in Initialize where it doesn't, its link owes no
+-- datagram, and of the packets that it keeps at most 64 wait for pairs and at most 64 for next hops, no two for the
+-- same.
 pub record IsSettled (g : Shown) : Type 0 where
   pub running : is_running g ≡ true → HaveBegun g
   pub idle : is_running g ≡ false → AreIdle g

@@ -1,4 +1,6 @@
--- What a gateway shows, and what it has told.
+-- What a gateway shows of itself, and its output. A scene is a gateway with its output: the frames, the datagrams and
+-- the notes that it has told so far. A later scene has the same output and more. A life lasts from a boot, or from the
+-- founding, to the next boot.
 use Rattle.std.specs.Prelude.{ℕ, Bool, not, ◌&&◌, List, ◌++◌}
 use Rattle.nat_types.specs.declared.gateways.GatewayId.{GatewayId}
 use Rattle.nat_types.specs.declared.gateways.Side.{Side}
@@ -13,8 +15,9 @@ use Rattle.interfaces.specs.Stations.{Interface}
 use Rattle.waiting.specs.Packets.{HeldPacket}
 use Rattle.output.specs.Output.{Output}
 
--- Its networks, its clock's moment, whether it was stopped, whether it is away (it gave way to the other gateway), its book
--- with what the pairs carried, its end of the link, its two interfaces, and the packets that wait.
+-- The parts of a gateway that its contract speaks of: its networks, the time of its clock in centiseconds, whether it
+-- was stopped, whether it is away (it gave way to the other gateway), its ledger (the book and the lives of its pairs),
+-- its end of the link, its two interfaces, and the packets that wait.
 pub record Shown : Type 0 where
   pub networks : Networks
   pub moment : ℕ
@@ -26,26 +29,27 @@ pub record Shown : Type 0 where
   pub outside : Interface
   pub kept : List HeldPacket
 
+-- which of the two gateways it is
 abbrev pub id_of : Shown → GatewayId
 id_of g = g.ledger.book.id
 
--- frames are taken by a gateway that is synced and wasn't stopped
+-- whether the gateway takes frames: it is synced and wasn't stopped
 abbrev pub is_up : Shown → Bool
 is_up g = is_synced g.ledger.book.stage && not g.stopped
 
--- its routers run where it is up and isn't away
+-- whether its routers run: it is up and isn't away
 abbrev pub is_running : Shown → Bool
 is_running g = is_up g && not g.away
 
--- the cable of one side or of both is out
+-- whether the cable of one side or of both is out
 abbrev pub has_side_out : Shown → Bool
 has_side_out g = not (is_in g.inside.cable && is_in g.outside.cable)
 
--- both sides are whole
+-- whether both sides are whole
 abbrev pub is_whole : Shown → Bool
 is_whole g = is_whole_at g.inside.cable g.moment && is_whole_at g.outside.cable g.moment
 
--- what its datagrams say of it: it could serve on both sides
+-- whether it could serve on both sides, as its datagrams say
 abbrev pub serves : Shown → Bool
 serves g = is_synced g.ledger.book.stage && is_whole g
 
@@ -54,18 +58,20 @@ abbrev pub station_on : Shown → Side → Interface
 station_on g Inside = g.inside
 station_on g Outside = g.outside
 
+-- the gateway with another interface on a side
 abbrev pub with_station : Shown → Side → Interface → Shown
 with_station g Inside s = record g { inside = s }
 with_station g Outside s = record g { outside = s }
 
--- a gateway and what it has told
+-- a scene: a gateway with its output, which is what it has told
 pub record GatewayAndOutput : Type 0 where
   pub shown : Shown
   pub told : Output
 
+-- the scene of a gateway with this output
 abbrev pub scene : Shown → Output → GatewayAndOutput
 scene g told = record { shown = g; told = told }
 
--- notes more
+-- the output with more notes
 abbrev pub with_notes : Output → List Note → Output
 with_notes told notes = record told { notes = told.notes ++ notes }

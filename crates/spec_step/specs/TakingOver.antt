@@ -1,4 +1,4 @@
--- Taking over: what a gateway does on a side where no advertisement comes any more.
+-- Taking over: what a gateway does on a side on which it hears no advertisement any more.
 use Rattle.std.specs.Prelude.{◌≡◌, ℕ, Bool, true, false, ◌&&◌, Some, Result, Ok, Err, List, [], ◌∷◌}
 use Rattle.nat_types.specs.declared.gateways.Side.{Side}
 use Rattle.interfaces.specs.Stations.{same_side}
@@ -18,12 +18,12 @@ use Rattle.spec_step.specs.Verdict.{reading_on}
 abbrev pub router_on : Shown → Side → Router
 router_on g side = (station_on g side).router
 
--- it is in Backup, and its Active_Down_Timer is due at a moment (RFC 9568, section 6.4.2)
+-- the router on a side is in Backup, and its Active_Down_Timer is due at the time `due` (RFC 9568, section 6.4.2)
 abbrev pub IsBehind : Shown → Side → ℕ → Type 0
 IsBehind g side due =
     ((router_on g side).state ≡ Backup) × ((router_on g side).active_down_timer ≡ Some due)
 
--- what was read is an advertisement of the virtual router
+-- whether a frame was read as an advertisement of the virtual router
 abbrev pub is_advert : Result Reading Reason → Bool
 is_advert (Ok (Arp p)) = false
 is_advert (Ok (Advert a from)) = true
@@ -32,7 +32,7 @@ is_advert (Ok (Error packet)) = false
 is_advert (Ok (Asked echo)) = false
 is_advert (Err reason) = false
 
--- an advertisement is heard on a side
+-- whether an event is an advertisement that is heard on a side
 abbrev pub hears_on : Side → Shown → Event → Bool
 hears_on side g (Frame at bytes) = same_side at side && is_advert (reading_on g at bytes.now)
 hears_on side g (Datagram bytes) = false
@@ -41,7 +41,7 @@ hears_on side g Stop = false
 hears_on side g (PeerOff n) = false
 hears_on side g (SideIs at up) = false
 
--- one of this priority and this interval is
+-- the frame was read as an advertisement with this priority and this interval
 abbrev pub IsAdvertOf : ℕ → ℕ → Result Reading Reason → Type 0
 IsAdvertOf priority interval (Ok (Arp p)) = ⊥
 IsAdvertOf priority interval (Ok (Advert a from)) =
@@ -51,6 +51,7 @@ IsAdvertOf priority interval (Ok (Error packet)) = ⊥
 IsAdvertOf priority interval (Ok (Asked echo)) = ⊥
 IsAdvertOf priority interval (Err reason) = ⊥
 
+-- the event is an advertisement on a side, with this priority and this interval
 abbrev pub HearsAdvert : Side → Shown → Event → ℕ → ℕ → Type 0
 HearsAdvert side g (Frame at bytes) priority interval =
     (at ≡ side) × IsAdvertOf priority interval (reading_on g at bytes.now)
@@ -60,8 +61,8 @@ HearsAdvert side g Stop priority interval = ⊥
 HearsAdvert side g (PeerOff n) priority interval = ⊥
 HearsAdvert side g (SideIs at up) priority interval = ⊥
 
--- A step, whatever event it takes and whatever was told before: no advertisement is heard on that side, and the gateway runs
--- afterwards (it is synced, wasn't stopped and isn't away).
+-- A step, for any event and any output before, at which no advertisement is heard on the side, and after which the
+-- gateway runs (it is synced, wasn't stopped and isn't away).
 pub record IsSilentStep (g : Shown) (side : Side) (event : Event) (new : Shown) : Type 0 where
   pub before : Output
   pub after : Output
@@ -69,7 +70,7 @@ pub record IsSilentStep (g : Shown) (side : Side) (event : Event) (new : Shown) 
   pub silent : hears_on side g event ≡ false
   pub runs : is_running new ≡ true
 
--- such steps, one behind the other
+-- such steps, one after the other
 abbrev pub AreSilentSteps : Shown → Side → List Event → Shown → Type 0
 AreSilentSteps g side [] g2 = g2 ≡ g
 AreSilentSteps g side (event ∷ events) g2 =

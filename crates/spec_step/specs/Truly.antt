@@ -1,5 +1,5 @@
--- Told truly: the translated frames of a step are, one for one and in order, translations of different packets at hand, by
--- the pairs that the step's Used notes name.
+-- Told truly: the translated frames of a step are, one for one and in order, translations of different packets at hand,
+-- by the pairs that the step's Used notes name. The packets at hand are the event's own packet and the kept packets.
 use Rattle.std.specs.Prelude.{◌≡◌, ℕ, Bool, not, ◌&&◌, List, [], ◌∷◌, ◌++◌, map, Some, Ok}
 use Rattle.std.specs.List.{filter, flat_map}
 use Rattle.std.specs.List.Sorted.{IsPermutation}
@@ -29,7 +29,7 @@ use Rattle.spec_step.specs.declared.events.Event.TheVariants.{Frame, Datagram, T
 use Rattle.spec_step.specs.Shown.{GatewayAndOutput, Shown}
 use Rattle.spec_step.specs.Verdict.{exit_by}
 
--- the pair that was used, if the note says so
+-- the pair that a note says was used, if it does
 abbrev pub used_in : NoteKind → List Pair
 used_in (Used pair) = pair ∷ []
 used_in (Released pair) = []
@@ -38,16 +38,16 @@ used_in Synced = []
 used_in Crashed = []
 used_in (Booted number) = []
 
--- the pairs of the Used notes, in order
+-- the pairs of the Used notes, in the order of the notes
 abbrev pub used_pairs : List Note → List Pair
 used_pairs notes = flat_map (λ note. used_in note.what) notes
 
--- a packet at hand: where it came in, and as it came
+-- a packet at hand: the side where it came in, and its frame's bytes as they came
 pub record AtHand : Type 0 where
   pub side : Side
   pub bytes : List ℕ
 
--- the packet of an event
+-- the packet that an event brings, if any
 abbrev pub hand_of : Event → List AtHand
 hand_of (Frame side bytes) = record { side = side; bytes = bytes.now } ∷ []
 hand_of (Datagram bytes) = []
@@ -56,21 +56,22 @@ hand_of Stop = []
 hand_of (PeerOff n) = []
 hand_of (SideIs side up) = []
 
--- kept packets, as they came
+-- the packets at hand for kept packets, as they came
 abbrev pub packets_of : List HeldPacket → List AtHand
 packets_of kept = map (λ w. record { side = w.side; bytes = w.bytes }) kept
 
--- neighbours, but for when they were last asked for
+-- the neighbours without the times at which they were last asked for
 abbrev pub unasked : Neighbours → Neighbours
 unasked known = record known { learnt = map (λ (e : CacheEntry). record e { asked = 0 }) known.learnt }
 
--- what decides where a translated packet goes, and what the gateway says itself
+-- what decides where a translated packet goes and what the gateway says itself
 pub record Known : Type 0 where
   pub networks : Networks
   pub moment : ℕ
   pub near_inside : Neighbours
   pub near_outside : Neighbours
 
+-- what a gateway knows of that
 abbrev pub known_of : Shown → Known
 known_of g = record {
   networks = g.networks;
@@ -79,12 +80,13 @@ known_of g = record {
   near_outside = unasked g.outside.neighbours;
 }
 
+-- the neighbours on a side
 abbrev pub near_on : Known → Side → Neighbours
 near_on k Inside = k.near_inside
 near_on k Outside = k.near_outside
 
--- Outward it is the pair whose endpoint is the packet's source, inward the one whose key is its protocol and destination
--- port; for a hairpin both, in this order.
+-- The pairs of a packet's translation: outward the pair whose endpoint is the packet's source, inward the pair whose
+-- key is its protocol and destination port, for a hairpin both, in this order.
 abbrev pub AreItsPairs : Flow → Translation → Type 0
 AreItsPairs flow (Outward p) = p.endpoint ≡ source_of flow
 AreItsPairs flow (Inward p) = p.key ≡ target_of flow
@@ -101,26 +103,27 @@ pub record IsSentBy (k : Known) (packet : AtHand) (by : Translation) (sent : Sen
   pub hop : mac_at (hop_of k.networks by (flow_in packet.bytes).destination.0) k.moment (near_on k (exit_by by)) ≡ Some next
   pub bytes_are : sent.bytes ≡ sent_frame k.networks by next packet.bytes
 
--- one sending: of which packet, by what, and the frame
+-- a sending: the packet, its translation, and the frame that was sent
 pub record Sending : Type 0 where
   pub packet : AtHand
   pub by : Translation
   pub sent : Sent
 
+-- each of these sendings is a packet's translation
 abbrev pub AreSent : Known → List Sending → Type 0
 AreSent k [] = Unit {0}
 AreSent k (d ∷ ds) = IsSentBy k d.packet d.by d.sent × AreSent k ds
 
--- a frame that a gateway of these networks sent says something of its own
+-- whether a frame that was sent is the gateway's own, in these networks
 abbrev pub is_own : Networks → Sent → Bool
 is_own networks f = is_own_frame networks f.side f.bytes
 
--- those of the frames whose packet was translated
+-- the frames whose packet was translated
 abbrev pub translated_frames : Networks → List Sent → List Sent
 translated_frames networks frames = filter (λ f. not (is_own networks f) && is_translation f.side f.bytes) frames
 
--- From a scene to a later one, with these packets in hand: what was told more. Each packet at hand or kept before is sent
--- once, or dropped, or kept afterwards.
+-- From a scene to a later one, with the packets `hand` at hand: what was added to the output is told truly. Each packet
+-- at hand or kept before is sent once, or dropped, or kept afterwards.
 pub record Tells (hand : List AtHand) (old new : GatewayAndOutput) : Type 0 where
   pub frames : List Sent
   pub frames_are : new.told.frames ≡ old.told.frames ++ frames
@@ -134,13 +137,13 @@ pub record Tells (hand : List AtHand) (old new : GatewayAndOutput) : Type 0 wher
   pub once : IsPermutation (hand ++ packets_of old.shown.kept)
       (map (λ d. d.packet) done ++ (dropped ++ packets_of new.shown.kept))
 
--- networks whose addresses are placed, and the two interfaces that stand in them
+-- the addresses of the networks are placed, and the two interfaces are in these networks
 pub record IsHouse (networks : Networks) (inside outside : Network) : Type 0 where
   pub placed : IsPlaced networks
   pub inside_is : inside ≡ networks.inside
   pub outside_is : outside ≡ networks.outside
 
--- all hardware addresses that a gateway knows have six bytes, and its interfaces stand in its networks
+-- all hardware addresses that a gateway knows have six bytes, and its interfaces are in its networks
 abbrev pub IsSetUp : Shown → Type 0
 IsSetUp g =
     (IsWired g.networks × IsHouse g.networks g.inside.network g.outside.network)

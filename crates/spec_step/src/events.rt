@@ -1,35 +1,36 @@
-//! What a gateway is handed, and what it answers.
+//! The event that a step of a gateway takes, and its outcome.
 
 use nat_types::Side;
 use packet_rules::Reason;
 
-/// What a gateway is handed.
+/// An event that a gateway takes in one step.
 #[derive(Clone, Copy, Debug, PartialEq, Eq)]
 pub enum Event<'a> {
-    /// A frame came in on a side.
+    /// A frame came in on a side. The bytes are the frame's.
     Frame(Side, &'a [u8]),
-    /// A datagram of the other gateway came over the link.
+    /// A datagram of the other gateway came over the link. The bytes are the datagram's.
     Datagram(&'a [u8]),
-    /// The clock's moment, in centiseconds.
+    /// The time of the clock, in centiseconds.
     Tick(u64),
     /// Both routers are stopped for good.
     Stop,
-    /// The operator's word that this boot of the other gateway is off.
+    /// The operator's word that the other gateway's boot of this number is off.
     PeerOff(u64),
     /// A side's cable is in (`true`) or out.
     Side(Side, bool),
 }
 
-/// What came of it.
+/// The outcome of an event.
 #[derive(Clone, Copy, Debug, PartialEq, Eq)]
 pub enum Outcome {
-    /// A packet was sent on.
+    /// A packet or an error was sent on, or an Echo was answered.
     Sent,
     /// A packet waits.
     Waiting,
-    /// A tick, a stop, a datagram, an ARP packet, an advertisement, the operator's word or the word of
-    /// a side was taken.
+    /// A tick, a stop, a datagram, an ARP packet, an advertisement, the operator's word or the
+    /// state of a side's cable was taken.
     Done,
-    /// Nothing came of it.
+    /// A packet was dropped, or a frame, a datagram or the operator's word wasn't taken, for this
+    /// reason.
     Dropped(Reason),
 }

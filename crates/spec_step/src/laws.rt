@@ -1,4 +1,4 @@
-//! What holds of a step of a gateway. Each law is the contract of a function that does nothing.
+//! The laws of a step of a gateway. Each law is the contract of a function that does nothing.
 
 ghost use Rattle.std.specs.Prelude.{◌≡◌, ◌≢◌, ◌↔◌, Ok, ◌≤◌, ◌<◌, ◌+◌, ◌^◌, ◌∷◌, ◌++◌, ℕ, true, false, [], List, length, reverse, Err, Some};
 ghost use Rattle.nat_types.specs.declared.gateways.GatewayId.{GatewayId};
@@ -61,8 +61,8 @@ use interfaces::{limits_law, tallies_law};
 use packet_rules::{frames_law, own_frames_law, readings_law, shows_nothing_inside};
 use rewrite::hides_inside;
 
-/// A step is a step of the pair machine: it reads the letters and the words that the event hands in,
-/// makes just the notes and sends just the letters that were told more.
+/// A step of a gateway is a step of the pair machine. It reads only the letter and the word that
+/// the event brings, and makes exactly the notes and the letters that it adds to the output.
 pub fn steps_go()
     ensures { (s : GatewayAndOutput) (event : Event) (s2 : GatewayAndOutput) (h : List Record)
         → IsStepOn s event s2
@@ -72,7 +72,7 @@ pub fn steps_go()
     readings_law();
 }
 
-/// What a step asks for holds after it again.
+/// What a step requires of a gateway holds after the step again.
 pub fn steps_keep()
     ensures { (s : GatewayAndOutput) (event : Event) (s2 : GatewayAndOutput) (h : List Record)
         → IsStepOn s event s2
@@ -84,8 +84,9 @@ pub fn steps_keep()
 }
 
 /// A step tells truly: the translated frames that it sends are, one for one and in order,
-/// translations of different packets, by the pairs that its Used notes name, each on its packet's way
-/// and to its next hop. And what that rests on holds afterwards, too.
+/// translations of different packets. The pairs are those that the step's Used notes name, and each
+/// frame goes on its packet's way and to its next hop. And what the step requires for that holds
+/// after it.
 pub fn steps_tell()
     ensures truly { (s : GatewayAndOutput) (event : Event) (s2 : GatewayAndOutput)
         → IsStepOn s event s2
@@ -102,12 +103,12 @@ pub fn steps_tell()
     tallies_law();
 }
 
-/// A step passes errors on: beside the translated frames its error frames are, one for one and in
-/// order, errors at hand that were passed on, each another packet and none of those that were
-/// translated, on the way that the rules say for it, to its next hop, by pairs by which the gateway
-/// translated before or that a Retaken note of the step names. And its own frames are, one for one and
-/// in order, answers to Echos at hand and complaints of packets at hand, each of another packet still,
-/// to that packet's sender, and counted at its side.
+/// A step passes errors on. Its error frames are, one for one and in order, errors at hand that
+/// were passed on: each another packet, and none of those that were translated. Each error goes on
+/// the way that the rules say for it, to its next hop, by pairs by which the gateway translated
+/// before or that a Retaken note of the step names. The step's own frames are, one for one and in
+/// order, answers to Echos at hand and complaints of packets at hand. Each is of another packet
+/// still, goes to that packet's sender, and is counted at its side.
 pub fn steps_pass_on()
     ensures { (s : GatewayAndOutput) (event : Event) (s2 : GatewayAndOutput) → IsStepOn s event s2
         → HasBytes event → IsBook s.shown.ledger.book → KeepsBytes s.shown → IsSetUp s.shown
@@ -120,7 +121,8 @@ pub fn steps_pass_on()
 }
 
 /// An error that a step sends at the outside comes from the outside virtual address, and the packet
-/// inside went to that address. Options and what stands behind the packet inside stay.
+/// inside it went to that address. IP options, and the bytes after the packet inside, stay as they
+/// came.
 pub fn errors_hide()
     ensures { (s : GatewayAndOutput) (event : Event) (s2 : GatewayAndOutput) (frames : List Sent)
         → IsStepOn s event s2
@@ -136,9 +138,10 @@ pub fn errors_hide()
     hides_inside();
 }
 
-/// The own frames of one taking of a packet are just those that its verdict says: the answer to an Echo
-/// that is Sent, and what is said of a packet that is dropped because its time to live is over or
-/// because it is too long. So it is of packets whose wait is over, taken one after another.
+/// The own frames of one taking of a packet are exactly those that its verdict says: the answer to
+/// an Echo that is Sent, and the complaint of a packet that is dropped because its time to live is
+/// over or because it is too long. The same holds of packets whose wait is over, taken one after
+/// another.
 pub fn takings_say()
     ensures one { (s : GatewayAndOutput) (side : Side) (bytes : List ℕ) → AreBytes bytes
         → IsSetUp s.shown → SaysJust s (retaken_by s side bytes (reading_on s.shown side bytes))
@@ -153,8 +156,9 @@ pub fn takings_say()
     tallies_law();
 }
 
-/// The own frames of a whole step are just those of its takings, in their order: of the frame that came,
-/// and of the packets whose wait it ended. A tick, a stop and the word of a side have none.
+/// The own frames of a whole step are exactly those of its takings, in their order: of the frame
+/// that came, and of the packets whose wait it ended. A tick, a stop and the state of a side's
+/// cable have none.
 pub fn steps_say()
     ensures { (s : GatewayAndOutput) (event : Event) (s2 : GatewayAndOutput)
         → IsStepOn s event s2
@@ -167,8 +171,8 @@ pub fn steps_say()
     tallies_law();
 }
 
-/// A frame of its own that a step sends at the outside has no address of the inside network; and the length
-/// that Fragmentation Needed names is that of the side at which the packet would have left.
+/// A frame of its own that a step sends at the outside has no address of the inside network. The
+/// length that Fragmentation Needed names is that of the side at which the packet would have left.
 pub fn own_frames_show_nothing()
     ensures mtu { (networks : Networks) (side exit : Side) (reason : Reason) (bytes : List ℕ)
         (mtu : ℕ) → complaint_of networks side exit reason bytes ≡ Some (TooBig mtu)
@@ -186,7 +190,7 @@ pub fn own_frames_show_nothing()
     shows_nothing_inside();
 }
 
-/// No more is counted at either side than may be said there in one second.
+/// A step counts no more answers and complaints at a side than may be sent there in one second.
 pub fn steps_count()
     ensures { (s : GatewayAndOutput) (event : Event) (s2 : GatewayAndOutput)
         → IsStepOn s event s2
@@ -199,8 +203,9 @@ pub fn steps_count()
     tallies_law();
 }
 
-/// So in one life and one second of its clock a gateway sends at each side at most 100 answers and at most
-/// 10 complaints: of steps one behind the other, from a gateway at which no more is counted.
+/// In one life and one second of its clock a gateway sends at each side at most 100 answers and at
+/// most 10 complaints. The steps follow one another, from a gateway that has counted no more than
+/// that.
 pub fn few_in_one_second()
     ensures answers { (g : Shown) (steps : List StepOwn) (g2 : Shown) → IsSetUp g → AreWithin g
         → AreStepsSaying g steps g2 → (second : ℕ) (side : Side)
@@ -219,8 +224,8 @@ pub fn few_in_one_second()
     limits_law();
 }
 
-/// An error is no use of its pairs: it makes, renews and ends none, it is neither noted nor pushed,
-/// and it waits for none.
+/// An error is no use of its pairs: it makes, renews and ends no pair, is neither noted nor pushed,
+/// and waits for no pair.
 pub fn errors_leave_pairs()
     ensures pairs { (s : GatewayAndOutput) (side : Side) (bytes : List ℕ) (flow : ErrorFlow)
         → LeavesPairs s (error_taken s side bytes flow) }
@@ -229,9 +234,9 @@ pub fn errors_leave_pairs()
         → error_plan g side flow length ≢ Ok (WaitForPair endpoint) }
 {}
 
-/// What a gateway says itself leaves the pairs as they are, too. A drop of which it says something counts
-/// it, and may set when its next hop was last asked for: nothing else of the gateway changes. A packet that
-/// is found too long comes to just that.
+/// A frame of the gateway's own is no use of a pair. A drop with a complaint counts the complaint,
+/// and may set the time at which its next hop was last asked for; nothing else of the gateway
+/// changes. A packet that is too long is taken exactly as such a drop.
 pub fn own_leaves_pairs()
     ensures answers { (s : GatewayAndOutput) (side : Side) (bytes : List ℕ) (echo : Echo)
         → LeavesPairs s (echo_taken s side bytes echo) }
@@ -246,9 +251,9 @@ pub fn own_leaves_pairs()
         ≡ refused s side (exit_for side way) bytes TooLong) }
 {}
 
-/// All other frames of a step are, in their order: an answer to the ARP request that came in, or the
-/// frames of the routers' actions; then requests for next hops. It says of which packet each is, and
-/// why it is sent, which packets wait on, and which may come to wait.
+/// All other frames of a step are, in their order: an answer to the ARP request that came in, or
+/// the frames of the routers' actions; then requests for next hops. The law says of which packet
+/// each request is and why it is sent, which packets wait on, and which may come to wait.
 pub fn other_frames()
     ensures { (s : GatewayAndOutput) (event : Event) (s2 : GatewayAndOutput) → IsStepOn s event s2
         → HasBytes event → IsBook s.shown.ledger.book → KeepsBytes s.shown → IsSetUp s.shown
@@ -260,8 +265,8 @@ pub fn other_frames()
     tallies_law();
 }
 
-/// What a step asks for holds already before the datagram at a step's end, of a list of all records
-/// that were pushed or promised by then.
+/// What a step requires of a gateway holds already before the datagram at the step's end, for a
+/// list of all records that were pushed or promised by then.
 pub fn parts_stand()
     ensures { (s : GatewayAndOutput) (event : Event) (done : GatewayAndOutput) (h : List Record)
         → Does s event done
@@ -271,10 +276,10 @@ pub fn parts_stand()
     readings_law();
 }
 
-/// The sentence on uses and releases through a whole step. All that a step notes is noted by the
-/// gateway itself, at the moment of its clock after the step. Whatever trace its ledger accounted for
-/// before (the newest note first), it does so after the step, with what was noted put in front; and so
-/// each release of the step comes where its pair is idle.
+/// A whole step's notes on uses and releases are accounted for. All notes of a step are by the
+/// gateway itself, at the time of its clock after the step. A trace that its ledger accounts for
+/// before the step (the newest note first) is accounted for after it, with the step's notes put
+/// before the others. So each release of the step comes where its pair is idle.
 pub fn steps_account()
     ensures { (s : GatewayAndOutput) (event : Event) (s2 : GatewayAndOutput)
         → IsStepOn s event s2 → HasBytes event
@@ -283,7 +288,7 @@ pub fn steps_account()
     readings_law();
 }
 
-/// What the other gateway notes leaves a gateway's account as it is: at a step of the other one whose
+/// The other gateway's notes leave a gateway's account as it is: at a step of the other one whose
 /// own ledger accounts for the trace, at its crash and at its boot.
 pub fn others_account()
     ensures step { (s s2 : GatewayAndOutput) (g : Shown) (before : List Note) (x : Rests s s2)
@@ -297,8 +302,9 @@ pub fn others_account()
         → AccountsOn g (note by at (Booted number) ∷ before) }
 {}
 
-/// A gateway's ledger accounts for the trace as it begins: once its boot is noted, for each trace whose
-/// releases came where their pairs were idle, and as gateway 0 is founded, when nothing is noted.
+/// A gateway's ledger accounts for the trace as the gateway begins: once its boot is noted, for
+/// each trace whose releases came where their pairs were idle, and as gateway 0 is founded, when
+/// nothing is noted.
 pub fn beginnings_account()
     ensures begun { (settings : Settings) (id : GatewayId) (boot at : ℕ) (before : List Note)
         → Idle before
@@ -306,8 +312,8 @@ pub fn beginnings_account()
     ensures founded { (settings : Settings) (boot : ℕ) → AccountsOn (founded settings boot) [] }
 {}
 
-/// What a step asks for holds of a gateway as it begins, and of the founded one; nothing was pushed by
-/// then. And its link has room for a whole table.
+/// What a step requires of a gateway holds of a gateway as it begins, and of the founded one, where
+/// nothing was pushed. And the link of each has places for a whole table.
 pub fn beginnings()
     ensures begun { (settings : Settings) (id : GatewayId) (boot : ℕ) → HasRanges settings
         → IsStanding (begun settings id boot) [] }
@@ -321,23 +327,23 @@ pub fn beginnings()
         ≡ link_places (bounds_of settings.ports.zero) (bounds_of settings.ports.one) }
 {}
 
-/// What holds of a gateway between steps holds after each step again: its routers have begun where it
-/// runs and are in Initialize where it doesn't, its link owes no datagram, and the packets that it
-/// keeps have their places.
+/// What holds of a gateway between steps holds after each step again: its routers have begun where
+/// it runs and are in Initialize where it doesn't, its link owes no datagram, and the packets that
+/// it keeps have their places.
 pub fn steps_settle()
     ensures { (s : GatewayAndOutput) (event : Event) (s2 : GatewayAndOutput) → IsStepOn s event s2
         → IsSettled s.shown → IsSettled s2.shown }
 {}
 
-/// It holds of a gateway as it begins, and of the founded one.
+/// A gateway as it begins, and the founded one, are settled.
 pub fn beginnings_settle()
     ensures begun { (settings : Settings) (id : GatewayId) (boot : ℕ)
         → IsSettled (begun settings id boot) }
     ensures founded { (settings : Settings) (boot : ℕ) → IsSettled (founded settings boot) }
 {}
 
-/// Idle pairs let go one after another change the book, its lives, the link and the notes as one fold
-/// of the ledger says, and nothing else.
+/// Letting idle pairs go one after another changes the book, its lives, the link and the notes as
+/// one fold of the ledger says, and nothing else.
 pub fn idle_at_once()
     ensures { (s : GatewayAndOutput) (keys : List Key) → let g = s.shown in
         let gone = let_go g.moment keys g.ledger g.link in
@@ -352,16 +358,16 @@ pub fn steps_note()
         → length s2.told.notes ≤ length s.told.notes + most_notes s.shown }
 {}
 
-/// A gateway with a side out gives way: after a tick at which the peer serves, both of its routers are
-/// in Initialize.
+/// A gateway with a side out gives way: after a tick at which the peer serves, both of the
+/// gateway's routers are in Initialize.
 pub fn gives_way()
     ensures { (s : GatewayAndOutput) (now : ℕ) (s2 : GatewayAndOutput)
         → IsStepOn s (Tick now) s2 → IsSettled s.shown → has_side_out s.shown ≡ true
         → peer_serves s.shown.link s2.shown.moment ≡ true → AreIdle s2.shown }
 {}
 
-/// It gives way to nobody but a peer that serves: after a tick at which the peer doesn't, no router of
-/// a gateway that is up is in Initialize.
+/// A gateway gives way only to a peer that serves: after a tick at which the peer doesn't serve, no
+/// router of a gateway that is up is in Initialize.
 pub fn never_alone()
     ensures { (s : GatewayAndOutput) (now : ℕ) (s2 : GatewayAndOutput)
         → IsStepOn s (Tick now) s2 → IsSettled s.shown
@@ -369,10 +375,10 @@ pub fn never_alone()
         → HaveBegun s2.shown }
 {}
 
-/// A gateway takes over where nobody advertises: while it runs and no advertisement is heard on a side
-/// on which it is in Backup, its router there is Active behind the first tick at or after the moment
-/// at which its Active_Down_Timer is due, and stays so. The timer is due Active_Down_Interval after the
-/// last advertisement that the router followed (RFC 9568, section 6.4.2).
+/// A gateway takes over where nobody advertises. Where it runs and hears no advertisement on a side
+/// on which its router is in Backup, that router is Active after the first tick at or after the
+/// time at which its Active_Down_Timer is due, and stays so. The timer is due Active_Down_Interval
+/// after the last advertisement that the router followed (RFC 9568, section 6.4.2).
 pub fn takes_over()
     ensures since { (s : GatewayAndOutput) (side : Side) (event : Event) (s2 : GatewayAndOutput)
         (priority interval : ℕ) → IsStepOn s event s2
@@ -386,9 +392,9 @@ pub fn takes_over()
         → is_active (station_on new side) ≡ true }
 {}
 
-/// What has rested is let go: after its rest and a tick an entry that may be let go is gone at a lone
-/// gateway, and else it is closing, where the peer may be asked for all such entries; and its release
-/// is noted.
+/// A pair that has rested is let go. After its rest and a tick, an entry that may be let go is gone
+/// at a lone gateway. Else the entry is closing, where the peer may be asked for all such entries.
+/// The pair's release is noted.
 pub fn ticks_let_go()
     ensures alone { (s : GatewayAndOutput) (now : ℕ) (s2 : GatewayAndOutput) (x : Entry)
         → IsStepOn s (Tick now) s2 → is_lone s.shown.ledger.book.stage ≡ true
@@ -399,10 +405,10 @@ pub fn ticks_let_go()
         → HasRested s.shown.ledger s2.shown.moment x → IsLetGo s x s2 }
 {}
 
-/// What goes on is sent: a packet whose pairs translate, and an error about one, where it is valid, its
-/// time to live is above one, its next hop is known and it fits. And a packet is dropped since no port
-/// is free (outcome 14), or since its host has all the pairs that it may have (outcome 18), just where
-/// a port has to be chosen for it, and it is so.
+/// A packet whose pairs translate, or an error about one, is sent where it is valid, its time to
+/// live is above one, its next hop is known and it fits. A packet is dropped because no port is
+/// free (outcome 14), or because its host has all the pairs that it may have (outcome 18), exactly
+/// where a port has to be chosen for it and that is so.
 pub fn goes_on_is_sent()
     ensures packet { (g : Shown) (side : Side) (bytes : List ℕ) (by : Translation)
         → MayGoOn g side bytes by → verdict g side bytes ≡ outcome.Sent }

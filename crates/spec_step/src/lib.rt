@@ -1,4 +1,4 @@
-//! What a step of a gateway does, part by part: the words of its contract.
+//! The step of a gateway, part by part, as definitions and laws: the words of the step's contract.
 #![tactic(auto)]
 
 mod events;

@@ -1,29 +1,31 @@
-//! What a packet is to do.
+//! The plan for a packet, and for an Echo.
 
 use addresses::{Ip, Mac};
 use nat_types::Endpoint;
 use packet_rules::Translation;
 
-/// What a packet that isn't refused at once is to do.
+/// The plan for a packet that isn't refused at once.
 #[derive(Clone, Copy, Debug, PartialEq, Eq)]
 pub enum Plan {
-    /// It goes on at once, to a next hop that is known.
+    /// The packet is sent at once, to a next hop whose hardware address is known.
     Send { by: Translation, next: Mac },
-    /// Its next hop is asked for, and it waits.
+    /// The packet waits, and its next hop is asked for.
     Ask { by: Translation, hop: Ip },
-    /// Another packet waits for its next hop: it is dropped, and that hop may be asked for again.
+    /// Another packet waits for the same next hop: this packet is dropped, and the hop may be asked
+    /// for again.
     AskAgain { by: Translation, hop: Ip },
-    /// It waits for the answer to the proposal of its source's pair.
+    /// The packet waits for the answer to the proposal of its source's pair.
     Wait(Endpoint),
 }
 
-/// What an Echo to the gateway itself that isn't refused at once is to do.
+/// The plan for an Echo to the gateway itself that isn't refused at once.
 #[derive(Clone, Copy, Debug, PartialEq, Eq)]
 pub enum Reply {
-    /// It is answered at once, by a next hop that is known.
+    /// The Echo is answered at once, by a next hop whose hardware address is known.
     Send { next: Mac },
-    /// The next hop of its answer is asked for, and it waits.
+    /// The Echo waits, and the next hop of its answer is asked for.
     Ask { hop: Ip },
-    /// Another packet waits for that next hop: it is dropped, and that hop may be asked for again.
+    /// Another packet waits for that next hop: the Echo is dropped, and the hop may be asked for
+    /// again.
     AskAgain { hop: Ip },
 }

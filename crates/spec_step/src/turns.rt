@@ -1,12 +1,13 @@
-//! What a tick begins with.
+//! The turn with which a tick begins.
 
-/// Whether a gateway gives way as a tick begins.
+/// The turn with which a tick begins: whether the gateway gives way to the other one.
 #[derive(Clone, Copy, Debug, PartialEq, Eq)]
 pub enum Turn {
-    /// It goes away: both routers are stopped.
+    /// The gateway goes away: both of its routers are stopped.
     Leaves,
-    /// It comes back: both routers are started, where it is synced and wasn't stopped.
+    /// The gateway comes back: both of its routers are started, where it is synced and wasn't
+    /// stopped.
     Returns,
-    /// Neither.
+    /// The gateway does neither.
     Stays,
 }

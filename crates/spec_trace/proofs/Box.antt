@@ -1,4 +1,4 @@
--- Every trace that fits and is idle is a run of one box, and its map is what is open.
+-- Every trace that fits and is idle is a run of one box, whose map has exactly the open pairs.
 use Rattle.std.proofs.Common.{◌≡◌, ℕ, ◌+◌, ◌≤◌, inl, inr, Bool, true, false, not, ◌&&◌, ◌||◌, cond, List, [], ◌∷◌, Some, IsTrue, refl, sym, ap, subst, ◌∙◌}
 use Rattle.std.proofs.lemmas.Bool.{cases_Bool, both_ways, and_parts, and_from, or_cases, or_left}
 use Rattle.nat_types.specs.declared.gateways.GatewayId.{GatewayId}
@@ -22,7 +22,7 @@ flip p q = elim (cases_Bool (same_pair p q)) [
   | inr ne ↦ ne ∙ sym (pair-false q p (λ h. both_ways (same_pair p q) ne (pair-true p q (sym h))))
 ]
 
--- a pair that fits all open ones, and isn't open, is new
+-- a pair that fits all open pairs, and isn't open, is new to the map of open pairs
 new_pair : (p : Pair) (t : List Note) → FitsAt (Used p) t → is_open p t ≡ false → IsNewTo p (opens t)
 new_pair p t f closed q o = let fit : DoFit q p = f q o in (
   λ h. both_ways (is_open p t) closed (subst (λ (x : Pair). IsTrue (is_open x t)) (pair-parts q p h (fit.0 h)) o),
@@ -71,14 +71,14 @@ leads_at i Synced t m f h = h
 leads_at i Crashed t m f h = h
 leads_at i (Booted n) t m f h = h
 
--- the test of a note on a pair by a gateway, told of the gateway and the pair
+-- where the note is by the gateway on the pair, its gateway and its pair are these
 both_same : (i j : GatewayId) (p q : Pair) → (same i j && same_pair p q) ≡ true → (i ≡ j) × (p ≡ q)
 both_same i j p q e = let parts = and_parts (same i j) (same_pair p q) e in (same-eq i j parts.0, pair-eq p q parts.1)
 
 is_both : (i j : GatewayId) (p q : Pair) → i ≡ j → p ≡ q → (same i j && same_pair p q) ≡ true
 is_both i j p q a b = and_from (same i j) (same_pair p q) (same-true i j a) (pair-true p q b)
 
--- a note of i on the pair
+-- whether a note of gateway j is one of gateway i on the pair
 abbrev let_go_word : GatewayId → Pair → GatewayId → NoteKind → Bool
 let_go_word i p j (Used q) = same i j && same_pair p q
 let_go_word i p j (Released q) = same i j && same_pair p q
@@ -112,12 +112,12 @@ let_go_rested j p u i at Synced t b d was e h uses = was h uses
 let_go_rested j p u i at Crashed t b d was e h uses = was h uses
 let_go_rested j p u i at (Booted n) t b d was e h uses = was h uses.1
 
--- one that has let the pair go has rested before it did
+-- where a gateway has let the pair go, each use in its life is at least the pair's rest before its last release
 rested : (j : GatewayId) (p : Pair) (u : ℕ) (t : List Note) → Idle t → has_let_go j p t ≡ true → UsedInLife j p u t → (r : ℕ) × (last_release j p t ≡ Some r) × (u + rest_of p.key.protocol ≤ r)
 rested j p u [] d h uses = absurd uses
 rested j p u (n ∷ t) d h uses = let_go_rested j p u n.by n.at n.what t (let_go_word j p n.by n.what) d.0 (λ b c. rested j p u t d.1 b c) refl h uses
 
--- where a release is agreed, each synced gateway has rested
+-- where a release is agreed, the pair has rested at each synced gateway
 drop_rested : (i : GatewayId) (at : ℕ) (p : Pair) (t : List Note) (j : GatewayId) (b : Bool) → IsIdle i p at t → Idle t → is_agreed i p t ≡ true → is_synced j t ≡ true → same j i ≡ b → (u : ℕ) → UsedInLife j p u t → (r : ℕ) × (cond (same j i && same_pair p p) (Some at) (last_release j p t) ≡ Some r) × (u + rest_of p.key.protocol ≤ r)
 drop_rested i at p t j true idle d agreed synced e u uses =
     (at, ap (λ b. cond b (Some at) (last_release j p t)) (is_both j i p p (same-eq j i e) refl), idle u (subst (λ (x : GatewayId). UsedInLife x p u t) (same-eq j i e) uses))
@@ -144,7 +144,7 @@ timely_at i at Synced t here d = tt
 timely_at i at Crashed t here d = tt
 timely_at i at (Booted n) t here d = tt
 
--- a trace that fits, and whose releases are of idle pairs, is a run of one box whose map is what is open
+-- a trace that fits and is idle is a run of one box, whose map has exactly the open pairs
 pub run_of : (t : List Note) → Fits t → Idle t → IsRun (opens t) t
 run_of [] f d = λ q. refl
 run_of (n ∷ t) f d = (opens t, run_of t f.1 d.1, leads_at n.by n.what t (opens (n ∷ t)) f.0 (λ q. refl), timely_at n.by n.at n.what t d.0 d.1)
@@ -168,7 +168,7 @@ open_at i Synced l t m was h q = h q ∙ was q
 open_at i Crashed l t m was h q = h q ∙ was q
 open_at i (Booted n) l t m was h q = h q ∙ was q
 
--- the map of a run is what is open
+-- the map of a run has exactly the open pairs
 pub run_open : (m : Map) (t : List Note) → IsRun m t → (q : Pair) → m q ≡ is_open q t
 run_open m [] r q = r q
 run_open m (n ∷ t) r q = open_at n.by n.what r.0 t m (run_open r.0 t r.1) r.2 q

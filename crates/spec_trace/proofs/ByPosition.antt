@@ -1,4 +1,4 @@
--- The laws for traces with the oldest note first.
+-- The laws by position, for traces with the oldest note first.
 use Rattle.std.proofs.Common.{Bool, List, IsTrue, ◌↔◌, reverse, subst}
 use Rattle.std.proofs.lemmas.List.{reverse-reverse}
 use Rattle.nat_types.specs.declared.gateways.GatewayId.{GatewayId}

@@ -1,4 +1,4 @@
--- What the checker answers of a trace and two tables is the one thing that it can answer.
+-- The checker's answer on a trace and two tables is the only one that its contract allows.
 use Rattle.std.proofs.Common.{◌≡◌, ℕ, ◌-◌, ◌≤◌, inl, inr, List, [], ◌∷◌, ◌++◌, drop, take, reverse, refl, sym, ap, subst, ◌∙◌, arith}
 use Rattle.std.proofs.lemmas.Bool.{cases_order}
 use Rattle.std.proofs.lemmas.List.{take-take, take-append-drop, reverse-append}
@@ -21,7 +21,7 @@ silent_end (x ∷ xs) ys s = silent_end xs ys s.1
 parts : (k : ℕ) (xs : List Note) → reverse xs ≡ reverse (drop k xs) ++ reverse (take k xs)
 parts k xs = ap reverse (sym (take-append-drop k xs)) ∙ reverse-append (take k xs) (drop k xs)
 
--- a beginning of a trace that fits, fits
+-- the beginning of a trace that fits, fits
 fits_first : (k : ℕ) (xs : List Note) → Fits xs → Fits (take k xs)
 fits_first k xs f = fits_end (reverse (drop k xs)) (reverse (take k xs)) (subst past.Fits (parts k xs) f)
 
@@ -77,7 +77,7 @@ one_fault xs z o (NotSilent a) (NotFits b) fo go f h = absurd (unfit_loud xs b a
 one_fault xs z o (NotSilent a) NotKept fo go f h = absurd (f.2 (silent_first a xs h.1))
 one_fault xs z o (NotSilent a) (NotSilent b) fo go f h = ap (λ x. NotSilent x) (loud_loud xs a b f h)
 
--- and none where all is well
+-- no fault can be said where the trace fits and is silent and the tables are kept
 pub no_fault : (xs : List Note) (zero one : List Pair) (f : AuditFault) → Fits xs → Silent xs → Kept (ListsHold zero one) xs → IsFound f → FaultSays xs zero one f → ⊥
 no_fault xs z o NoMemory fits silent kept fo f = fo
 no_fault xs z o (NotFits a) fits silent kept fo f = f.2 (fits_first a xs fits)

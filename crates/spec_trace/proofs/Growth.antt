@@ -1,4 +1,4 @@
--- One more note at the end of a trace: it is the newest, and each word changes by one step.
+-- One more note at the end of a trace is the newest one, and each word changes by one step.
 use Rattle.std.proofs.Common.{◌≡◌, List, [], ◌∷◌, ◌++◌, reverse, ◌↔◌, ap, sym, subst}
 use Rattle.std.proofs.lemmas.List.{reverse-append}
 use Rattle.nat_types.specs.declared.gateways.GatewayId.{GatewayId}

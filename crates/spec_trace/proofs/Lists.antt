@@ -1,4 +1,4 @@
--- Lists of pairs as the checker keeps them, and the notes so far.
+-- The list of open pairs that the checker keeps, and the notes that it has seen.
 use Rattle.std.proofs.Common.{◌≡◌, ℕ, ◌+◌, ◌<◌, inl, inr, Bool, true, false, not, ◌&&◌, cond, List, [], ◌∷◌, ◌++◌, length, take, get_or, filter, reverse, IsTrue, ◌↔◌, refl, sym, ap, subst, ◌∙◌, arith}
 use Rattle.std.specs.Bool.{MatchBool}
 use Rattle.std.specs.List.{All, AllWithin, Contains}
@@ -22,19 +22,19 @@ same_iff b i j f = iff_same b (same i j) (i ≡ j) f (same-eq i j, same-true i j
 pub pair_iff : (b : Bool) (p q : Pair) → (IsTrue b ↔ (p ≡ q)) → b ≡ same_pair p q
 pair_iff b p q f = iff_same b (same_pair p q) (p ≡ q) f (pair-eq p q, pair-true p q)
 
--- what `all` answered, where it answered true
+-- where `all` answers true, P holds of every pair of the list
 pub all_if : (P : Pair → Type 0) (Z : Type 0) (r : Bool) (xs : List Pair) → MatchBool r (AllWithin P xs 0 (length xs)) Z → IsTrue r → All P xs
 all_if P Z true xs m e = All-from_all_within P xs m
 all_if P Z false xs m e = absurd (cc)
 
--- a list with one more pair at its end
+-- a list with one more pair at its end has the pairs that are open after a use of that pair
 pub push_iff : (q p : Pair) (xs : List Pair) (b : Bool) → (Contains xs q ↔ IsTrue b) → (Contains (xs ++ p ∷ []) q ↔ IsTrue (cond (same_pair q p) true b))
 push_iff q p xs b f = elim (cases_Bool (same_pair q p)) [
   | inl s ↦ subst (λ k. Contains (xs ++ p ∷ []) q ↔ IsTrue (cond k true b)) (sym s) (λ c. refl, λ h. subst (λ (x : Pair). Contains (xs ++ p ∷ []) x) (sym (pair-eq q p s)) (Contains-push xs p))
   | inr s ↦ subst (λ k. Contains (xs ++ p ∷ []) q ↔ IsTrue (cond k true b)) (sym s) (λ c. elim (Contains-push_cases xs p q c) [ inl old ↦ f.0 old | inr e ↦ absurd (both_ways (same_pair q p) s (pair-true q p (sym e))) ], λ h. Contains-append_left xs (p ∷ []) q (f.1 h))
 ]
 
--- or one that it has already
+-- a list that has the pair already has the pairs that are open after a use of that pair
 pub has_iff : (q p : Pair) (xs : List Pair) (b : Bool) → Contains xs p → (Contains xs q ↔ IsTrue b) → (Contains xs q ↔ IsTrue (cond (same_pair q p) true b))
 has_iff q p xs b had f = elim (cases_Bool (same_pair q p)) [
   | inl s ↦ subst (λ k. Contains xs q ↔ IsTrue (cond k true b)) (sym s) (λ c. refl, λ h. subst (λ (x : Pair). Contains xs x) (sym (pair-eq q p s)) had)
@@ -55,7 +55,7 @@ kept_by test (x ∷ xs) q c passes = elim (Contains-append_cases (x ∷ []) xs q
   | inr later ↦ stays_after (test x) x q (filter test xs) (kept_by test xs q later passes)
 ]
 
--- a list without one pair
+-- a list without a pair has the pairs that are open after an agreed deletion of that pair
 pub without_iff : (q p : Pair) (xs : List Pair) (agreed b : Bool) → (same_pair q p ≡ true → agreed ≡ true) → (Contains xs q ↔ IsTrue b) → (Contains (filter (λ x. not (same_pair x p)) xs) q ↔ IsTrue (cond (same_pair q p && agreed) false b))
 without_iff q p xs agreed b if_same f =
     let test : Pair → Bool = λ x. not (same_pair x p) in
@@ -66,6 +66,6 @@ without_iff q p xs agreed b if_same f =
       | inr s ↦ subst (λ k. Contains (filter test xs) q ↔ IsTrue (cond (k && agreed) false b)) (sym s) (λ c. f.0 (had c), λ h. kept_by test xs q (f.1 h) (ap not s))
     ]
 
--- the notes so far with one more, the newest first
+-- the first i + 1 notes, reversed, are note i before the first i notes, reversed
 pub reverse_take : (xs : List Note) (i : ℕ) (n : Note) → i < length xs → n ≡ get_or xs i n → reverse (take (i + 1) xs) ≡ n ∷ reverse (take i xs)
 reverse_take xs i n h e = ap reverse (take_more xs i n h) ∙ reverse-append (take i xs) (get_or xs i n ∷ []) ∙ ap (λ (x : Note). x ∷ reverse (take i xs)) (sym e)

@@ -27,15 +27,15 @@ unfit_open i w p xs s k e unfit up t opens it = (
   λ f. let g : FitsAt (Used p) t = subst (λ (x : NoteKind). FitsAt x t) e f in unfit (λ j d lt. g (get_or xs j d) ((opens (get_or xs j d)).0 (Contains-get_or xs j d lt))),
 )
 
--- the pairs after a use of one that they don't have
+-- a use of a pair that isn't in the list: the list with it at the end has the open pairs
 pub used_new : (p : Pair) (xs : List Pair) (t : List Note) (i : GatewayId) (w : NoteKind) → AreOpen xs t → w ≡ Used p → (q : Pair) → Contains (xs ++ p ∷ []) q ↔ IsTrue (open_after q w (is_agreed i q t) (is_open q t))
 used_new p xs t i w opens e q = subst (λ (x : NoteKind). Contains (xs ++ p ∷ []) q ↔ IsTrue (open_after q x (is_agreed i q t) (is_open q t))) (sym e) (push_iff q p xs (is_open q t) (opens q))
 
--- or of one that they have
+-- a use of a pair that is in the list: the list still has the open pairs
 pub used_old : (p : Pair) (xs : List Pair) (t : List Note) (i : GatewayId) (w : NoteKind) → AreOpen xs t → w ≡ Used p → Contains xs p → (q : Pair) → Contains xs q ↔ IsTrue (open_after q w (is_agreed i q t) (is_open q t))
 used_old p xs t i w opens e had q = subst (λ (x : NoteKind). Contains xs q ↔ IsTrue (open_after q x (is_agreed i q t) (is_open q t))) (sym e) (has_iff q p xs (is_open q t) had (opens q))
 
--- after an agreed release
+-- an agreed release: the list without the pair has the open pairs
 pub released_gone : (p : Pair) (xs : List Pair) (t : List Note) (i : GatewayId) (w : NoteKind) → AreOpen xs t → w ≡ Released p → is_agreed i p t ≡ true → (q : Pair) → Contains (filter (λ x. not (same_pair x p)) xs) q ↔ IsTrue (open_after q w (is_agreed i q t) (is_open q t))
 released_gone p xs t i w opens e agreed q = subst (λ (x : NoteKind). Contains (filter (λ y. not (same_pair y p)) xs) q ↔ IsTrue (open_after q x (is_agreed i q t) (is_open q t))) (sym e) (without_iff q p xs (is_agreed i q t) (is_open q t) (λ s. ap (λ (x : Pair). is_agreed i x t) (pair-eq q p s) ∙ agreed) (opens q))
 
@@ -44,13 +44,13 @@ keep_agreed true true o h = absurd (let x : true ≡ false = h refl in cc)
 keep_agreed true false o h = refl
 keep_agreed false a o h = refl
 
--- and after one that isn't
+-- a release that isn't agreed: the list still has the open pairs
 pub released_stays : (p : Pair) (xs : List Pair) (t : List Note) (i : GatewayId) (w : NoteKind) → AreOpen xs t → w ≡ Released p → is_agreed i p t ≡ false → (q : Pair) → Contains xs q ↔ IsTrue (open_after q w (is_agreed i q t) (is_open q t))
 released_stays p xs t i w opens e agreed q =
     let stays : is_open q t ≡ open_after q (Released p) (is_agreed i q t) (is_open q t) = keep_agreed (same_pair q p) (is_agreed i q t) (is_open q t) (λ s. ap (λ (x : Pair). is_agreed i x t) (pair-eq q p s) ∙ agreed) in
     subst (λ (x : NoteKind). Contains xs q ↔ IsTrue (open_after q x (is_agreed i q t) (is_open q t))) (sym e) (subst (λ b. Contains xs q ↔ IsTrue b) stays (opens q))
 
--- the tables at the end
+-- where the synced gateways' tables have all open pairs of the list, the tables are kept
 pub is_kept : (opens zero one : List Pair) (z o : Bool) (t : List Note) → Going opens z o t → (IsTrue z → All (Contains zero) opens) × (IsTrue o → All (Contains one) opens) → Kept (ListsHold zero one) t
 is_kept opens zero one z o t g have p open_ Zero s = All-contains (Contains zero) opens p (have.0 (g.zero_is ∙ s)) ((g.pairs p).1 open_)
 is_kept opens zero one z o t g have p open_ One s = All-contains (Contains one) opens p (have.1 (g.one_is ∙ s)) ((g.pairs p).1 open_)
@@ -61,7 +61,8 @@ isnt_kept opens zero one z o t g bad kept = bad (
   λ up j d lt. kept (get_or opens j d) ((g.pairs (get_or opens j d)).0 (Contains-get_or opens j d lt)) One (sym g.one_is ∙ up),
 )
 
--- what a note is charged with, told of the trace
+-- a fault found at a note, after notes that fit and are silent, says what it says of the whole
+-- trace
 pub charged : (xs : List Note) (i : ℕ) (n : Note) (zero one : List Pair) (f : AuditFault) → i < length xs → n ≡ get_or xs i n → Fits (reverse (take i xs)) → Silent (reverse (take i xs)) → Judged (reverse (take i xs)) n (i + 1) f → FaultSays xs zero one f
 charged xs i n zero one NoMemory lt here fits silent j = tt
 charged xs i n zero one (NotFits k) lt here fits silent j =
@@ -98,10 +99,10 @@ going_on opens opens2 zero one zero2 one2 n t g pairs z o ok = record {
 pub going_next : (opens : List Pair) (zero one : Bool) (xs : List Note) (i : ℕ) (n : Note) → i < length xs → n ≡ get_or xs i n → Going opens zero one (n ∷ reverse (take i xs)) → Going opens zero one (reverse (take (i + 1) xs))
 going_next opens zero one xs i n lt here g = subst (λ (t : List Note). Going opens zero one t) (sym (reverse_take xs i n lt here)) g
 
--- at the end the notes so far are all
+-- what is known after the first i notes is known of the whole trace, where it has no more
 pub going_end : (opens : List Pair) (zero one : Bool) (xs : List Note) (i : ℕ) → length xs ≤ i → Going opens zero one (reverse (take i xs)) → Going opens zero one (reverse xs)
 going_end opens zero one xs i le g = subst (λ (t : List Note). Going opens zero one (reverse t)) (take_all i xs le) g
 
--- after a release
+-- a release is agreed where the other gateway isn't synced or has let the pair go
 pub agreed_is : (i : GatewayId) (p : Pair) (t : List Note) (alone gone : Bool) → alone ≡ not (is_synced (other i) t) → gone ≡ has_let_go (other i) p t → is_agreed i p t ≡ (alone || gone)
 agreed_is i p t alone gone a b = ap (λ x. x || has_let_go (other i) p t) (sym a) ∙ ap (λ x. alone || x) (sym b)

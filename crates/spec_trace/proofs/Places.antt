@@ -21,21 +21,21 @@ pub at_last : (xs : List Note) (x : Note) → note_at (xs ++ x ∷ []) (length x
 at_last [] x = refl
 at_last (y ∷ xs) x = at_last xs x
 
--- a note of the longer list is an old one or the last
+-- a note of the longer list is one of the shorter list, or the last
 pub at_cases : (xs : List Note) (x : Note) (k : ℕ) (m : Note) → note_at (xs ++ x ∷ []) k ≡ Some m → (note_at xs k ≡ Some m) ⊎ ((k ≡ length xs) × (x ≡ m))
 at_cases [] x zero m h = inr (refl, cc)
 at_cases [] x (suc k) m h = absurd (cc)
 at_cases (y ∷ xs) x zero m h = inl h
 at_cases (y ∷ xs) x (suc k) m h = elim (at_cases xs x k m h) [ inl a ↦ inl a | inr b ↦ inr (ap suc b.0, b.1) ]
 
--- what stands before a note
+-- the notes before a note of the shorter list are the same in the longer one
 pub take_old : (xs : List Note) (x : Note) (k : ℕ) (m : Note) → note_at xs k ≡ Some m → take k (xs ++ x ∷ []) ≡ take k xs
 take_old xs x k m h = let w : k < length xs = at_within xs k m h in take-append-le k xs (x ∷ []) (omega arith)
 
 pub take_here : (xs : List Note) (x : Note) (k : ℕ) → k ≡ length xs → take k (xs ++ x ∷ []) ≡ xs
 take_here xs x k e = take_at xs (x ∷ []) k (sym e)
 
--- the last note, the newest first, that passes a test
+-- the last note that passes a test, in a list with the newest note first
 abbrev pub last_of : (Note → Bool) → List Note → Option Note
 last_of test [] = None
 last_of test (n ∷ t) = cond (test n) (Some n) (last_of test t)
@@ -74,7 +74,7 @@ says test (n ∷ t) =
 some_one : (a b : Note) → Some a ≡ Some b → a ≡ b
 some_one a b h = cc
 
--- there is one last note
+-- at most one note is the last that passes a test
 same_last : (test : Note → Bool) (t : List Note) (n : Note) (o : Option Note) → LastIs test t n → Says test t o → o ≡ Some n
 same_last test t n None l h = absurd (both_ways (test n) (h l.0 n l.1) l.2)
 same_last test t n (Some m) l h = elim (cases_order l.0 h.0) [

@@ -1,4 +1,4 @@
--- Rows by which the definitions are checked: each list has the newest note first.
+-- Examples by which the definitions are checked: each list has the newest note first.
 use Rattle.std.proofs.Common.{◌≡◌, ℕ, ◌+◌, ◌≤◌, true, false, cond, [], ◌∷◌, Some, refl, subst, inl, inr, arith}
 use Rattle.nat_types.specs.declared.gateways.GatewayId.{GatewayId}
 use Rattle.nat_types.specs.declared.gateways.GatewayId.TheVariants.{Zero, One}
@@ -27,17 +27,17 @@ tcp_pair = record { key = record { protocol = Tcp; port = record { 0 = 20000 } }
 abbrev note : GatewayId → ℕ → NoteKind → Note
 note i at w = record { by = i; at = at; what = w }
 
--- used and released by the lone founder: closed
+-- a pair used and released by gateway 0 while it alone is synced isn't open
 row_lone : is_open pair_p (note Zero 2 (Released pair_p) ∷ note Zero 1 (Used pair_p) ∷ []) ≡ false
 unfolding same_pair same_key same_endpoint
 row_lone = refl
 
--- another pair of the same port doesn't close it
+-- a release of another pair on the same port leaves the pair open
 row_other : is_open pair_p (note Zero 2 (Released pair_q) ∷ note Zero 1 (Used pair_p) ∷ []) ≡ true
 unfolding same_pair same_key same_endpoint
 row_other = refl
 
--- with the other synced, one release doesn't close it, and the second does
+-- with the other gateway synced, one release leaves the pair open, and the second closes it
 row_asked : is_open pair_p (note Zero 2 (Released pair_p) ∷ note One 0 Synced ∷ note One 0 (Booted 1) ∷ note Zero 1 (Used pair_p) ∷ []) ≡ true
 unfolding same_pair same_key same_endpoint
 row_asked = refl
@@ -46,7 +46,7 @@ row_agreed : is_open pair_p (note One 3 (Released pair_p) ∷ note Zero 2 (Relea
 unfolding same_pair same_key same_endpoint
 row_agreed = refl
 
--- what was taken over goes on, but not in the next life
+-- a pair that was retaken goes on, and no longer after the next boot
 row_goes_on : goes_on One pair_p (note One 1 (Retaken pair_p) ∷ note One 0 Synced ∷ note One 0 (Booted 1) ∷ []) ≡ true
 unfolding same_pair same_key same_endpoint
 row_goes_on = refl
@@ -55,7 +55,7 @@ row_next_life : goes_on One pair_p (note One 2 (Booted 2) ∷ note One 2 Crashed
 unfolding same_pair same_key same_endpoint
 row_next_life = refl
 
--- a rest after its last use a pair is idle, and one centisecond less isn't enough
+-- a pair is idle its rest after its last use, and isn't one centisecond earlier
 row_idle : Idle (note Zero 30000 (Released pair_p) ∷ note Zero 0 (Used pair_p) ∷ [])
 row_idle = (λ u h. elim h [ inl a ↦ let e : u ≡ 0 = a.2 in omega arith | inr b ↦ absurd b ], (tt, tt))
 
@@ -78,15 +78,15 @@ row_tcp_early h = let le : 0 + 24000 ≤ 23999 = h.0 0 (inl (refl, refl, refl)) 
 row_after_each_packet : Idle (note Zero 0 (Released pair_p) ∷ note Zero 0 (Used pair_p) ∷ []) → ⊥
 row_after_each_packet h = let le : 0 + 30000 ≤ 0 = h.0 0 (inl (refl, refl, refl)) in omega arith
 
--- a use of an earlier life doesn't count
+-- a use in an earlier life doesn't count
 row_earlier_life : Idle (note Zero 5 (Released pair_p) ∷ note Zero 2 (Booted 2) ∷ note Zero 1 (Used pair_p) ∷ [])
 row_earlier_life = (λ u h. absurd (h.0 refl), (tt, (tt, tt)))
 
--- nor does a use by the other gateway
+-- a use by the other gateway doesn't count
 row_other_gateway : Idle (note Zero 5 (Released pair_p) ∷ note One 1 (Used pair_p) ∷ [])
 row_other_gateway = (λ u h. elim h [ inl a ↦ absurd (let e : Zero ≡ One = a.0 in cc) | inr b ↦ absurd b ], (tt, tt))
 
--- the moves of one box
+-- the empty map
 abbrev nothing : Map
 nothing q = false
 
@@ -96,7 +96,7 @@ row_allots = refl
 row_drops : moves_at (λ q. true) Zero (Released pair_p) (note Zero 1 (Used pair_p) ∷ []) ≡ Drop pair_p ∷ []
 row_drops = refl
 
--- one box doesn't drop a pair that early
+-- one box doesn't drop a pair before its rest has passed
 some_moment : (a b : ℕ) → Some a ≡ Some b → a ≡ b
 some_moment a b h = cc
 

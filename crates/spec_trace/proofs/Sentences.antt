@@ -1,4 +1,4 @@
--- The words as they are worked out are those by position.
+-- Each word by recursion over the notes is the word by position.
 use Rattle.std.proofs.Common.{◌≡◌, ℕ, ◌+◌, ◌<◌, ◌≤◌, ◌⊎◌, inl, inr, Bool, true, false, not, ◌&&◌, ◌||◌, cond, List, [], ◌∷◌, ◌++◌, length, Option, Some, None, IsTrue, ◌↔◌, reverse, refl, sym, ap, subst, ◌∙◌, arith}
 use Rattle.std.proofs.lemmas.Bool.{both_ways, and_parts, and_from, or_cases, or_left, or_right, not-true, not_from_false, false_from_ne_true}
 use Rattle.nat_types.specs.declared.gateways.GatewayId.{GatewayId}
@@ -13,7 +13,7 @@ use Rattle.spec_trace.specs.Position.{is_state_word, is_state, SyncedSays, is_pa
 use Rattle.nat_types.proofs.Offered.{same-eq, same-true, pair-eq, pair-true}
 use Rattle.spec_trace.proofs.Places.{at_within, at_old, at_last, at_cases, take_old, take_here, last_of, Says, says, last_unique, none_unique, reverse_more}
 
--- what the last note among Synced, Crashed and Booted says
+-- whether a note is Synced
 abbrev is_synced_word : NoteKind → Bool
 is_synced_word (Used p) = false
 is_synced_word (Released p) = false
@@ -73,7 +73,7 @@ synced_so i t = (
   ],
 )
 
--- what the last note of a gateway on a pair says
+-- whether a note is Released
 abbrev is_released : NoteKind → Bool
 is_released (Used p) = false
 is_released (Released p) = true
@@ -131,7 +131,7 @@ agreed_so i p t = (
   ],
 )
 
--- what the last note of a gateway on a pair, or on its lives, says
+-- whether a note is Used or Retaken
 abbrev is_on_word : NoteKind → Bool
 is_on_word (Used p) = true
 is_on_word (Released p) = false
@@ -187,7 +187,7 @@ goes_so i p t = (
   λ h. goes_last i p t ∙ ap goes_of (last_unique (is_of_life i p) t h.0 h.1) ∙ elim h.2 [ inl a ↦ ap is_on_word a | inr a ↦ ap is_on_word a ],
 )
 
--- words that stand after all notes, or before the last
+-- a pair is open after a use of it
 open_new : (p : Pair) (xs : List Note) (n : Note) → n.what ≡ Used p → OpenSays p (xs ++ n ∷ [])
 open_new p xs n e = (
   length xs,
@@ -234,7 +234,8 @@ used_same p q e = cc
 released_same : (p q : Pair) → Released q ≡ Released p → p ≡ q
 released_same p q e = cc
 
--- a note decides by itself whether the pair is open: a use of it, or an agreed deletion
+-- whether a note alone decides if the pair is open: it uses the pair, or is an agreed deletion of
+-- it
 abbrev is_about : Pair → GatewayId → NoteKind → List Note → Bool
 is_about p i (Used q) t = same_pair p q
 is_about p i (Released q) t = same_pair p q && is_agreed i p t
@@ -326,7 +327,7 @@ kept_so Holds t = (
   λ h p o i s. h p ((open_so p t).0 o) i ((synced_so i t).0 s),
 )
 
--- uses in the present life
+-- a use of the pair at the end of the trace is one in the present life
 use_new : (i : GatewayId) (p : Pair) (u : ℕ) (xs : List Note) (n : Note) → n.by ≡ i → n.what ≡ Used p → n.at ≡ u → UseSays i p u (xs ++ n ∷ [])
 use_new i p u xs n a b c = (
   length xs,

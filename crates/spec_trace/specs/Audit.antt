@@ -1,4 +1,4 @@
--- What is wrong with a trace and the tables of the two gateways.
+-- The faults that `audit` finds in a trace and the tables of the two gateways.
 use Rattle.std.specs.Prelude.{◌≡◌, ℕ, ◌-◌, Bool, List, take, IsTrue, ◌↔◌, Contains}
 use Rattle.nat_types.specs.declared.gateways.GatewayId.{GatewayId}
 use Rattle.nat_types.specs.declared.gateways.GatewayId.TheVariants.{Zero, One}
@@ -9,7 +9,7 @@ use Rattle.spec_trace.specs.declared.checker.AuditFault.TheVariants.{NoMemory, N
 use Rattle.spec_trace.specs.Past as past
 use Rattle.spec_trace.specs.Trace.{Fits, Silent, Kept}
 
--- the pairs of the two tables
+-- a gateway holds a pair where the pair is in that gateway's list: `zero` for gateway 0, `one` for gateway 1
 abbrev pub ListsHold : List Pair → List Pair → GatewayId → Pair → Type 0
 ListsHold zero one Zero pair = Contains zero pair
 ListsHold zero one One pair = Contains one pair
@@ -26,14 +26,14 @@ FirstNotFits trace position =
     Fits (take (position - 1) trace) × Silent (take position trace)
     × (Fits (take position trace) → ⊥)
 
--- what a fault says of a trace and two tables
+-- what a fault says of a trace and two tables; out of memory says nothing of them
 abbrev pub FaultSays : List Note → List Pair → List Pair → AuditFault → Type 0
 FaultSays trace zero one NoMemory = Unit {0}
 FaultSays trace zero one (NotFits position) = FirstNotFits trace position
 FaultSays trace zero one NotKept = Fits trace × Silent trace × (Kept (ListsHold zero one) trace → ⊥)
 FaultSays trace zero one (NotSilent position) = FirstNotSilent trace position
 
--- a fault of the trace or of the tables
+-- the fault is one of the trace or of the tables: any fault but NoMemory
 abbrev pub IsFound : AuditFault → Type 0
 IsFound NoMemory = ⊥
 IsFound (NotFits position) = Unit {0}
@@ -44,7 +44,7 @@ IsFound (NotSilent position) = Unit {0}
 abbrev pub AreOpen : List Pair → List Note → Type 0
 AreOpen opens notes = (q : Pair) → Contains opens q ↔ IsTrue (past.is_open q notes)
 
--- what a fault says of one note after the others
+-- what a fault says of one note, given the notes before it
 abbrev pub Judged : List Note → Note → ℕ → AuditFault → Type 0
 Judged notes note position NoMemory = ⊥
 Judged notes note position (NotFits at) =
@@ -53,12 +53,13 @@ Judged notes note position NotKept = ⊥
 Judged notes note position (NotSilent at) =
     (at ≡ position) × (past.SilentAt note.by note.what notes → ⊥)
 
--- what is kept for a gateway, of two values
+-- of two values the one that belongs to the gateway
 abbrev pub by_gateway : GatewayId → Bool → Bool → Bool
 by_gateway Zero zero one = zero
 by_gateway One zero one = one
 
--- what is known after the notes
+-- what the checker knows after the notes: the open pairs, which gateways are synced, and that the notes fit and are
+-- silent
 pub record Going (opens : List Pair) (zero one : Bool) (notes : List Note) : Type 0 where
   pub pairs : AreOpen opens notes
   pub zero_is : zero ≡ past.is_synced Zero notes

@@ -1,5 +1,5 @@
--- One box: a one-to-one map from keys to endpoints, carried along a run of moves. It knows nothing of two gateways but
--- when they last released a pair.
+-- One box: a one-to-one map from keys to endpoints, carried along a run of moves. Of the two gateways a run uses which
+-- of them are synced, which deletions are agreed, and when each used and last released a pair.
 use Rattle.std.specs.Prelude.{◌≡◌, ℕ, ◌+◌, ◌≤◌, Bool, false, not, ◌&&◌, ◌||◌, cond, List, [], ◌∷◌, IsTrue, ◌↔◌, Option, Some, None, reverse}
 use Rattle.nat_types.specs.declared.gateways.GatewayId.{GatewayId}
 use Rattle.nat_types.specs.declared.pairs.Pair.{Pair}
@@ -9,17 +9,17 @@ use Rattle.nat_types.specs.declared.notes.Note.{Note}
 use Rattle.nat_types.specs.Same.{same, same_pair}
 use Rattle.spec_trace.specs.Past.{is_synced, is_agreed, is_open, UsedInLife, rest_of}
 
--- which pairs the map has
+-- a map, as the test of which pairs it has
 abbrev pub Map : Type 0
 Map = Pair → Bool
 
--- what the box does
+-- a move of the box: it allots a new pair, uses a pair, or drops one
 pub data Move : Type 0 where
   Allot : (pair : Pair) → Move
   Use : (pair : Pair) → Move
   Drop : (pair : Pair) → Move
 
--- key and endpoint are both new to the map
+-- the pair's key and its endpoint are both new to the map
 abbrev pub IsNewTo : Pair → Map → Type 0
 IsNewTo pair map =
     (q : Pair) → IsTrue (map q) → (q.key ≡ pair.key → ⊥) × (q.endpoint ≡ pair.endpoint → ⊥)
@@ -36,13 +36,13 @@ map_after map (Allot pair) q = same_pair q pair || map q
 map_after map (Use pair) q = map q
 map_after map (Drop pair) q = map q && not (same_pair q pair)
 
--- moves that may be made one after another lead from a map to another
+-- the moves may be made one after another, and lead from the first map to the last
 abbrev pub Leads : Map → List Move → Map → Type 0
 Leads map [] last = (q : Pair) → last q ≡ map q
 Leads map (move ∷ moves) last = MayMove map move × Leads (map_after map move) moves last
 
--- What the box does at a note: a use, with an Allot before it where the pair isn't in the map; a Drop at an agreed
--- deletion of a pair that is in it.
+-- What the box does at a note. At a use it uses the pair, after an Allot where the map doesn't have it; at an agreed
+-- deletion of a pair in the map it drops the pair.
 abbrev pub moves_at : Map → GatewayId → NoteKind → List Note → List Move
 moves_at map by (Used pair) notes = cond (map pair) (Use pair ∷ []) (Allot pair ∷ Use pair ∷ [])
 moves_at map by (Released pair) notes =
@@ -68,14 +68,15 @@ last_release gateway pair [] = None
 last_release gateway pair (note ∷ notes) =
     release_after gateway pair note.by note.at note.what (last_release gateway pair notes)
 
--- the gateway used the pair in its present life at the latest its rest before its own last release of it
+-- each use of the pair by the gateway in its present life is at least the pair's rest before the gateway's last release
+-- of it
 abbrev pub HasRested : GatewayId → Pair → List Note → Type 0
 HasRested gateway pair notes =
     (use_at : ℕ) → UsedInLife gateway pair use_at notes →
     (released_at : ℕ) × (last_release gateway pair notes ≡ Some released_at)
     × (use_at + rest_of pair.key.protocol ≤ released_at)
 
--- a Drop comes only where the pair has rested at each synced gateway; the release itself is among the notes
+-- each pair dropped has rested at each synced gateway; the release at which it is dropped is among the notes
 abbrev pub AreTimely : List Move → List Note → Type 0
 AreTimely [] notes = Unit {0}
 AreTimely (Allot pair ∷ moves) notes = AreTimely moves notes
@@ -84,18 +85,19 @@ AreTimely (Drop pair ∷ moves) notes =
     ((gateway : GatewayId) → IsTrue (is_synced gateway notes) → HasRested gateway pair notes)
     × AreTimely moves notes
 
--- One box: the notes, the newest first, are those of a run that begins with an empty map and ends with this one.
+-- The notes, the newest first, are those of a run of one box that begins with an empty map and ends with `map`.
 abbrev pub IsRun : Map → List Note → Type 0
 IsRun map [] = (q : Pair) → map q ≡ false
 IsRun map (note ∷ notes) =
     (was : Map) × IsRun was notes × Leads was (moves_at was note.by note.what notes) map
     × AreTimely (moves_at was note.by note.what notes) (note ∷ notes)
 
--- a map is one to one
+-- a map is one to one: two of its pairs share their key exactly where they share their endpoint
 abbrev pub IsOneToOne : Map → Type 0
 IsOneToOne map =
     (p q : Pair) → IsTrue (map p) → IsTrue (map q) → (p.key ≡ q.key) ↔ (p.endpoint ≡ q.endpoint)
 
--- One box, of a trace with the oldest note first: it is a run of one box, whose map is what is open.
+-- One box, of a trace with the oldest note first: the trace is a run of one box, and the map in the end has exactly the
+-- open pairs.
 abbrev pub IsOneBox : List Note → Type 0
 IsOneBox trace = IsRun (λ pair. is_open pair (reverse trace)) (reverse trace)

@@ -1,5 +1,7 @@
--- The words on a trace as they are worked out, note by note: each list has the newest note first.
--- A word is said in two steps: what one more note changes, and the recursion over the notes.
+-- The words on a trace, as recursions over its notes: each list of notes has the newest first. A word has two
+-- definitions: what one more note changes, and the recursion. A note tells that a gateway used, released or retook a
+-- pair, became synced, crashed, or booted. A life of a gateway lasts from a boot, or from the founding, to the next
+-- boot.
 use Rattle.std.specs.Prelude.{◌≡◌, ℕ, ◌+◌, ◌≤◌, Bool, true, false, not, ◌&&◌, ◌||◌, cond, List, [], ◌∷◌, IsTrue, ◌↔◌, ◌⊎◌}
 use Rattle.nat_types.specs.declared.gateways.GatewayId.{GatewayId}
 use Rattle.nat_types.specs.declared.gateways.GatewayId.TheVariants.{Zero}
@@ -11,7 +13,7 @@ use Rattle.nat_types.specs.declared.notes.NoteKind.TheVariants.{Used, Released, 
 use Rattle.nat_types.specs.declared.notes.Note.{Note}
 use Rattle.nat_types.specs.Same.{same, other, same_pair}
 
--- whether a gateway is synced after a note of the gateway `by`, if it was so or not before
+-- whether a gateway is synced after a note of the gateway `by`, where `was` says whether it was before
 abbrev pub synced_after : GatewayId → GatewayId → NoteKind → Bool → Bool
 synced_after gateway by (Used pair) was = was
 synced_after gateway by (Released pair) was = was
@@ -25,7 +27,7 @@ abbrev pub is_synced : GatewayId → List Note → Bool
 is_synced gateway [] = same gateway Zero
 is_synced gateway (note ∷ notes) = synced_after gateway note.by note.what (is_synced gateway notes)
 
--- whether a gateway has let a pair go after a note, if it had or not before
+-- whether a gateway has let a pair go after a note of the gateway `by`, where `had` says whether it had before
 abbrev pub let_go_after : GatewayId → Pair → GatewayId → NoteKind → Bool → Bool
 let_go_after gateway pair by (Used noted) had =
     cond (same gateway by && same_pair pair noted) false had
@@ -43,14 +45,14 @@ has_let_go gateway pair [] = false
 has_let_go gateway pair (note ∷ notes) =
     let_go_after gateway pair note.by note.what (has_let_go gateway pair notes)
 
--- Agreed deletion: a release of the pair by the gateway, after these notes, at which the other isn't synced or has let
+-- Agreed deletion: the gateway, after these notes, releases the pair while the other gateway isn't synced or has let
 -- the pair go.
 abbrev pub is_agreed : GatewayId → Pair → List Note → Bool
 is_agreed gateway pair notes =
     not (is_synced (other gateway) notes) || has_let_go (other gateway) pair notes
 
--- whether a pair is open after a note, if it was so or not before; `agreed` tells of a release of the pair whether it
--- is an agreed deletion
+-- whether a pair is open after a note, where `was` says whether it was before, and `agreed` says of a release of the
+-- pair whether it is an agreed deletion
 abbrev pub open_after : Pair → NoteKind → Bool → Bool → Bool
 open_after pair (Used noted) agreed was = cond (same_pair pair noted) true was
 open_after pair (Released noted) agreed was = cond (same_pair pair noted && agreed) false was
@@ -59,17 +61,17 @@ open_after pair Synced agreed was = was
 open_after pair Crashed agreed was = was
 open_after pair (Booted number) agreed was = was
 
--- Open: the pair was used, and no agreed deletion of it stands after that.
+-- Open: the pair was used, and there was no agreed deletion of it since its last use.
 abbrev pub is_open : Pair → List Note → Bool
 is_open pair [] = false
 is_open pair (note ∷ notes) =
     open_after pair note.what (is_agreed note.by pair notes) (is_open pair notes)
 
--- two pairs share their key exactly where they share their endpoint
+-- two pairs fit: they share their key exactly where they share their endpoint
 abbrev pub DoFit : Pair → Pair → Type 0
 DoFit p q = (p.key ≡ q.key) ↔ (p.endpoint ≡ q.endpoint)
 
--- a note fits the notes before it: the pair that it uses fits each pair that is open there
+-- a note fits the notes before it: the pair that it uses fits each pair that is open after them
 abbrev pub FitsAt : NoteKind → List Note → Type 0
 FitsAt (Used pair) notes = (q : Pair) → IsTrue (is_open q notes) → DoFit q pair
 FitsAt (Released pair) notes = Unit {0}
@@ -83,7 +85,7 @@ abbrev pub Fits : List Note → Type 0
 Fits [] = Unit {0}
 Fits (note ∷ notes) = FitsAt note.what notes × Fits notes
 
--- a note is silent after the notes before it: a gateway that uses a pair is synced there
+-- a note is silent after the notes before it: a gateway that uses a pair is synced after them
 abbrev pub SilentAt : GatewayId → NoteKind → List Note → Type 0
 SilentAt by (Used pair) notes = IsTrue (is_synced by notes)
 SilentAt by (Released pair) notes = Unit {0}
@@ -92,18 +94,18 @@ SilentAt by Synced notes = Unit {0}
 SilentAt by Crashed notes = Unit {0}
 SilentAt by (Booted number) notes = Unit {0}
 
--- Silent: each use of a pair stands where its gateway is synced.
+-- Silent: each use of a pair is by a gateway that is synced just before the use.
 abbrev pub Silent : List Note → Type 0
 Silent [] = Unit {0}
 Silent (note ∷ notes) = SilentAt note.by note.what notes × Silent notes
 
--- Kept: each open pair is held by each synced gateway. Holds tells which pairs a gateway holds.
+-- Kept: each open pair is held by each synced gateway. `Holds` says which pairs a gateway holds.
 abbrev pub Kept : (GatewayId → Pair → Type 0) → List Note → Type 0
 Kept Holds notes =
     (pair : Pair) → IsTrue (is_open pair notes) → (gateway : GatewayId) →
     IsTrue (is_synced gateway notes) → Holds gateway pair
 
--- whether a pair goes on at a gateway after a note, if it did or not before
+-- whether a pair goes on at a gateway after a note of the gateway `by`, where `did` says whether it did before
 abbrev pub goes_after : GatewayId → Pair → GatewayId → NoteKind → Bool → Bool
 goes_after gateway pair by (Used noted) did =
     cond (same gateway by && same_pair pair noted) true did
@@ -121,20 +123,21 @@ goes_on gateway pair [] = false
 goes_on gateway pair (note ∷ notes) =
     goes_after gateway pair note.by note.what (goes_on gateway pair notes)
 
--- Goes on: a synced gateway translates with exactly the pairs that go on there.
+-- Goes on: a synced gateway translates with exactly the pairs that go on there. `Translates` says which pairs it
+-- translates with.
 abbrev pub GoesOn : (GatewayId → Pair → Type 0) → List Note → Type 0
 GoesOn Translates notes =
     (gateway : GatewayId) → IsTrue (is_synced gateway notes) → (pair : Pair) →
     (IsTrue (goes_on gateway pair notes) ↔ Translates gateway pair)
 
--- how long a pair rests before it is let go, in centiseconds
+-- the rest of a pair by its protocol, in centiseconds: how long it is unused before it may be let go
 abbrev pub rest_of : Protocol → ℕ
 rest_of Icmp = 6000
 rest_of Tcp = 24000
 rest_of Udp = 30000
 
--- a note of the gateway `by` at the moment `at` is a use of the pair by the gateway at the moment `use_at`, or such a
--- use stands before it in the same life
+-- a note of the gateway `by` at time `at` is a use of the pair by `gateway` at time `use_at`, or there is such a use
+-- before it in the same life
 abbrev pub UsesAt : GatewayId → Pair → ℕ → GatewayId → ℕ → NoteKind → Type 0 → Type 0
 UsesAt gateway pair use_at by at (Used noted) before =
     ((gateway ≡ by) × (pair ≡ noted) × (use_at ≡ at)) ⊎ before
@@ -144,18 +147,18 @@ UsesAt gateway pair use_at by at Synced before = before
 UsesAt gateway pair use_at by at Crashed before = before
 UsesAt gateway pair use_at by at (Booted number) before = (gateway ≡ by → ⊥) × before
 
--- the gateway used the pair at the moment, in its present life
+-- the gateway used the pair at time `use_at`, in its present life
 abbrev pub UsedInLife : GatewayId → Pair → ℕ → List Note → Type 0
 UsedInLife gateway pair use_at [] = ⊥
 UsedInLife gateway pair use_at (note ∷ notes) =
     UsesAt gateway pair use_at note.by note.at note.what (UsedInLife gateway pair use_at notes)
 
--- each use of the pair by the gateway in its present life lies at least its rest before now
+-- each use of the pair by the gateway in its present life is at least the pair's rest before `now`
 abbrev pub IsIdle : GatewayId → Pair → ℕ → List Note → Type 0
 IsIdle gateway pair now notes =
     (use_at : ℕ) → UsedInLife gateway pair use_at notes → use_at + rest_of pair.key.protocol ≤ now
 
--- a note that releases a pair stands where the pair is idle
+-- the pair that a note releases is idle at the time of the note
 abbrev pub IdleAt : GatewayId → ℕ → NoteKind → List Note → Type 0
 IdleAt by at (Used pair) notes = Unit {0}
 IdleAt by at (Released pair) notes = IsIdle by pair at notes
@@ -164,7 +167,7 @@ IdleAt by at Synced notes = Unit {0}
 IdleAt by at Crashed notes = Unit {0}
 IdleAt by at (Booted number) notes = Unit {0}
 
--- Idle, as the trace alone shows it: each release stands where the pair is idle.
+-- Idle: each pair that is released is idle at that gateway when it is released.
 abbrev pub Idle : List Note → Type 0
 Idle [] = Unit {0}
 Idle (note ∷ notes) = IdleAt note.by note.at note.what notes × Idle notes

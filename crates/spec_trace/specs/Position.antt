@@ -1,5 +1,5 @@
--- What a reader says of a trace by position: the oldest note stands at 0, and `take k trace` is what stood before the
--- note at k.
+-- The words of a trace, said by position: the oldest note is at position 0, and `take k trace` has the notes before the
+-- one at k.
 use Rattle.std.specs.Prelude.{◌≡◌, ℕ, zero, suc, ◌+◌, ◌<◌, ◌≤◌, Bool, true, false, ◌&&◌, ◌||◌, List, [], ◌∷◌, take, Option, Some, None, IsTrue, ◌⊎◌, ◌↔◌}
 use Rattle.nat_types.specs.declared.gateways.GatewayId.{GatewayId}
 use Rattle.nat_types.specs.declared.gateways.GatewayId.TheVariants.{Zero}
@@ -26,7 +26,7 @@ LastIs test trace note =
 abbrev pub NoneIs : (Note → Bool) → List Note → Type 0
 NoneIs test trace = (j : ℕ) (note : Note) → note_at trace j ≡ Some note → test note ≡ false
 
--- Synced, Crashed or Booted
+-- whether a note is Synced, Crashed or Booted
 abbrev pub is_state_word : NoteKind → Bool
 is_state_word (Used pair) = false
 is_state_word (Released pair) = false
@@ -35,7 +35,7 @@ is_state_word Synced = true
 is_state_word Crashed = true
 is_state_word (Booted number) = true
 
--- a note of the gateway among Synced, Crashed and Booted
+-- whether a note is the gateway's, and one of Synced, Crashed and Booted
 abbrev pub is_state : GatewayId → Note → Bool
 is_state gateway note = same gateway note.by && is_state_word note.what
 
@@ -45,7 +45,7 @@ SyncedSays gateway trace =
     ((note : Note) × LastIs (is_state gateway) trace note × (note.what ≡ Synced))
     ⊎ (NoneIs (is_state gateway) trace × (gateway ≡ Zero))
 
--- Used, Released or Retaken, of the pair
+-- whether a note is Used, Released or Retaken, of the pair
 abbrev pub is_pair_word : Pair → NoteKind → Bool
 is_pair_word pair (Used noted) = same_pair pair noted
 is_pair_word pair (Released noted) = same_pair pair noted
@@ -54,7 +54,7 @@ is_pair_word pair Synced = false
 is_pair_word pair Crashed = false
 is_pair_word pair (Booted number) = false
 
--- a note of the gateway on the pair among Used, Released and Retaken
+-- whether a note is the gateway's, and Used, Released or Retaken of the pair
 abbrev pub is_on_pair : GatewayId → Pair → Note → Bool
 is_on_pair gateway pair note = same gateway note.by && is_pair_word pair note.what
 
@@ -63,23 +63,23 @@ abbrev pub LetGoSays : GatewayId → Pair → List Note → Type 0
 LetGoSays gateway pair trace =
     (note : Note) × LastIs (is_on_pair gateway pair) trace note × (note.what ≡ Released pair)
 
--- the other gateway isn't synced, or has let the pair go
+-- a release by the gateway, after this trace, is agreed: the other gateway isn't synced, or has let the pair go
 abbrev pub AgreedSays : GatewayId → Pair → List Note → Type 0
 AgreedSays gateway pair trace =
     (SyncedSays (other gateway) trace → ⊥) ⊎ LetGoSays (other gateway) pair trace
 
--- Agreed deletion: the note, with those before it, is one of the pair.
+-- Agreed deletion: the note releases the pair, and after the notes before it that release is agreed.
 abbrev pub Deletes : Pair → Note → List Note → Type 0
 Deletes pair note before = (note.what ≡ Released pair) × AgreedSays note.by pair before
 
--- Open: there is a Used note of the pair after which no agreed deletion of it stands.
+-- Open: there is a Used note of the pair, and no note after it is an agreed deletion of the pair.
 abbrev pub OpenSays : Pair → List Note → Type 0
 OpenSays pair trace =
     (k : ℕ) × (note : Note) × (note_at trace k ≡ Some note) × (note.what ≡ Used pair)
     × ((j : ℕ) (later : Note) → k < j → note_at trace j ≡ Some later →
     Deletes pair later (take j trace) → ⊥)
 
--- each note, with those before it
+-- P holds of each note and the notes before it
 abbrev pub Each : (Note → List Note → Type 0) → List Note → Type 0
 Each P trace = (k : ℕ) (note : Note) → note_at trace k ≡ Some note → P note (take k trace)
 
@@ -87,15 +87,15 @@ Each P trace = (k : ℕ) (note : Note) → note_at trace k ≡ Some note → P n
 abbrev pub FitsHere : Note → List Note → Type 0
 FitsHere note before = (pair q : Pair) → note.what ≡ Used pair → OpenSays q before → DoFit q pair
 
--- Fits, by position
+-- Fits, by position: FitsHere holds at each note.
 abbrev pub FitsSays : List Note → Type 0
 FitsSays trace = Each FitsHere trace
 
--- a gateway that uses a pair is synced
+-- where the note uses a pair, its gateway is synced just before
 abbrev pub SilentHere : Note → List Note → Type 0
 SilentHere note before = (pair : Pair) → note.what ≡ Used pair → SyncedSays note.by before
 
--- Silent, by position
+-- Silent, by position: SilentHere holds at each note.
 abbrev pub SilentSays : List Note → Type 0
 SilentSays trace = Each SilentHere trace
 
@@ -105,7 +105,7 @@ KeptSays Holds trace =
     (pair : Pair) → OpenSays pair trace → (gateway : GatewayId) → SyncedSays gateway trace →
     Holds gateway pair
 
--- Booted
+-- whether a note is Booted
 abbrev pub is_boot_word : NoteKind → Bool
 is_boot_word (Used pair) = false
 is_boot_word (Released pair) = false
@@ -114,7 +114,7 @@ is_boot_word Synced = false
 is_boot_word Crashed = false
 is_boot_word (Booted number) = true
 
--- a note of the gateway on the pair, or one that begins a life of the gateway
+-- whether a note is the gateway's, and Used, Released or Retaken of the pair, or Booted
 abbrev pub is_of_life : GatewayId → Pair → Note → Bool
 is_of_life gateway pair note =
     same gateway note.by && (is_pair_word pair note.what || is_boot_word note.what)
@@ -131,7 +131,7 @@ TranslatesSays Translates trace =
     (gateway : GatewayId) → SyncedSays gateway trace → (pair : Pair) →
     (GoesOnSays gateway pair trace ↔ Translates gateway pair)
 
--- a Used note of the gateway and the pair has that moment, and no life of the gateway began since
+-- the gateway has a Used note of the pair at time `use_at`, and didn't boot since
 abbrev pub UseSays : GatewayId → Pair → ℕ → List Note → Type 0
 UseSays gateway pair use_at trace =
     (j : ℕ) × (note : Note) × (note_at trace j ≡ Some note) × (note.by ≡ gateway)
@@ -145,6 +145,6 @@ IdleHere note before =
     (pair : Pair) (use_at : ℕ) → note.what ≡ Released pair → UseSays note.by pair use_at before →
     use_at + rest_of pair.key.protocol ≤ note.at
 
--- Idle, by position
+-- Idle, by position: IdleHere holds at each note.
 abbrev pub IdleSays : List Note → Type 0
 IdleSays trace = Each IdleHere trace

@@ -1,4 +1,4 @@
--- The words on a trace, the oldest note first, as a growing trace keeps it.
+-- The words on a trace with the oldest note first, which is the order in which a trace grows.
 use Rattle.std.specs.Prelude.{List, IsTrue, reverse}
 use Rattle.nat_types.specs.declared.gateways.GatewayId.{GatewayId}
 use Rattle.nat_types.specs.declared.pairs.Pair.{Pair}
@@ -21,26 +21,26 @@ IsAgreed gateway pair trace = IsTrue (past.is_agreed gateway pair (reverse trace
 abbrev pub IsOpen : Pair → List Note → Type 0
 IsOpen pair trace = IsTrue (past.is_open pair (reverse trace))
 
--- the pair goes on at the gateway
+-- the pair goes on at the gateway: its last note on the pair in its present life is Used or Retaken
 abbrev pub GoesOnWith : GatewayId → Pair → List Note → Type 0
 GoesOnWith gateway pair trace = IsTrue (past.goes_on gateway pair (reverse trace))
 
--- no two endpoints share a key, and no two keys an endpoint, among a used pair and those that are open just before its use
+-- Fits: among a used pair and those open just before its use, no two endpoints share a key and no two keys an endpoint
 abbrev pub Fits : List Note → Type 0
 Fits trace = past.Fits (reverse trace)
 
--- no gateway uses a pair while it isn't synced
+-- Silent: no gateway uses a pair while it isn't synced
 abbrev pub Silent : List Note → Type 0
 Silent trace = past.Silent (reverse trace)
 
--- each synced gateway holds each open pair
+-- Kept: each synced gateway holds each open pair
 abbrev pub Kept : (GatewayId → Pair → Type 0) → List Note → Type 0
 Kept Holds trace = past.Kept Holds (reverse trace)
 
--- each synced gateway translates with exactly the pairs that go on there
+-- Goes on: each synced gateway translates with exactly the pairs that go on there
 abbrev pub GoesOn : (GatewayId → Pair → Type 0) → List Note → Type 0
 GoesOn Translates trace = past.GoesOn Translates (reverse trace)
 
--- no gateway releases a pair before it rested since its last use there, in the same life
+-- Idle: no gateway releases a pair that it used, in the same life, less than the pair's rest before
 abbrev pub Idle : List Note → Type 0
 Idle trace = past.Idle (reverse trace)

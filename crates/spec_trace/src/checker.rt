@@ -1,4 +1,5 @@
-//! The checker of traces: it goes through the notes once, and keeps the open pairs and who is synced.
+//! The checker of traces. The checker goes through the notes once, and keeps the list of open pairs
+//! and which gateways are synced.
 ghost use Rattle.std.specs.Prelude.{◌≡◌, ◌+◌, not, List, ◌∷◌, filter, reverse, ◌&&◌, IsTrue, ◌↔◌, OnOk, OnErr, IfErr, All, Contains};
 ghost use Rattle.nat_types.specs.Same.{other, same, same_pair};
 ghost use Rattle.nat_types.specs.declared.notes.Note.{Note as Noted};
@@ -18,12 +19,13 @@ use thiserror::Error;
 pub enum AuditFault {
     #[error("out of memory")]
     NoMemory,
-    /// The pair used there shares its key or its endpoint alone with a pair that is open just before.
+    /// The pair used at this note shares only its key, or only its endpoint, with a pair that is
+    /// open just before the note.
     #[error("note {0} uses a pair that does not fit the open pairs")]
     NotFits(usize),
     #[error("a synced gateway does not hold an open pair")]
     NotKept,
-    /// The gateway that uses a pair there isn't synced.
+    /// The gateway that uses a pair at this note isn't synced.
     #[error("note {0} is a use by a gateway that is not synced")]
     NotSilent(usize),
 }
@@ -57,14 +59,14 @@ fn is_same_pair(a: Pair, b: Pair) -> bool
     are_equal(a, b)
 }
 
-/// Whether a note by a gateway on a pair is one of this gateway on this pair.
+/// Whether a note of the gateway `by` on the pair `noted` is a note of `gateway` on `pair`.
 fn is_on(gateway: GatewayId, pair: Pair, by: GatewayId, noted: Pair) -> bool
     ensures { result ≡ (same gateway by && same_pair pair noted) }
 {
     is_same(gateway, by) && is_same_pair(pair, noted)
 }
 
-/// Whether a gateway is synced after a note, if it was so or not before.
+/// Whether a gateway is synced after a note, where `synced` says whether it was before the note.
 fn synced_after(synced: bool, gateway: GatewayId, note: Note) -> bool
     ensures { result ≡ past.synced_after gateway note.by note.what synced }
 {
@@ -78,7 +80,8 @@ fn synced_after(synced: bool, gateway: GatewayId, note: Note) -> bool
     }
 }
 
-/// Whether a gateway has let a pair go after a note, if it had or not before.
+/// Whether a gateway has let a pair go after a note, where `gone` says whether it had before the
+/// note.
 fn let_go_after(gone: bool, gateway: GatewayId, pair: Pair, note: &Note) -> bool
     ensures { result ≡ past.let_go_after gateway pair note.now.by note.now.what gone }
 {
@@ -107,7 +110,7 @@ fn has(pairs: &[Pair], pair: Pair) -> bool
     pairs.contains(&pair)
 }
 
-/// Two pairs share their key exactly where they share their endpoint.
+/// Whether two pairs share both their key and their endpoint, or neither.
 fn do_fit(p: Pair, q: Pair) -> bool
     ensures { IsTrue result ↔ past.DoFit p q }
 {
@@ -126,7 +129,8 @@ fn has_all(table: &[Pair], opens: &[Pair]) -> bool
     opens.iter().all(|open| has(table, *open))
 }
 
-/// Whether each gateway that is synced has all open pairs in its table.
+/// Whether each synced gateway has all open pairs in its table. `zero` and `one` are the tables of
+/// gateway 0 and gateway 1.
 fn are_kept(opens: &[Pair], synced: (bool, bool), zero: &[Pair], one: &[Pair]) -> bool
     ensures { IsTrue result
         ↔ ((IsTrue synced.0 → All (Contains zero.now) opens.now)
@@ -150,7 +154,8 @@ fn of_gateway(gateway: GatewayId, zero: bool, one: bool) -> bool
     }
 }
 
-/// Judges one note after the others.
+/// Judges one note. `opens` has the pairs open before the note, and `synced` says whether its
+/// gateway is synced there.
 fn judge(opens: &[Pair], synced: bool, note: &Note, position: usize) -> Result<(), AuditFault>
     ensures ok { OnOk result
         ((t : List Noted) → AreOpen opens.now t → synced ≡ past.is_synced note.now.by t →
@@ -174,7 +179,8 @@ fn judge(opens: &[Pair], synced: bool, note: &Note, position: usize) -> Result<(
     }
 }
 
-/// The open pairs after a note. `alone` says that the other gateway isn't synced.
+/// Changes the list of open pairs as one note does. `before` has the notes before it, and `alone`
+/// says that the other gateway isn't synced. Answers `NoMemory` where the list can't grow.
 fn follow(
     opens: &mut Vec<Pair>,
     before: &[Note],
@@ -204,14 +210,16 @@ fn follow(
     }
 }
 
-/// Judges a trace, the oldest note first, and the pairs that gateway 0 and gateway 1 hold after it.
-/// The first fault by position counts; of two at one position it is silence, and the tables come last.
+/// Checks a trace, the oldest note first, and the pairs that gateway 0 and gateway 1 hold after it.
+/// Answers the fault with the smallest position. Of two faults at one note `NotSilent` is answered,
+/// and `NotKept` is answered only where no note has a fault. Answers `NoMemory` where the list of
+/// open pairs can't grow.
 pub fn audit(alloc: Global, trace: &[Note], zero: &[Pair], one: &[Pair]) -> Result<(), AuditFault>
     ensures fits { OnOk result (Fits trace.now) }
     ensures silent { OnOk result (Silent trace.now) }
     ensures kept { OnOk result (Kept (ListsHold zero.now one.now) trace.now) }
     ensures fault { IfErr result (FaultSays trace.now zero.now one.now) }
-    // Want of memory is told only where it was refused.
+    // NoMemory is answered only where an allocation was refused.
     ensures short { IfErr result (λ f. f ≡ faults.NoMemory → WasRefused 1) }
 {
     let mut opens = Vec::new(alloc);

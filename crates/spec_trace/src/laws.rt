@@ -1,4 +1,4 @@
-//! What holds of every trace, the oldest note first. Each law is the contract of a function that does nothing.
+//! The laws that hold of every trace, the oldest note first. Each law is the contract of a function that does nothing.
 
 ghost use Rattle.std.specs.Prelude.{◌≡◌, List, [], ◌∷◌, ◌++◌, Bool, reverse, IsTrue, ◌↔◌};
 ghost use Rattle.nat_types.specs.declared.gateways.GatewayId.{GatewayId};
@@ -14,7 +14,7 @@ ghost use Rattle.spec_trace.specs.OneBox.{Map, IsRun, IsOneToOne, IsOneBox};
 ghost use Rattle.spec_trace.specs.Audit.{ListsHold, FaultSays, IsFound};
 ghost use Rattle.spec_trace.specs.declared.checker.AuditFault.{AuditFault};
 
-/// The tests on keys, endpoints and pairs by which the words are worked out are equality.
+/// The functions that compare keys, endpoints and pairs decide equality.
 pub fn tests_are_equality()
     ensures key { (a b : Key) → IsTrue (same_key a b) ↔ (a ≡ b) }
     ensures endpoint { (a b : Endpoint) → IsTrue (same_endpoint a b) ↔ (a ≡ b) }
@@ -36,17 +36,18 @@ pub fn agreed_by_position()
     ensures { (i : GatewayId) (p : Pair) (t : List Note) → IsAgreed i p t ↔ AgreedSays i p t }
 {}
 
-/// A pair is open exactly where there is a use of it after which no agreed deletion of it stands.
+/// A pair is open exactly where there is a use of it with no agreed deletion of it after that use.
 pub fn open_by_position()
     ensures { (p : Pair) (t : List Note) → IsOpen p t ↔ OpenSays p t }
 {}
 
-/// A trace fits exactly where each used pair shares its key with a pair that is open just before as it shares its endpoint.
+/// A trace fits exactly where a used pair shares its key with a pair that is open just before if and only if it shares
+/// its endpoint with it.
 pub fn fits_by_position()
     ensures { (t : List Note) → Fits t ↔ FitsSays t }
 {}
 
-/// A trace is silent exactly where each use stands at a synced gateway.
+/// A trace is silent exactly where each use is by a gateway that is synced just before it.
 pub fn silent_by_position()
     ensures { (t : List Note) → Silent t ↔ SilentSays t }
 {}
@@ -66,7 +67,8 @@ pub fn goes_on_by_position()
         ↔ TranslatesSays (λ i p. IsTrue (translates i p)) t }
 {}
 
-/// A trace is idle exactly where each release comes a rest after each use of the pair by the same gateway in the same life.
+/// A trace is idle exactly where each release comes at least the pair's rest after each use of the pair by the same
+/// gateway in the same life.
 pub fn idle_by_position()
     ensures { (t : List Note) → Idle t ↔ IdleSays t }
 {}
@@ -94,13 +96,14 @@ pub fn one_more_note()
         Idle (t ++ n ∷ []) ↔ past.IdleAt n.by n.at n.what (reverse t) × Idle t }
 {}
 
-/// One box is a one-to-one map from keys to endpoints: a use is of a pair in it, allotted new just before where it isn't there, and an
-/// agreed deletion drops the pair, which has then rested at each synced gateway. A trace that fits and is idle is a run of one box.
+/// A trace that fits and is idle is a run of one box. One box is a one-to-one map from keys to endpoints. A use is of a
+/// pair in the map, which is allotted just before where the map doesn't have it. An agreed deletion drops the pair,
+/// which has then rested at each synced gateway.
 pub fn is_one_box()
     ensures { (t : List Note) → Fits t → Idle t → IsOneBox t }
 {}
 
-/// The map of any run of one box is what is open, and is one to one; so the notes of any run fit.
+/// The map of any run of one box has exactly the open pairs, and is one to one. So the notes of any run fit.
 pub fn one_box_says()
     ensures opens { (m : Map) (t : List Note) → IsRun m (reverse t) → (p : Pair) →
         m p ≡ past.is_open p (reverse t) }
@@ -108,7 +111,8 @@ pub fn one_box_says()
     ensures fits { (m : Map) (t : List Note) → IsRun m (reverse t) → Fits t }
 {}
 
-/// Of each trace and two tables no two faults can be said, and none where all is well; want of memory apart.
+/// No two faults can be said of one trace and its two tables, and none where the trace fits and is silent and the
+/// tables are kept. `NoMemory` is left out of both.
 pub fn one_answer()
     ensures fault { (t : List Note) (zero one : List Pair) (f g : AuditFault) → IsFound f →
         IsFound g → FaultSays t zero one f → FaultSays t zero one g → f ≡ g }

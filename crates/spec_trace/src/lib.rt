@@ -1,5 +1,5 @@
-//! The words in which promises about a pair of gateways are said, over their trace, and a plain program that computes
-//! them.
+//! The words in which the promises about a pair of gateways are said, over their trace, and `audit`, a program that
+//! checks these words on a trace.
 #![tactic(auto)]
 
 mod checker;
