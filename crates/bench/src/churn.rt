@@ -43,7 +43,7 @@ struct Watch {
     /// did.
     beyond: u128,
     worst: u128,
-    worst_let_go: u32,
+    worst_released: u32,
 }
 
 impl Watch {
@@ -58,7 +58,7 @@ impl Watch {
             late: 0,
             beyond: 0,
             worst: 0,
-            worst_let_go: 0,
+            worst_released: 0,
         }
     }
 
@@ -80,9 +80,9 @@ impl Watch {
         }
     }
 
-    /// Records that a tick took `spent` nanoseconds and released `let_go` pairs.
-    fn ticked(&mut self, spent: u128, let_go: u32) {
-        let may = TICK.saturating_add(EACH.saturating_mul(u128::from(let_go)));
+    /// Records that a tick took `spent` nanoseconds and released `released` pairs.
+    fn ticked(&mut self, spent: u128, released: u32) {
+        let may = TICK.saturating_add(EACH.saturating_mul(u128::from(released)));
         self.ticks = self.ticks.saturating_add(1);
         if spent > may {
             self.late = self.late.saturating_add(1);
@@ -91,7 +91,7 @@ impl Watch {
         if beyond > self.beyond || (self.beyond == 0 && spent > self.worst) {
             self.beyond = beyond;
             self.worst = spent;
-            self.worst_let_go = let_go;
+            self.worst_released = released;
         }
     }
 }
@@ -183,7 +183,7 @@ impl<G: Gate> Churn<G> {
         let moment = self.both.moment.saturating_add(ACTIVE);
         self.both.zero.tick(moment, case);
         let spent = self.watch.now(rt, case).saturating_sub(start);
-        self.watch.ticked(spent, self.both.zero.let_go());
+        self.watch.ticked(spent, self.both.zero.released());
     }
 
     /// Ticks the second gateway.
@@ -191,7 +191,7 @@ impl<G: Gate> Churn<G> {
         let start = self.watch.now(rt, case);
         self.both.one.tick(self.both.moment, case);
         let spent = self.watch.now(rt, case).saturating_sub(start);
-        self.watch.ticked(spent, self.both.one.let_go());
+        self.watch.ticked(spent, self.both.one.released());
     }
 
     /// Moves both clocks on by `by` centiseconds, and carries the datagrams.
@@ -274,7 +274,7 @@ fn tell_watch(watch: &Watch, case: &mut Case) {
     case.say(" of ", watch.steps);
     case.say(" above ", STEP);
     case.say(" ns\nworst tick: ", watch.worst);
-    case.say(" ns, let go ", watch.worst_let_go);
+    case.say(" ns, let go ", watch.worst_released);
     case.say(", ", watch.beyond);
     case.say(" ns beyond; ", watch.late);
     case.say(" of ", watch.ticks);

@@ -99,7 +99,7 @@ impl<G: Gate> Station<G> {
     }
 
     /// Returns how many pairs the gateway released in its last output.
-    pub(crate) fn let_go(&self) -> u32 {
+    pub(crate) fn released(&self) -> u32 {
         let mut count = 0u32;
         for note in self.out.notes() {
             if let NoteKind::Released(_) = note.what {

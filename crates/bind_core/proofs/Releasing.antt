@@ -5,7 +5,7 @@ use Rattle.std.proofs.Math.Seq.{drop-cons}
 use Rattle.nat_types.specs.declared.notes.Note.{Note}
 use Rattle.link.specs.Link.{Link}
 use Rattle.spec_binding.specs.Rows.{idle_row, after, answered, noted_by, quiet, release_row, released_row}
-use Rattle.spec_binding.specs.Ledgers.{Ledger, LetGo, ledger_after, let_go, may_ask}
+use Rattle.spec_binding.specs.Ledgers.{Ledger, LetGo, ledger_after, release_all, may_ask}
 use Rattle.nat_types.specs.declared.records.Record.{Record}
 use Rattle.spec_pair.specs.Box.{Letter}
 use Rattle.spec_binding.specs.Books.{Book, is_lone, is_synced}
@@ -38,16 +38,16 @@ pub record IsReleased (now : ℕ) (k : Key) (l : Ledger) (e : Link) (ns : List N
 
 -- releasing the keys from i on is releasing one and then those from i + 1 on
 pub record IsOneMore (now : ℕ) (i : ℕ) (keys : List Key) (l : Ledger) (e : Link) (ns : List Note) (l2 : Ledger) (e2 : Link) (ns2 : List Note) : Type 0 where
-  pub ledger : (let_go now (drop i keys) l e).ledger ≡ (let_go now (drop (i + 1) keys) l2 e2).ledger
-  pub link : (let_go now (drop i keys) l e).link ≡ (let_go now (drop (i + 1) keys) l2 e2).link
-  pub notes : ns ++ (let_go now (drop i keys) l e).notes ≡ ns2 ++ (let_go now (drop (i + 1) keys) l2 e2).notes
+  pub ledger : (release_all now (drop i keys) l e).ledger ≡ (release_all now (drop (i + 1) keys) l2 e2).ledger
+  pub link : (release_all now (drop i keys) l e).link ≡ (release_all now (drop (i + 1) keys) l2 e2).link
+  pub notes : ns ++ (release_all now (drop i keys) l e).notes ≡ ns2 ++ (release_all now (drop (i + 1) keys) l2 e2).notes
 
 head-first : (now : ℕ) (k : Key) (ks : List Key) (l : Ledger) (e : Link) (ns : List Note) (l2 : Ledger) (e2 : Link) (ns2 : List Note) → IsReleased now k l e ns l2 e2 ns2
-    → ((let_go now (k ∷ ks) l e).ledger ≡ (let_go now ks l2 e2).ledger) × ((let_go now (k ∷ ks) l e).link ≡ (let_go now ks l2 e2).link) × (ns ++ (let_go now (k ∷ ks) l e).notes ≡ ns2 ++ (let_go now ks l2 e2).notes)
+    → ((release_all now (k ∷ ks) l e).ledger ≡ (release_all now ks l2 e2).ledger) × ((release_all now (k ∷ ks) l e).link ≡ (release_all now ks l2 e2).link) × (ns ++ (release_all now (k ∷ ks) l e).notes ≡ ns2 ++ (release_all now ks l2 e2).notes)
 head-first now k ks l e ns l2 e2 ns2 is = rw (is.ledger, is.link, is.notes) (
   refl,
   refl,
-  sym (append_assoc ns (noted_by l.book.id now (idle_row l.book (may_ask now e) k).what) (let_go now ks (ledger_after now (idle_row l.book (may_ask now e) k).change l) (answered e (idle_row l.book (may_ask now e) k).answer)).notes),
+  sym (append_assoc ns (noted_by l.book.id now (idle_row l.book (may_ask now e) k).what) (release_all now ks (ledger_after now (idle_row l.book (may_ask now e) k).change l) (answered e (idle_row l.book (may_ask now e) k).answer)).notes),
 )
 
 one-more : (now : ℕ) (i : ℕ) (keys : List Key) (d : Key) (l : Ledger) (e : Link) (ns : List Note) (l2 : Ledger) (e2 : Link) (ns2 : List Note) → i < length keys → IsReleased now (get_or keys i d) l e ns l2 e2 ns2 → IsOneMore now i keys l e ns l2 e2 ns2
@@ -56,9 +56,9 @@ one-more now i keys d l e ns l2 e2 ns2 h is =
     let here : drop i keys ≡ get_or keys i d ∷ drop (suc i) keys = drop-cons keys i d h in
     let next : suc i ≡ i + 1 = omega arith in
     record {
-      ledger = ap (λ (z : List Key). (let_go now z l e).ledger) here ∙ parts.0 ∙ ap (λ (n : ℕ). (let_go now (drop n keys) l2 e2).ledger) next;
-      link = ap (λ (z : List Key). (let_go now z l e).link) here ∙ parts.1 ∙ ap (λ (n : ℕ). (let_go now (drop n keys) l2 e2).link) next;
-      notes = ap (λ (z : List Key). ns ++ (let_go now z l e).notes) here ∙ parts.2 ∙ ap (λ (n : ℕ). ns2 ++ (let_go now (drop n keys) l2 e2).notes) next;
+      ledger = ap (λ (z : List Key). (release_all now z l e).ledger) here ∙ parts.0 ∙ ap (λ (n : ℕ). (release_all now (drop n keys) l2 e2).ledger) next;
+      link = ap (λ (z : List Key). (release_all now z l e).link) here ∙ parts.1 ∙ ap (λ (n : ℕ). (release_all now (drop n keys) l2 e2).link) next;
+      notes = ap (λ (z : List Key). ns ++ (release_all now z l e).notes) here ∙ parts.2 ∙ ap (λ (n : ℕ). ns2 ++ (release_all now (drop n keys) l2 e2).notes) next;
     }
 
 all-done : (i : ℕ) (keys : List Key) → length keys ≤ i → drop i keys ≡ []
@@ -68,8 +68,8 @@ all-done zero (k ∷ ks) h = absurd (omega (arith, h))
 all-done (suc i) (k ∷ ks) h = all-done i ks (omega (arith, h))
 
 -- after the last key, nothing is released
-pub gone : (now i : ℕ) (keys : List Key) (l : Ledger) (e : Link) → length keys ≤ i → let_go now (drop i keys) l e ≡ record { ledger = l; link = e; notes = [] }
-gone now i keys l e past = ap (λ (ks : List Key). let_go now ks l e) (all-done i keys past)
+pub gone : (now i : ℕ) (keys : List Key) (l : Ledger) (e : Link) → length keys ≤ i → release_all now (drop i keys) l e ≡ record { ledger = l; link = e; notes = [] }
+gone now i keys l e past = ap (λ (ks : List Key). release_all now ks l e) (all-done i keys past)
 
 pub one-more-at : (now : ℕ) (i : ℕ) (keys : List Key) (k : Key) (l : Ledger) (e : Link) (ns : List Note) (l2 : Ledger) (e2 : Link) (ns2 : List Note) → slice_get keys i ≡ Some k → IsReleased now k l e ns l2 e2 ns2 → IsOneMore now i keys l e ns l2 e2 ns2
 one-more-at now i keys k l e ns l2 e2 ns2 h is =
@@ -95,17 +95,17 @@ idle-quiet b ask k = at (is_synced b.stage) (is_lone b.stage) ask (slot_of b.ent
     at true false false (Some x) h g = released-quiet x.pair x.state
 
 -- a gateway that isn't lone, and may not ask, releases none
-none-from : (now : ℕ) (ks : List Key) (l : Ledger) (e : Link) → is_lone l.book.stage ≡ false → may_ask now e ≡ false → let_go now ks l e ≡ record { ledger = l; link = e; notes = [] }
+none-from : (now : ℕ) (ks : List Key) (l : Ledger) (e : Link) → is_lone l.book.stage ≡ false → may_ask now e ≡ false → release_all now ks l e ≡ record { ledger = l; link = e; notes = [] }
 none-from now [] l e lone mute = refl
 none-from now (k ∷ ks) l e lone mute =
-    ap (λ (r : Transition). let rest : LetGo = let_go now ks (ledger_after now r.change l) (answered e r.answer) in let all : LetGo = record rest { notes = noted_by l.book.id now r.what ++ rest.notes } in all) (idle-quiet l.book (may_ask now e) k lone mute)
+    ap (λ (r : Transition). let rest : LetGo = release_all now ks (ledger_after now r.change l) (answered e r.answer) in let all : LetGo = record rest { notes = noted_by l.book.id now r.what ++ rest.notes } in all) (idle-quiet l.book (may_ask now e) k lone mute)
     ∙ none-from now ks l e lone mute
 
 neither : (a b : Bool) → (a || b) ≡ false → (a ≡ false) × (b ≡ false)
 neither true b h = cc
 neither false b h = (refl, h)
 
-pub none-go : (now : ℕ) (ks : List Key) (l : Ledger) (e : Link) → (is_lone l.book.stage || may_ask now e) ≡ false → let_go now ks l e ≡ record { ledger = l; link = e; notes = [] }
+pub none-go : (now : ℕ) (ks : List Key) (l : Ledger) (e : Link) → (is_lone l.book.stage || may_ask now e) ≡ false → release_all now ks l e ≡ record { ledger = l; link = e; notes = [] }
 none-go now ks l e h = let parts = neither (is_lone l.book.stage) (may_ask now e) h in none-from now ks l e parts.0 parts.1
 
 -- ---- acts
@@ -118,12 +118,12 @@ pub record TickLaws : Type 0 where
   pub nothing : (now : ℕ) (letters : List Letter) (words : List ℕ) (b : Book) (e : Link) (n : ℕ) (h : List Record) → Stands b e h → Works now letters words b e n b e n [] h
 
 pub released-works : (laws : TickLaws) (now : ℕ) (keys : List Key) (l : Ledger) (e : Link) (n : ℕ) (h : List Record) → Stands l.book e h
-    → Works now [] [] l.book e n (let_go now keys l e).ledger.book (let_go now keys l e).link n (let_go now keys l e).notes h
+    → Works now [] [] l.book e n (release_all now keys l e).ledger.book (release_all now keys l e).link n (release_all now keys l e).notes h
 released-works laws now [] l e n h stands = laws.nothing now [] [] l.book e n h stands
 released-works laws now (k ∷ ks) l e n h stands =
     let row = idle_row l.book (may_ask now e) k in
     let l2 = ledger_after now row.change l in
     let e2 = answered e row.answer in
     let first : Works now [] [] l.book e n l2.book e2 n (noted_by l.book.id now row.what) h = laws.idle now l.book e n h (may_ask now e) k stands in
-    laws.join now [] [] l.book l2.book (let_go now ks l2 e2).ledger.book e e2 (let_go now ks l2 e2).link n n n (noted_by l.book.id now row.what) (let_go now ks l2 e2).notes h first
+    laws.join now [] [] l.book l2.book (release_all now ks l2 e2).ledger.book e e2 (release_all now ks l2 e2).link n n n (noted_by l.book.id now row.what) (release_all now ks l2 e2).notes h first
     (released-works laws now ks l2 e2 n first.history first.agrees)

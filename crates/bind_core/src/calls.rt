@@ -15,7 +15,7 @@ ghost use Rattle.spec_binding.specs.Machine.{IsTurn, Stands, Works};
 ghost use Rattle.nat_types.specs.declared.records.Record.{Record as Rec};
 ghost use Rattle.spec_pair.specs.Box.{Letter};
 ghost use Rattle.bind_core.specs.Changes.{LivesOn};
-ghost use Rattle.spec_binding.specs.Ledgers.{alone_ledger, ledger_after, let_go, rests_for};
+ghost use Rattle.spec_binding.specs.Ledgers.{alone_ledger, ledger_after, release_all, rests_for};
 ghost use Rattle.spec_binding.specs.Ledgers.{may_ask as may_ask_at};
 ghost use Rattle.spec_binding.specs.Ledgers.{restarted_ledger, taken_ledger};
 ghost use Rattle.bindings.specs.Table.{idle_keys_of};
@@ -111,18 +111,18 @@ impl Core {
         requires reserved { vec_len notes.old + length self.old.table.entries
             < vec_capacity notes.old }
         ensures ledger { let keys = idle_keys_of self.old.table (is_lone_at self.old.stage) now
-            in ledger_of self.new ≡ (let_go now keys (ledger_of self.old) link.old).ledger }
+            in ledger_of self.new ≡ (release_all now keys (ledger_of self.old) link.old).ledger }
         ensures link { let keys = idle_keys_of self.old.table (is_lone_at self.old.stage) now
-            in link.new ≡ (let_go now keys (ledger_of self.old) link.old).link }
+            in link.new ≡ (release_all now keys (ledger_of self.old) link.old).link }
         ensures notes { let keys = idle_keys_of self.old.table (is_lone_at self.old.stage) now
             in notes.new.items ≡ notes.old.items
-            ++ (let_go now keys (ledger_of self.old) link.old).notes }
+            ++ (release_all now keys (ledger_of self.old) link.old).notes }
         ensures ready { self.new.table.ready ≡ self.old.table.ready }
         ensures len { vec_len notes.new ≤ vec_len notes.old + length self.old.table.entries }
         ensures capacity { vec_capacity notes.new ≡ vec_capacity notes.old }
         ensures works { (h : List Rec) (n : ℕ) → Stands (book_of self.old) link.old h
             → Works now [] [] (book_of self.old) link.old n (book_of self.new) link.new n
-            (let_go now (idle_keys_of self.old.table (is_lone_at self.old.stage) now)
+            (release_all now (idle_keys_of self.old.table (is_lone_at self.old.stage) now)
             (ledger_of self.old) link.old).notes h }
     {
         idle_works();
@@ -142,18 +142,18 @@ impl Core {
         requires reserved { vec_len notes.old + length self.old.table.entries
             < vec_capacity notes.old }
         ensures ledger { let keys = idle_keys_of self.old.table (is_lone_at self.old.stage) now
-            in ledger_of self.new ≡ (let_go now keys (ledger_of self.old) link.old).ledger }
+            in ledger_of self.new ≡ (release_all now keys (ledger_of self.old) link.old).ledger }
         ensures link { let keys = idle_keys_of self.old.table (is_lone_at self.old.stage) now
-            in link.new ≡ (let_go now keys (ledger_of self.old) link.old).link }
+            in link.new ≡ (release_all now keys (ledger_of self.old) link.old).link }
         ensures notes { let keys = idle_keys_of self.old.table (is_lone_at self.old.stage) now
             in notes.new.items ≡ notes.old.items
-            ++ (let_go now keys (ledger_of self.old) link.old).notes }
+            ++ (release_all now keys (ledger_of self.old) link.old).notes }
         ensures ready { self.new.table.ready ≡ self.old.table.ready }
         ensures len { vec_len notes.new ≤ vec_len notes.old + length self.old.table.entries }
         ensures capacity { vec_capacity notes.new ≡ vec_capacity notes.old }
         ensures works { (h : List Rec) (n : ℕ) → Stands (book_of self.old) link.old h
             → Works now [] [] (book_of self.old) link.old n (book_of self.new) link.new n
-            (let_go now (idle_keys_of self.old.table (is_lone_at self.old.stage) now)
+            (release_all now (idle_keys_of self.old.table (is_lone_at self.old.stage) now)
             (ledger_of self.old) link.old).notes h }
     {
         works_nothing();

@@ -134,7 +134,7 @@ pub(crate) fn refuse(entry: Option<Entry>) -> Transition
     }
 }
 
-fn let_go(pair: Pair, rests: bool) -> Transition
+fn release_rested(pair: Pair, rests: bool) -> Transition
     ensures { result ≡ asked_row pair rests Held }
 {
     if rests {
@@ -152,7 +152,7 @@ fn asked(pair: Pair, rests: bool, state: EntryState) -> Transition
     ensures { result ≡ asked_row pair rests state }
 {
     match state {
-        EntryState::Held => let_go(pair, rests),
+        EntryState::Held => release_rested(pair, rests),
         EntryState::Pending | EntryState::Doomed | EntryState::Live | EntryState::Closing => {
             answering(Record::Yes(pair.key))
         }

@@ -122,7 +122,7 @@ fn room_for_step(
 /// Has a gateway take a step, and answers its outcome. NoMemory from this call, and from no other, is named
 /// `WasUnstepped`.
 #[tactic(auto, unfolding(crate::specs::Lacks::WasUnstepped))]
-fn told_to_step(gateway: &mut Gateway, event: Event<'_>, out: &mut Out) -> Result<Outcome, NoMemory>
+fn step_gateway(gateway: &mut Gateway, event: Event<'_>, out: &mut Out) -> Result<Outcome, NoMemory>
     ensures outcome { IfOk result (λ o. o ≡ outcome_on gateway.old event.entry) }
     ensures step { OnOk result (IsStepOn (scene gateway.old out.old) event.entry
         (scene gateway.new out.new)) }
@@ -170,7 +170,7 @@ fn step_up(
     let letter = room_for_step(alloc, gateway, sent, trace)?;
     let noted = out.notes().len();
     let told = out.datagram_count();
-    let outcome = told_to_step(gateway, event, out)?;
+    let outcome = step_gateway(gateway, event, out)?;
     gateway.recall();
     append_notes(trace, out, noted);
     append_datagram(sent, letter, out, told);

@@ -312,13 +312,13 @@ impl<'a> World<'a> {
         ensures { Gives self.old event.now result self.new }
     {
         let mut out = Out::new(self.alloc);
-        let answer = self.told_to_take(event, &mut out);
+        let answer = self.take_event(event, &mut out);
         Step { answer, out }
     }
 
     /// Takes one event by `apply`. The answer of this call, and of no other, is named `WasTaken`.
     #[tactic(auto, unfolding(crate::specs::Runs::WasTaken))]
-    fn told_to_take(&mut self, event: &WorldEvent, out: &mut Out) -> Result<Outcome, WorldFault>
+    fn take_event(&mut self, event: &WorldEvent, out: &mut Out) -> Result<Outcome, WorldFault>
         ensures answers { Answers self.old event.now out.old result out.new self.new }
         ensures taken { WasTaken self.old event.now result self.new }
     {

@@ -35,7 +35,7 @@ use Rattle.spec_binding.specs.declared.changes.Transition.{Transition}
 use Rattle.spec_binding.specs.declared.changes.PortRequest.{PortRequest}
 use Rattle.spec_binding.specs.declared.changes.Want.TheVariants as want
 use Rattle.spec_binding.specs.Books.{Book, IsBook, empty_book, is_lone, is_synced, load_of}
-use Rattle.spec_binding.specs.Ledgers.{Ledger, alone_ledger, carried_ledger, ledger_after, let_go, lives_after, lives_loaded, may_ask, restarted_ledger, rests_for, taken_ledger}
+use Rattle.spec_binding.specs.Ledgers.{Ledger, alone_ledger, carried_ledger, ledger_after, release_all, lives_after, lives_loaded, may_ask, restarted_ledger, rests_for, taken_ledger}
 use Rattle.spec_binding.specs.Resets.{back_in, begun_anew, restart_notes, retaken}
 use Rattle.spec_binding.specs.Rows.{after, answered, carry_row, changed, idle_row, load_taken, load_what, noted_by, quiet, release_row, released_row, row, row_of, taken_what, unsynced_after, unsynced_what, use_row, used_row, wish, wish_by, wish_of}
 use Rattle.spec_binding.specs.Uses.{Accounts, KnowUses, uses_after, uses_of}
@@ -283,7 +283,7 @@ idle-accounts now l h ask k is a rested = at (is_synced l.book.stage) refl
         subst (λ (r : Transition). Accounts now (ledger_after now r.change l) (reverse (noted_by l.book.id now r.what) ++ h)) (sym still) a
 
 let-go-rested : (now : ℕ) (keys : List Key) (l : Ledger) (e : Link) (h : List Note) → IsBook l.book → Accounts now l h → AllRest now keys l h
-    → Accounts now (let_go now keys l e).ledger (reverse (let_go now keys l e).notes ++ h)
+    → Accounts now (release_all now keys l e).ledger (reverse (release_all now keys l e).notes ++ h)
 let-go-rested now [] l e h is a rest = a
 let-go-rested now (k ∷ ks) l e h is a rest =
     let line = idle_row l.book (may_ask now e) k in
@@ -297,9 +297,9 @@ let-go-rested now (k ∷ ks) l e h is a rest =
     let before = rest q was.entry (or_right (same_key k q) (is_among q ks) among) was.found in
     subst (λ (z : List ℕ). HaveRested (least_rest q.protocol) now z)
     (sym (ap (λ (g : GatewayId). uses_of g h2 y.pair) beside.id ∙ idle-uses l.book (may_ask now e) k l.book.id l.book.id now h y.pair ∙ ap (uses_of l.book.id h) (sym was.pair))) before in
-    subst (λ (z : List Note). Accounts now (let_go now ks l2 e2).ledger z) (sym (reversed-join (noted_by l.book.id now line.what) (let_go now ks l2 e2).notes h))
+    subst (λ (z : List Note). Accounts now (release_all now ks l2 e2).ledger z) (sym (reversed-join (noted_by l.book.id now line.what) (release_all now ks l2 e2).notes h))
     (let-go-rested now ks l2 e2 h2 (idle-keeps l.book (may_ask now e) k is) here left)
 
 pub let-go-accounts : (now : ℕ) (l : Ledger) (e : Link) (h : List Note) → IsBook l.book → Accounts now l h
-    → Accounts now (let_go now (idle_keys_in (is_lone l.book.stage) now l.book.entries l.lives) l e).ledger (reverse (let_go now (idle_keys_in (is_lone l.book.stage) now l.book.entries l.lives) l e).notes ++ h)
+    → Accounts now (release_all now (idle_keys_in (is_lone l.book.stage) now l.book.entries l.lives) l e).ledger (reverse (release_all now (idle_keys_in (is_lone l.book.stage) now l.book.entries l.lives) l e).notes ++ h)
 let-go-accounts now l e h is a = let-go-rested now (idle_keys_in (is_lone l.book.stage) now l.book.entries l.lives) l e h is a (λ k x among found. rested-listed now l h k x is a found among)

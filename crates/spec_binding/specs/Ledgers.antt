@@ -111,9 +111,9 @@ pub record LetGo : Type 0 where
   pub notes : List Note
 
 -- the idle pairs of these keys are let go one after another, each after the ones before
-abbrev pub let_go : ℕ → List Key → Ledger → Link → LetGo
-let_go now [] l e = record { ledger = l; link = e; notes = [] }
-let_go now (k ∷ ks) l e =
+abbrev pub release_all : ℕ → List Key → Ledger → Link → LetGo
+release_all now [] l e = record { ledger = l; link = e; notes = [] }
+release_all now (k ∷ ks) l e =
     let row = idle_row l.book (may_ask now e) k in
-    let rest = let_go now ks (ledger_after now row.change l) (answered e row.answer) in
+    let rest = release_all now ks (ledger_after now row.change l) (answered e row.answer) in
     record rest { notes = noted_by l.book.id now row.what ++ rest.notes }

@@ -41,7 +41,7 @@ ghost use Rattle.slots.specs.declared.hashers.Hashers.{Hashers};
 ghost use Rattle.bindings.specs.Lives.{idle_keys_in};
 ghost use Rattle.spec_trace.specs.Past.{Idle};
 ghost use Rattle.spec_binding.specs.Ledgers.{Ledger, alone_ledger, carried_ledger, ledger_after};
-ghost use Rattle.spec_binding.specs.Ledgers.{let_go, restarted_ledger, rests_for, taken_ledger};
+ghost use Rattle.spec_binding.specs.Ledgers.{release_all, restarted_ledger, rests_for, taken_ledger};
 ghost use Rattle.spec_binding.specs.Uses.{Accounts, uses_of};
 
 /// The change of each row fits the book for which the row is decided.
@@ -313,8 +313,8 @@ pub fn accounts_kept()
         → Accounts now (alone_ledger now l)
         (reverse (retaken l.book.id now (back_in l.book.entries)) ++ h) }
     // The idle pairs of a tick are let go one after another.
-    ensures let_go { (now : ℕ) (l : Ledger) (e : Link) (h : List Note) → IsBook l.book
+    ensures release_all { (now : ℕ) (l : Ledger) (e : Link) (h : List Note) → IsBook l.book
         → Accounts now l h
         → let keys = idle_keys_in (is_lone l.book.stage) now l.book.entries l.lives in
-        Accounts now (let_go now keys l e).ledger (reverse (let_go now keys l e).notes ++ h) }
+        Accounts now (release_all now keys l e).ledger (reverse (release_all now keys l e).notes ++ h) }
 {}

@@ -9,7 +9,7 @@ use Rattle.nat_types.specs.declared.notes.Note.{Note}
 use Rattle.nat_types.specs.declared.pairs.Endpoint.{Endpoint}
 use Rattle.nat_types.specs.declared.pairs.Key.{Key}
 use Rattle.nat_types.specs.declared.pairs.Pair.{Pair}
-use Rattle.spec_trace.specs.Past.{has_let_go, is_open, goes_on, is_agreed}
+use Rattle.spec_trace.specs.Past.{has_released, is_open, goes_on, is_agreed}
 use Rattle.spec_pair.proofs.Phase.{owns, Phase, shared, closing}
 use Rattle.spec_pair.specs.Talk.{Slot, translated, set_at, pair_of, note}
 use Rattle.spec_pair.proofs.Traced.{Covers, LetsGo, GoesAt}
@@ -120,7 +120,7 @@ module _ (owner : Key → GatewayId) where
 
   -- a release lets more pairs go
   pub lets_go_release : (moment : ℕ) (j : GatewayId) (ph : Key → Phase) (t : List Note) (i : GatewayId) (p : Pair) → LetsGo owner j ph t → LetsGo owner j ph (note i moment (Released p) ∷ t)
-  lets_go_release moment j ph t i p l s q e own cl = elim (same j i && same_pair (pair_of q e) p) as (λ b. cond b true (has_let_go j (pair_of q e) t) ≡ true) [ true ↦ refl | false ↦ l s q e own cl ]
+  lets_go_release moment j ph t i p l s q e own cl = elim (same j i && same_pair (pair_of q e) p) as (λ b. cond b true (has_released j (pair_of q e) t) ≡ true) [ true ↦ refl | false ↦ l s q e own cl ]
 
   -- a note that takes a pair again changes nothing, where the pair isn't asked to be closed
   pub lets_go_retake : (moment : ℕ) (j : GatewayId) (ph : Key → Phase) (t : List Note) (i : GatewayId) (k : Key) (n : Endpoint) → LetsGo owner j ph t → (IsTrue (owns owner j k) → same j i ≡ true → closing (ph k) ≡ None) → LetsGo owner j ph (note i moment (Retaken (pair_of k n)) ∷ t)
@@ -129,7 +129,7 @@ module _ (owner : Key → GatewayId) where
         let at : q ≡ k = ap (λ x. x.key) (pair-eq (pair_of q e) (pair_of k n) parts.1) in
         let a : closing (ph k) ≡ None = none (ap (owns owner j) (sym at) ∙ own) parts.0 in
         let bad : None ≡ Some e = sym a ∙ ap (λ x. closing (ph x)) (sym at) ∙ cl in absurd (cc)
-    | inr b ↦ ap (λ x. cond x false (has_let_go j (pair_of q e) t)) b ∙ l s q e own cl
+    | inr b ↦ ap (λ x. cond x false (has_released j (pair_of q e) t)) b ∙ l s q e own cl
   ]
 
   pub lets_go_use : (moment : ℕ) (j : GatewayId) (ph : Key → Phase) (t : List Note) (i : GatewayId) (k : Key) (n : Endpoint) → LetsGo owner j ph t → (IsTrue (owns owner j k) → same j i ≡ true → closing (ph k) ≡ None) → LetsGo owner j ph (note i moment (Used (pair_of k n)) ∷ t)
@@ -142,6 +142,6 @@ module _ (owner : Key → GatewayId) where
         let ee : n ≡ e = cc in
         let pp : pair_of k n ≡ pair_of q e = ap (λ x. pair_of x n) at ∙ ap (pair_of q) ee in
         let b : (same i i && same_pair (pair_of q e) (pair_of k n)) ≡ true = and_from (same i i) (same_pair (pair_of q e) (pair_of k n)) (same-self i) (ap (same_pair (pair_of q e)) pp ∙ pair-self (pair_of q e)) in
-        ap (λ x. cond x true (has_let_go i (pair_of q e) t)) b
+        ap (λ x. cond x true (has_released i (pair_of q e) t)) b
     | inr ne ↦ lets_go_release moment i ph t i (pair_of k n) l s q e own (ap closing (sym (set_other ph k after_act q ne)) ∙ cl)
   ]

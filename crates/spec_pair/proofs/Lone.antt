@@ -9,7 +9,7 @@ use Rattle.nat_types.specs.declared.notes.Note.{Note}
 use Rattle.nat_types.specs.declared.pairs.Endpoint.{Endpoint}
 use Rattle.nat_types.specs.declared.pairs.Key.{Key}
 use Rattle.nat_types.specs.declared.pairs.Pair.{Pair}
-use Rattle.spec_trace.specs.Past.{is_synced, is_open, has_let_go, is_agreed, Fits, Silent}
+use Rattle.spec_trace.specs.Past.{is_synced, is_open, has_released, is_agreed, Fits, Silent}
 use Rattle.spec_pair.specs.Acts.{LoneNew, LoneUse, LoneDrop}
 use Rattle.spec_pair.specs.Box.{with_table}
 use Rattle.spec_pair.proofs.Beside.{side_beside}
@@ -124,7 +124,7 @@ module _ (r : Ranges) where
       let at : (q : Key) → k ≡ q → set_at s.mine.table k Free q ≡ Free = λ q eq. set_same s.mine.table k Free q eq in
       let off : (q : Key) → (k ≡ q → ⊥) → set_at s.mine.table k Free q ≡ s.mine.table q = λ q ne. set_other s.mine.table k Free q ne in
       let none : (q : Key) (n : Endpoint) → k ≡ q → held (set_at s.mine.table k Free q) ≡ Some n → ⊥ = λ q n eq h. let bad : None ≡ Some n = ap held (sym (at q eq)) ∙ h in cc in
-      let agreed : (p : Pair) → is_agreed i p s.trace ≡ true = λ p. or_left (not (is_synced (other i) s.trace)) (has_let_go (other i) p s.trace) (ap not (v.there.synced_is ∙ x.other_out)) in
+      let agreed : (p : Pair) → is_agreed i p s.trace ≡ true = λ p. or_left (not (is_synced (other i) s.trace)) (has_released (other i) p s.trace) (ap not (v.there.synced_is ∙ x.other_out)) in
       lone_step i s new (note i moment (Released (pair_of k e)) ∷ s.trace) v can.0.0 x (λ j. refl) (tt, v.fits) (tt, v.silent)
       (goes_out moment i s.mine.table new s.trace k e (v.here.goes (v.here.up_synced can.0.0)) can.0.2 (ap translated (at k refl)) (λ q ne. ap translated (off q ne)))
       (λ q. elim (cases_key k q) [ inl eq ↦ ap (is_proper (keyed s.mine.owned q)) (at q eq) | inr ne ↦ ap (is_proper (keyed s.mine.owned q)) (off q ne) ∙ x.proper q ])

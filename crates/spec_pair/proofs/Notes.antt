@@ -8,7 +8,7 @@ use Rattle.nat_types.specs.declared.notes.NoteKind.TheVariants.{Released}
 use Rattle.nat_types.specs.declared.notes.Note.{Note}
 use Rattle.nat_types.specs.declared.pairs.Endpoint.{Endpoint}
 use Rattle.nat_types.specs.declared.pairs.Key.{Key}
-use Rattle.spec_trace.specs.Past.{is_synced, has_let_go, Fits, Silent}
+use Rattle.spec_trace.specs.Past.{is_synced, has_released, Fits, Silent}
 use Rattle.spec_pair.proofs.Phase.{owns, MayDoOwned, Phase, Nothing, Proposed, Accepted, Refused, GivenUpRefused, Shared, Asked, Staying, Leaving, shared, closing, give_up, refuse, flight_at, Talks, phase_after}
 use Rattle.spec_pair.specs.Talk.{Slot, Free, Pending, Doomed, Live, Closing, Held, held, translated, MachineRecord, Install, Accept, Refuse, Ask, Yes, No, is_on, on, set_at, pair_of, Deed, Propose, Close, Use, Agree, Yield, Reject, Agreed, Rejected, Leave, Stay, Left, Stayed, Pass, Skip, taken_by, table_after, noted_by, note}
 use Rattle.spec_pair.proofs.Traced.{Covers, LetsGo, GoesAt}
@@ -71,8 +71,8 @@ module _ (owner : Key → GatewayId) (moment : ℕ) where
         let seen : (owns owner (other i) k ≡ true) × (ph k ≡ Asked e) = asked_shared k e w may in
         covers_agreed moment ph t i k e (Leaving e) c (ap shared seen.1)
         (elim (cases_Bool (is_synced (other i) t)) [
-          | inl s ↦ or_right (not (is_synced (other i) t)) (has_let_go (other i) (pair_of k e) t) (l s k e seen.0 (ap closing seen.1))
-          | inr s ↦ or_left (not (is_synced (other i) t)) (has_let_go (other i) (pair_of k e) t) (ap not s)
+          | inl s ↦ or_right (not (is_synced (other i) t)) (has_released (other i) (pair_of k e) t) (l s k e seen.0 (ap closing seen.1))
+          | inr s ↦ or_left (not (is_synced (other i) t)) (has_released (other i) (pair_of k e) t) (ap not s)
         ])
     covers_deed (Stay k e) t w may c l = covers_set ph t k (Staying e) c (λ n h. sym (ap shared (asked_shared k e w may).1) ∙ h)
     covers_deed (Left k e) t w may c l =

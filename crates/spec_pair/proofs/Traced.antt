@@ -5,7 +5,7 @@ use Rattle.nat_types.specs.declared.notes.Note.{Note}
 use Rattle.nat_types.specs.declared.pairs.Endpoint.{Endpoint}
 use Rattle.nat_types.specs.declared.pairs.Key.{Key}
 use Rattle.nat_types.specs.declared.pairs.Pair.{Pair}
-use Rattle.spec_trace.specs.Past.{is_synced, has_let_go, is_open, goes_on}
+use Rattle.spec_trace.specs.Past.{is_synced, has_released, is_open, goes_on}
 use Rattle.spec_pair.proofs.Phase.{owns, Phase, shared, closing}
 use Rattle.spec_pair.specs.Talk.{Slot, translated, pair_of}
 
@@ -20,4 +20,4 @@ GoesAt i table t = (p : Pair) → (IsTrue (goes_on i p t) ↔ (translated (table
 module _ (owner : Key → GatewayId) where
   -- while gateway i is synced, it has let go the pairs that it asks to close
   abbrev pub LetsGo : GatewayId → (Key → Phase) → List Note → Type 0
-  LetsGo i phase t = IsTrue (is_synced i t) → (k : Key) (e : Endpoint) → IsTrue (owns owner i k) → closing (phase k) ≡ Some e → IsTrue (has_let_go i (pair_of k e) t)
+  LetsGo i phase t = IsTrue (is_synced i t) → (k : Key) (e : Endpoint) → IsTrue (owns owner i k) → closing (phase k) ≡ Some e → IsTrue (has_released i (pair_of k e) t)

@@ -22,7 +22,7 @@ use Rattle.link.specs.Reading.{reading}
 use Rattle.link.proofs.Offered.{all_taken, reading_takes}
 use Rattle.resync.specs.Loading.{Load, loaded}
 use Rattle.spec_binding.specs.Books.{Book, empty_book, is_lone, is_synced, IsBook, load_of}
-use Rattle.spec_binding.specs.Ledgers.{Ledger, alone_ledger, ledger_after, let_go, may_ask, restarted_ledger, rests_for, taken_ledger}
+use Rattle.spec_binding.specs.Ledgers.{Ledger, alone_ledger, ledger_after, release_all, may_ask, restarted_ledger, rests_for, taken_ledger}
 use Rattle.spec_binding.specs.Resets.{back_in, begun_anew, restart_link, restart_notes, restarted, retaken}
 use Rattle.spec_binding.specs.Rows.{after, answered, load_taken, noted_by, row_of, taken_answer, taken_book, taken_ended, taken_what, unsynced_after, idle_row}
 use Rattle.spec_binding.specs.Uses.{Accounts}
@@ -218,15 +218,15 @@ word-rests reads s n (Some reason) is = resting-nothing s
 
 -- ---- ticks
 
-let-go-own : (now : ℕ) (ks : List Key) (l : Ledger) (e : Link) → AreBy l.book.id now (let_go now ks l e).notes × ((let_go now ks l e).ledger.book.id ≡ l.book.id)
+let-go-own : (now : ℕ) (ks : List Key) (l : Ledger) (e : Link) → AreBy l.book.id now (release_all now ks l e).notes × ((release_all now ks l e).ledger.book.id ≡ l.book.id)
 let-go-own now [] l e = (tt, refl)
 let-go-own now (k ∷ ks) l e =
     let row = idle_row l.book (may_ask now e) k in
     let l2 = ledger_after now row.change l in
     let rest = let-go-own now ks l2 (answered e row.answer) in
     let same = (change-leaves l.book row.change).id in (
-      by-join l.book.id now (noted_by l.book.id now row.what) (let_go now ks l2 (answered e row.answer)).notes (noted-own l.book.id now row.what)
-          (subst (λ (i : GatewayId). AreBy i now (let_go now ks l2 (answered e row.answer)).notes) same rest.0),
+      by-join l.book.id now (noted_by l.book.id now row.what) (release_all now ks l2 (answered e row.answer)).notes (noted-own l.book.id now row.what)
+          (subst (λ (i : GatewayId). AreBy i now (release_all now ks l2 (answered e row.answer)).notes) same rest.0),
       rest.1 ∙ same,
     )
 
@@ -238,7 +238,7 @@ idle-rests : (s : GatewayAndOutput) → Resting s (idle_taken s)
 idle-rests s =
     let g = s.shown in let l = g.ledger in
     let ks = idle_keys_in (is_lone l.book.stage) g.moment l.book.entries l.lives in
-    let r = let_go g.moment ks l g.link in
+    let r = release_all g.moment ks l g.link in
     let own = let-go-own g.moment ks l g.link in
     let same = idle-at-once s ks in
     subst (λ (x : GatewayAndOutput). Resting s x) (sym same)

@@ -3,7 +3,7 @@ use Rattle.std.proofs.Common.{◌≡◌, List, [], ◌∷◌, sym, ap, ◌∙◌
 use Rattle.std.proofs.lemmas.List.{append-nil}
 use Rattle.nat_types.specs.declared.notes.Note.{Note}
 use Rattle.nat_types.specs.declared.pairs.Key.{Key}
-use Rattle.spec_binding.specs.Ledgers.{LetGo, let_go, may_ask}
+use Rattle.spec_binding.specs.Ledgers.{LetGo, release_all, may_ask}
 use Rattle.spec_binding.specs.Rows.{idle_row, noted_by}
 use Rattle.spec_step.specs.Parts.{all_idle_done, idle_done}
 use Rattle.spec_step.specs.Shown.{GatewayAndOutput, id_of, scene, with_notes}
@@ -12,12 +12,12 @@ use Rattle.spec_step.specs.Shown.{GatewayAndOutput, id_of, scene, with_notes}
 abbrev pub idle_gone : GatewayAndOutput → LetGo → GatewayAndOutput
 idle_gone s r = scene (record s.shown { ledger = r.ledger; link = r.link }) (with_notes s.told r.notes)
 
-pub idle-at-once : (s : GatewayAndOutput) (ks : List Key) → all_idle_done s ks ≡ idle_gone s (let_go s.shown.moment ks s.shown.ledger s.shown.link)
+pub idle-at-once : (s : GatewayAndOutput) (ks : List Key) → all_idle_done s ks ≡ idle_gone s (release_all s.shown.moment ks s.shown.ledger s.shown.link)
 idle-at-once s [] = ap (λ (ns : List Note). scene s.shown (record s.told { notes = ns })) (sym (append-nil s.told.notes))
 idle-at-once s (k ∷ ks) =
     let g = s.shown in
     let noted = noted_by (id_of g) g.moment (idle_row g.ledger.book (may_ask g.moment g.link) k).what in
     let mid = idle_done s k in
-    let rest = let_go g.moment ks mid.shown.ledger mid.shown.link in
+    let rest = release_all g.moment ks mid.shown.ledger mid.shown.link in
     idle-at-once mid ks
     ∙ ap (λ (ns : List Note). scene (record g { ledger = rest.ledger; link = rest.link }) (record s.told { notes = ns })) (append_assoc s.told.notes noted rest.notes)

@@ -31,7 +31,7 @@ use Rattle.spec_binding.specs.declared.changes.Change.TheVariants.{Drop}
 use Rattle.spec_binding.specs.declared.setups.Stage.{Stage}
 use Rattle.spec_binding.specs.declared.setups.Stage.TheVariants.{Unsynced, Paired, Lone}
 use Rattle.spec_binding.specs.Books.{Book, is_lone, is_synced}
-use Rattle.spec_binding.specs.Ledgers.{Ledger, is_heard, ledger_after, let_go, may_ask}
+use Rattle.spec_binding.specs.Ledgers.{Ledger, is_heard, ledger_after, release_all, may_ask}
 use Rattle.spec_binding.specs.Rows.{answered, asking, changed, idle_row, is_full, noted_by, quiet, release_row, released_row, row}
 use Rattle.spec_binding.proofs.Offered.{change-leaves}
 use Rattle.spec_pair.specs.Talk.{note}
@@ -94,7 +94,7 @@ row-stays b ask q k o held stays = elim (cases_Bool (same_key q k)) [
 ]
 
 all-stay : (now : ℕ) (ks : List Key) (l : Ledger) (e : Link) (k : Key) (o : Option Entry) → slot_of l.book.entries k ≡ o → ((lone ask : Bool) → release_row lone ask o ≡ quiet)
-    → slot_of (let_go now ks l e).ledger.book.entries k ≡ o
+    → slot_of (release_all now ks l e).ledger.book.entries k ≡ o
 all-stay now [] l e k o held stays = held
 all-stay now (q ∷ ks) l e k o held stays =
     let r = idle_row l.book (may_ask now e) q in
@@ -159,8 +159,8 @@ record Goes (now : ℕ) (lone : Bool) (id : GatewayId) (n : ℕ) (l : Ledger) (e
 
 -- the entry is let go by the rows of these keys
 record Gone (now : ℕ) (lone : Bool) (id : GatewayId) (ks : List Key) (l : Ledger) (e : Link) (x : Entry) : Type 0 where
-  left : slot_of (let_go now ks l e).ledger.book.entries x.pair.key ≡ left_of lone x
-  noted : Contains (let_go now ks l e).notes (note id now (Released x.pair))
+  left : slot_of (release_all now ks l e).ledger.book.entries x.pair.key ≡ left_of lone x
+  noted : Contains (release_all now ks l e).notes (note id now (Released x.pair))
 
 own-is : (now : ℕ) (lone : Bool) (id : GatewayId) (n : ℕ) (l : Ledger) (e : Link) (x : Entry) → Goes now lone id (suc n) l e x → may_go lone x.state ≡ true → idle_row l.book (may_ask now e) x.pair.key ≡ going lone x.pair
 own-is now lone id n l e x is may =
@@ -174,7 +174,7 @@ first-goes : (now : ℕ) (lone : Bool) (id : GatewayId) (k : Key) (ks : List Key
     → Gone now lone id (k ∷ ks) l e x
 first-goes now lone id k ks l e x is may here =
     let r = idle_row l.book (may_ask now e) k in
-    let rest = let_go now ks (ledger_after now r.change l) (answered e r.answer) in
+    let rest = release_all now ks (ledger_after now r.change l) (answered e r.answer) in
     let going-is : r ≡ going lone x.pair = ap (λ (z : Key). idle_row l.book (may_ask now e) z) here ∙ own-is now lone id (length ks) l e x is may in
     let gone : slot_of (changed r.change l.book).entries x.pair.key ≡ left_of lone x = ap (λ (z : Transition). slot_of (changed z.change l.book).entries x.pair.key) going-is ∙ going-leaves l.book lone x is.held in
     let what : noted_by l.book.id now r.what ≡ note id now (Released x.pair) ∷ [] =
@@ -215,7 +215,7 @@ all-go now lone id (k ∷ ks) l e x is may among =
     at false other there rest =
         let r = idle_row l.book (may_ask now e) k in
         let gone = rest other there in
-        record { left = gone.left; noted = Contains-append_right (noted_by l.book.id now r.what) (let_go now ks (ledger_after now r.change l) (answered e r.answer)).notes (note id now (Released x.pair)) gone.noted }
+        record { left = gone.left; noted = Contains-append_right (noted_by l.book.id now r.what) (release_all now ks (ledger_after now r.change l) (answered e r.answer)).notes (note id now (Released x.pair)) gone.noted }
 
 -- ---- what has rested is among the keys of the tick
 
@@ -326,7 +326,7 @@ tick-goes s now s2 x lone step synced alone asks rested =
     let moment : young.shown.moment ≡ s2.shown.moment = sym (ap (λ (z : GatewayAndOutput). z.shown.moment) ended ∙ (ended-lasts (idle_taken young)).moment ∙ (idle-lasts young).moment) in
     let l = young.shown.ledger in
     let keys = idle_keys_in (is_lone l.book.stage) young.shown.moment l.book.entries l.lives in
-    let let-go = let_go young.shown.moment keys l young.shown.link in
+    let let-go = release_all young.shown.moment keys l young.shown.link in
     let once = idle-at-once young keys in
     let gone = idle-go young x lone
     (ap (λ (z : Ledger). is_synced z.book.stage) ledger ∙ synced)

@@ -29,7 +29,7 @@ ghost use Rattle.waiting.specs.Packets.{HeldPacket, hop_count};
 ghost use Rattle.bindings.specs.declared.entries.Entry.{Entry};
 ghost use Rattle.spec_binding.specs.declared.setups.Stage.TheVariants.{Paired};
 ghost use Rattle.spec_binding.specs.Books.{IsBook, is_lone};
-ghost use Rattle.spec_binding.specs.Ledgers.{let_go};
+ghost use Rattle.spec_binding.specs.Ledgers.{release_all};
 ghost use Rattle.spec_step.specs.declared.events.Event.{Event};
 ghost use Rattle.spec_step.specs.declared.events.Event.TheVariants.{Tick};
 ghost use Rattle.spec_step.specs.declared.events.Outcome.TheVariants as outcome;
@@ -346,7 +346,7 @@ pub fn beginnings_settle()
 /// one fold of the ledger says, and nothing else.
 pub fn idle_at_once()
     ensures { (s : GatewayAndOutput) (keys : List Key) → let g = s.shown in
-        let gone = let_go g.moment keys g.ledger g.link in
+        let gone = release_all g.moment keys g.ledger g.link in
         all_idle_done s keys ≡ scene (record g { ledger = gone.ledger; link = gone.link })
         (with_notes s.told gone.notes) }
 {}

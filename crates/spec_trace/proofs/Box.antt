@@ -8,7 +8,7 @@ use Rattle.nat_types.specs.declared.notes.NoteKind.{NoteKind}
 use Rattle.nat_types.specs.declared.notes.NoteKind.TheVariants.{Used, Released, Retaken, Synced, Crashed, Booted}
 use Rattle.nat_types.specs.declared.notes.Note.{Note}
 use Rattle.nat_types.specs.Same.{same, other, same_pair}
-use Rattle.spec_trace.specs.Past.{is_synced, let_go_after, has_let_go, is_agreed, open_after, is_open, DoFit, FitsAt, Fits, rest_of, UsesAt, UsedInLife, IsIdle, IdleAt, Idle}
+use Rattle.spec_trace.specs.Past.{is_synced, released_after, has_released, is_agreed, open_after, is_open, DoFit, FitsAt, Fits, rest_of, UsesAt, UsedInLife, IsIdle, IdleAt, Idle}
 use Rattle.spec_trace.specs.OneBox.{Map, Move, Allot, Use, Drop, IsNewTo, MayMove, map_after, Leads, moves_at, release_after, last_release, AreTimely, IsRun, IsOneToOne}
 use Rattle.nat_types.proofs.Offered.{same-eq, same-true, pair-self, pair-eq, pair-parts, pair-true, pair-false}
 
@@ -79,13 +79,13 @@ is_both : (i j : GatewayId) (p q : Pair) → i ≡ j → p ≡ q → (same i j &
 is_both i j p q a b = and_from (same i j) (same_pair p q) (same-true i j a) (pair-true p q b)
 
 -- whether a note of gateway j is one of gateway i on the pair
-abbrev let_go_word : GatewayId → Pair → GatewayId → NoteKind → Bool
-let_go_word i p j (Used q) = same i j && same_pair p q
-let_go_word i p j (Released q) = same i j && same_pair p q
-let_go_word i p j (Retaken q) = same i j && same_pair p q
-let_go_word i p j Synced = false
-let_go_word i p j Crashed = false
-let_go_word i p j (Booted n) = false
+abbrev released_word : GatewayId → Pair → GatewayId → NoteKind → Bool
+released_word i p j (Used q) = same i j && same_pair p q
+released_word i p j (Released q) = same i j && same_pair p q
+released_word i p j (Retaken q) = same i j && same_pair p q
+released_word i p j Synced = false
+released_word i p j Crashed = false
+released_word i p j (Booted n) = false
 
 is_other : (i j : GatewayId) → same j i ≡ false → j ≡ other i
 is_other Zero Zero e = absurd (cc)
@@ -93,29 +93,29 @@ is_other Zero One e = refl
 is_other One Zero e = refl
 is_other One One e = absurd (cc)
 
-let_go_rested : (j : GatewayId) (p : Pair) (u : ℕ) (i : GatewayId) (at : ℕ) (w : NoteKind) (t : List Note) (b : Bool) → IdleAt i at w t → (has_let_go j p t ≡ true → UsedInLife j p u t → (r : ℕ) × (last_release j p t ≡ Some r) × (u + rest_of p.key.protocol ≤ r)) → let_go_word j p i w ≡ b → let_go_after j p i w (has_let_go j p t) ≡ true → UsesAt j p u i at w (UsedInLife j p u t) → (r : ℕ) × (release_after j p i at w (last_release j p t) ≡ Some r) × (u + rest_of p.key.protocol ≤ r)
-let_go_rested j p u i at (Used q) t true d was e h uses = absurd (let x : false ≡ true = sym (ap (λ b. cond b false (has_let_go j p t)) e) ∙ h in cc)
-let_go_rested j p u i at (Used q) t false d was e h uses =
-    let before : has_let_go j p t ≡ true = sym (ap (λ b. cond b false (has_let_go j p t)) e) ∙ h in
+released_rested : (j : GatewayId) (p : Pair) (u : ℕ) (i : GatewayId) (at : ℕ) (w : NoteKind) (t : List Note) (b : Bool) → IdleAt i at w t → (has_released j p t ≡ true → UsedInLife j p u t → (r : ℕ) × (last_release j p t ≡ Some r) × (u + rest_of p.key.protocol ≤ r)) → released_word j p i w ≡ b → released_after j p i w (has_released j p t) ≡ true → UsesAt j p u i at w (UsedInLife j p u t) → (r : ℕ) × (release_after j p i at w (last_release j p t) ≡ Some r) × (u + rest_of p.key.protocol ≤ r)
+released_rested j p u i at (Used q) t true d was e h uses = absurd (let x : false ≡ true = sym (ap (λ b. cond b false (has_released j p t)) e) ∙ h in cc)
+released_rested j p u i at (Used q) t false d was e h uses =
+    let before : has_released j p t ≡ true = sym (ap (λ b. cond b false (has_released j p t)) e) ∙ h in
     elim uses [ inl here ↦ absurd (both_ways (same j i && same_pair p q) e (is_both j i p q here.0 here.1)) | inr old ↦ was before old ]
-let_go_rested j p u i at (Released q) t true d was e h uses =
+released_rested j p u i at (Released q) t true d was e h uses =
     let two : (j ≡ i) × (p ≡ q) = both_same j i p q e in
     let moved : UsedInLife i q u t = subst (λ (x : GatewayId). UsedInLife x q u t) two.0 (subst (λ (x : Pair). UsedInLife j x u t) two.1 uses) in
     (at, ap (λ b. cond b (Some at) (last_release j p t)) e, subst (λ (x : Pair). u + rest_of x.key.protocol ≤ at) (sym two.1) (d u moved))
-let_go_rested j p u i at (Released q) t false d was e h uses =
-    let before : has_let_go j p t ≡ true = sym (ap (λ b. cond b true (has_let_go j p t)) e) ∙ h in
+released_rested j p u i at (Released q) t false d was e h uses =
+    let before : has_released j p t ≡ true = sym (ap (λ b. cond b true (has_released j p t)) e) ∙ h in
     let old = was before uses in
     (old.0, ap (λ b. cond b (Some at) (last_release j p t)) e ∙ old.1, old.2)
-let_go_rested j p u i at (Retaken q) t true d was e h uses = absurd (let x : false ≡ true = sym (ap (λ b. cond b false (has_let_go j p t)) e) ∙ h in cc)
-let_go_rested j p u i at (Retaken q) t false d was e h uses = was (sym (ap (λ b. cond b false (has_let_go j p t)) e) ∙ h) uses
-let_go_rested j p u i at Synced t b d was e h uses = was h uses
-let_go_rested j p u i at Crashed t b d was e h uses = was h uses
-let_go_rested j p u i at (Booted n) t b d was e h uses = was h uses.1
+released_rested j p u i at (Retaken q) t true d was e h uses = absurd (let x : false ≡ true = sym (ap (λ b. cond b false (has_released j p t)) e) ∙ h in cc)
+released_rested j p u i at (Retaken q) t false d was e h uses = was (sym (ap (λ b. cond b false (has_released j p t)) e) ∙ h) uses
+released_rested j p u i at Synced t b d was e h uses = was h uses
+released_rested j p u i at Crashed t b d was e h uses = was h uses
+released_rested j p u i at (Booted n) t b d was e h uses = was h uses.1
 
 -- where a gateway has let the pair go, each use in its life is at least the pair's rest before its last release
-rested : (j : GatewayId) (p : Pair) (u : ℕ) (t : List Note) → Idle t → has_let_go j p t ≡ true → UsedInLife j p u t → (r : ℕ) × (last_release j p t ≡ Some r) × (u + rest_of p.key.protocol ≤ r)
+rested : (j : GatewayId) (p : Pair) (u : ℕ) (t : List Note) → Idle t → has_released j p t ≡ true → UsedInLife j p u t → (r : ℕ) × (last_release j p t ≡ Some r) × (u + rest_of p.key.protocol ≤ r)
 rested j p u [] d h uses = absurd uses
-rested j p u (n ∷ t) d h uses = let_go_rested j p u n.by n.at n.what t (let_go_word j p n.by n.what) d.0 (λ b c. rested j p u t d.1 b c) refl h uses
+rested j p u (n ∷ t) d h uses = released_rested j p u n.by n.at n.what t (released_word j p n.by n.what) d.0 (λ b c. rested j p u t d.1 b c) refl h uses
 
 -- where a release is agreed, the pair has rested at each synced gateway
 drop_rested : (i : GatewayId) (at : ℕ) (p : Pair) (t : List Note) (j : GatewayId) (b : Bool) → IsIdle i p at t → Idle t → is_agreed i p t ≡ true → is_synced j t ≡ true → same j i ≡ b → (u : ℕ) → UsedInLife j p u t → (r : ℕ) × (cond (same j i && same_pair p p) (Some at) (last_release j p t) ≡ Some r) × (u + rest_of p.key.protocol ≤ r)
@@ -124,8 +124,8 @@ drop_rested i at p t j true idle d agreed synced e u uses =
 drop_rested i at p t j false idle d agreed synced e u uses =
     let it : j ≡ other i = is_other i j e in
     let up : not (is_synced (other i) t) ≡ false = ap not (ap (λ (x : GatewayId). is_synced x t) (sym it) ∙ synced) in
-    let gone : has_let_go (other i) p t ≡ true = elim (or_cases (not (is_synced (other i) t)) (has_let_go (other i) p t) agreed) [ inl a ↦ absurd (both_ways (not (is_synced (other i) t)) up a) | inr a ↦ a ] in
-    let old = rested j p u t d (ap (λ (x : GatewayId). has_let_go x p t) it ∙ gone) uses in
+    let gone : has_released (other i) p t ≡ true = elim (or_cases (not (is_synced (other i) t)) (has_released (other i) p t) agreed) [ inl a ↦ absurd (both_ways (not (is_synced (other i) t)) up a) | inr a ↦ a ] in
+    let old = rested j p u t d (ap (λ (x : GatewayId). has_released x p t) it ∙ gone) uses in
     (old.0, ap (λ b. cond (b && same_pair p p) (Some at) (last_release j p t)) e ∙ old.1, old.2)
 
 released_timely : (i : GatewayId) (at : ℕ) (p : Pair) (t : List Note) (b : Bool) → IsIdle i p at t → Idle t → (is_agreed i p t && is_open p t) ≡ b → AreTimely (cond b (Drop p ∷ []) []) (record { by = i; at = at; what = Released p } ∷ t)

@@ -6,13 +6,13 @@ use Rattle.nat_types.specs.declared.pairs.Pair.{Pair}
 use Rattle.nat_types.specs.declared.notes.Note.{Note}
 use Rattle.spec_trace.specs.Trace.{IsSynced, HasLetGo, IsAgreed, IsOpen, GoesOnWith, Fits, Silent, Kept, GoesOn, Idle}
 use Rattle.spec_trace.specs.Position.{SyncedSays, LetGoSays, AgreedSays, OpenSays, GoesOnSays, TranslatesSays, FitsSays, SilentSays, KeptSays, IdleSays}
-use Rattle.spec_trace.proofs.Sentences.{synced_so, let_go_so, agreed_so, open_so, goes_so, fits_so, silent_so, kept_so, idle_so}
+use Rattle.spec_trace.proofs.Sentences.{synced_so, released_so, agreed_so, open_so, goes_so, fits_so, silent_so, kept_so, idle_so}
 
 pub synced_law : (i : GatewayId) (t : List Note) → IsSynced i t ↔ SyncedSays i t
 synced_law i t = subst (λ (x : List Note). IsSynced i t ↔ SyncedSays i x) (reverse-reverse t) (synced_so i (reverse t))
 
-pub let_go_law : (i : GatewayId) (p : Pair) (t : List Note) → HasLetGo i p t ↔ LetGoSays i p t
-let_go_law i p t = subst (λ (x : List Note). HasLetGo i p t ↔ LetGoSays i p x) (reverse-reverse t) (let_go_so i p (reverse t))
+pub release_law : (i : GatewayId) (p : Pair) (t : List Note) → HasLetGo i p t ↔ LetGoSays i p t
+release_law i p t = subst (λ (x : List Note). HasLetGo i p t ↔ LetGoSays i p x) (reverse-reverse t) (released_so i p (reverse t))
 
 pub agreed_law : (i : GatewayId) (p : Pair) (t : List Note) → IsAgreed i p t ↔ AgreedSays i p t
 agreed_law i p t = subst (λ (x : List Note). IsAgreed i p t ↔ AgreedSays i p x) (reverse-reverse t) (agreed_so i p (reverse t))

@@ -13,8 +13,8 @@ reverse-push t n = reverse-append t (n ∷ [])
 pub is_synced-push : (i : GatewayId) (t : List Note) (n : Note) → past.is_synced i (reverse (t ++ n ∷ [])) ≡ past.synced_after i n.by n.what (past.is_synced i (reverse t))
 is_synced-push i t n = ap (past.is_synced i) (reverse-push t n)
 
-pub has_let_go-push : (i : GatewayId) (p : Pair) (t : List Note) (n : Note) → past.has_let_go i p (reverse (t ++ n ∷ [])) ≡ past.let_go_after i p n.by n.what (past.has_let_go i p (reverse t))
-has_let_go-push i p t n = ap (past.has_let_go i p) (reverse-push t n)
+pub has_released-push : (i : GatewayId) (p : Pair) (t : List Note) (n : Note) → past.has_released i p (reverse (t ++ n ∷ [])) ≡ past.released_after i p n.by n.what (past.has_released i p (reverse t))
+has_released-push i p t n = ap (past.has_released i p) (reverse-push t n)
 
 pub is_open-push : (p : Pair) (t : List Note) (n : Note) → past.is_open p (reverse (t ++ n ∷ [])) ≡ past.open_after p n.what (past.is_agreed n.by p (reverse t)) (past.is_open p (reverse t))
 is_open-push p t n = ap (past.is_open p) (reverse-push t n)

@@ -13,7 +13,7 @@ use Rattle.nat_types.specs.Same.{same_pair, other}
 use Rattle.nat_types.proofs.Offered.{pair-eq}
 use Rattle.spec_trace.specs.declared.checker.AuditFault.{AuditFault}
 use Rattle.spec_trace.specs.declared.checker.AuditFault.TheVariants.{NoMemory, NotFits, NotKept, NotSilent}
-use Rattle.spec_trace.specs.Past.{is_open, synced_after, is_synced, has_let_go, is_agreed, open_after, DoFit, FitsAt, SilentAt, Fits, Silent, Kept}
+use Rattle.spec_trace.specs.Past.{is_open, synced_after, is_synced, has_released, is_agreed, open_after, DoFit, FitsAt, SilentAt, Fits, Silent, Kept}
 use Rattle.spec_trace.specs.Audit.{ListsHold, FirstNotFits, FirstNotSilent, FaultSays, AreOpen, Judged, Going, by_gateway}
 use Rattle.spec_trace.proofs.Lists.{push_iff, has_iff, without_iff, reverse_take}
 
@@ -104,5 +104,5 @@ pub going_end : (opens : List Pair) (zero one : Bool) (xs : List Note) (i : ℕ)
 going_end opens zero one xs i le g = subst (λ (t : List Note). Going opens zero one (reverse t)) (take_all i xs le) g
 
 -- a release is agreed where the other gateway isn't synced or has let the pair go
-pub agreed_is : (i : GatewayId) (p : Pair) (t : List Note) (alone gone : Bool) → alone ≡ not (is_synced (other i) t) → gone ≡ has_let_go (other i) p t → is_agreed i p t ≡ (alone || gone)
-agreed_is i p t alone gone a b = ap (λ x. x || has_let_go (other i) p t) (sym a) ∙ ap (λ x. alone || x) (sym b)
+pub agreed_is : (i : GatewayId) (p : Pair) (t : List Note) (alone gone : Bool) → alone ≡ not (is_synced (other i) t) → gone ≡ has_released (other i) p t → is_agreed i p t ≡ (alone || gone)
+agreed_is i p t alone gone a b = ap (λ x. x || has_released (other i) p t) (sym a) ∙ ap (λ x. alone || x) (sym b)

@@ -8,7 +8,7 @@ use Rattle.nat_types.specs.declared.notes.NoteKind.{NoteKind}
 use Rattle.nat_types.specs.declared.notes.NoteKind.TheVariants.{Used, Released, Retaken, Synced, Crashed, Booted}
 use Rattle.nat_types.specs.declared.notes.Note.{Note}
 use Rattle.nat_types.specs.Same.{same, other, same_pair}
-use Rattle.spec_trace.specs.Past.{synced_after, is_synced, let_go_after, has_let_go, is_agreed, open_after, is_open, goes_after, goes_on, DoFit, FitsAt, Fits, SilentAt, Silent, rest_of, UsesAt, UsedInLife, IdleAt, Idle}
+use Rattle.spec_trace.specs.Past.{synced_after, is_synced, released_after, has_released, is_agreed, open_after, is_open, goes_after, goes_on, DoFit, FitsAt, Fits, SilentAt, Silent, rest_of, UsesAt, UsedInLife, IdleAt, Idle}
 use Rattle.spec_trace.specs.Position.{is_state_word, is_state, SyncedSays, is_pair_word, is_on_pair, LetGoSays, AgreedSays, Deletes, OpenSays, Each, FitsHere, FitsSays, SilentHere, SilentSays, KeptSays, is_boot_word, is_of_life, GoesOnSays, UseSays, IdleHere, IdleSays}
 use Rattle.nat_types.proofs.Offered.{same-eq, same-true, pair-eq, pair-true}
 use Rattle.spec_trace.proofs.Places.{at_within, at_old, at_last, at_cases, take_old, take_here, last_of, Says, says, last_unique, none_unique, reverse_more}
@@ -82,24 +82,24 @@ is_released Synced = false
 is_released Crashed = false
 is_released (Booted n) = false
 
-abbrev let_go_of : Option Note → Bool
-let_go_of None = false
-let_go_of (Some n) = is_released n.what
+abbrev released_of : Option Note → Bool
+released_of None = false
+released_of (Some n) = is_released n.what
 
-let_go_step : (i : GatewayId) (p : Pair) (j : GatewayId) (at : ℕ) (w : NoteKind) (b : Bool) (o : Option Note) → (same i j && is_pair_word p w) ≡ b → let_go_after i p j w (let_go_of o) ≡ let_go_of (cond (same i j && is_pair_word p w) (Some (record { by = j; at = at; what = w })) o)
-let_go_step i p j at (Used q) true o e = rw e refl
-let_go_step i p j at (Used q) false o e = rw e refl
-let_go_step i p j at (Released q) true o e = rw e refl
-let_go_step i p j at (Released q) false o e = rw e refl
-let_go_step i p j at (Retaken q) true o e = rw e refl
-let_go_step i p j at (Retaken q) false o e = rw e refl
-let_go_step i p j at Synced b o e = ap let_go_of (quiet (same i j) (Some (record { by = j; at = at; what = Synced })) o)
-let_go_step i p j at Crashed b o e = ap let_go_of (quiet (same i j) (Some (record { by = j; at = at; what = Crashed })) o)
-let_go_step i p j at (Booted n) b o e = ap let_go_of (quiet (same i j) (Some (record { by = j; at = at; what = Booted n })) o)
+released_step : (i : GatewayId) (p : Pair) (j : GatewayId) (at : ℕ) (w : NoteKind) (b : Bool) (o : Option Note) → (same i j && is_pair_word p w) ≡ b → released_after i p j w (released_of o) ≡ released_of (cond (same i j && is_pair_word p w) (Some (record { by = j; at = at; what = w })) o)
+released_step i p j at (Used q) true o e = rw e refl
+released_step i p j at (Used q) false o e = rw e refl
+released_step i p j at (Released q) true o e = rw e refl
+released_step i p j at (Released q) false o e = rw e refl
+released_step i p j at (Retaken q) true o e = rw e refl
+released_step i p j at (Retaken q) false o e = rw e refl
+released_step i p j at Synced b o e = ap released_of (quiet (same i j) (Some (record { by = j; at = at; what = Synced })) o)
+released_step i p j at Crashed b o e = ap released_of (quiet (same i j) (Some (record { by = j; at = at; what = Crashed })) o)
+released_step i p j at (Booted n) b o e = ap released_of (quiet (same i j) (Some (record { by = j; at = at; what = Booted n })) o)
 
-let_go_last : (i : GatewayId) (p : Pair) (t : List Note) → has_let_go i p t ≡ let_go_of (last_of (is_on_pair i p) t)
-let_go_last i p [] = refl
-let_go_last i p (n ∷ t) = ap (let_go_after i p n.by n.what) (let_go_last i p t) ∙ let_go_step i p n.by n.at n.what (same i n.by && is_pair_word p n.what) (last_of (is_on_pair i p) t) refl
+released_last : (i : GatewayId) (p : Pair) (t : List Note) → has_released i p t ≡ released_of (last_of (is_on_pair i p) t)
+released_last i p [] = refl
+released_last i p (n ∷ t) = ap (released_after i p n.by n.what) (released_last i p t) ∙ released_step i p n.by n.at n.what (same i n.by && is_pair_word p n.what) (last_of (is_on_pair i p) t) refl
 
 released_word : (p : Pair) (w : NoteKind) → is_pair_word p w ≡ true → is_released w ≡ true → w ≡ Released p
 released_word p (Used q) s e = absurd (cc)
@@ -109,25 +109,25 @@ released_word p Synced s e = absurd (cc)
 released_word p Crashed s e = absurd (cc)
 released_word p (Booted n) s e = absurd (cc)
 
-let_go_to : (i : GatewayId) (p : Pair) (t : List Note) (o : Option Note) → Says (is_on_pair i p) t o → let_go_of o ≡ true → LetGoSays i p t
-let_go_to i p t None s e = absurd (cc)
-let_go_to i p t (Some n) s e = (n, s, released_word p n.what (and_parts (same i n.by) (is_pair_word p n.what) s.2).1 e)
+released_to : (i : GatewayId) (p : Pair) (t : List Note) (o : Option Note) → Says (is_on_pair i p) t o → released_of o ≡ true → LetGoSays i p t
+released_to i p t None s e = absurd (cc)
+released_to i p t (Some n) s e = (n, s, released_word p n.what (and_parts (same i n.by) (is_pair_word p n.what) s.2).1 e)
 
-pub let_go_so : (i : GatewayId) (p : Pair) (t : List Note) → IsTrue (has_let_go i p t) ↔ LetGoSays i p (reverse t)
-let_go_so i p t = (
-  λ h. let_go_to i p (reverse t) (last_of (is_on_pair i p) t) (says (is_on_pair i p) t) (sym (let_go_last i p t) ∙ h),
-  λ h. let_go_last i p t ∙ ap let_go_of (last_unique (is_on_pair i p) t h.0 h.1) ∙ ap is_released h.2,
+pub released_so : (i : GatewayId) (p : Pair) (t : List Note) → IsTrue (has_released i p t) ↔ LetGoSays i p (reverse t)
+released_so i p t = (
+  λ h. released_to i p (reverse t) (last_of (is_on_pair i p) t) (says (is_on_pair i p) t) (sym (released_last i p t) ∙ h),
+  λ h. released_last i p t ∙ ap released_of (last_unique (is_on_pair i p) t h.0 h.1) ∙ ap is_released h.2,
 )
 
 pub agreed_so : (i : GatewayId) (p : Pair) (t : List Note) → IsTrue (is_agreed i p t) ↔ AgreedSays i p (reverse t)
 agreed_so i p t = (
-  λ h. elim (or_cases (not (is_synced (other i) t)) (has_let_go (other i) p t) h) [
+  λ h. elim (or_cases (not (is_synced (other i) t)) (has_released (other i) p t) h) [
     | inl a ↦ inl (λ s. both_ways (is_synced (other i) t) (not-true (is_synced (other i) t) a) ((synced_so (other i) t).1 s))
-    | inr a ↦ inr ((let_go_so (other i) p t).0 a)
+    | inr a ↦ inr ((released_so (other i) p t).0 a)
   ],
   λ h. elim h [
-    | inl a ↦ or_left (not (is_synced (other i) t)) (has_let_go (other i) p t) (not_from_false (is_synced (other i) t) (false_from_ne_true (is_synced (other i) t) (λ e. a ((synced_so (other i) t).0 e))))
-    | inr a ↦ or_right (not (is_synced (other i) t)) (has_let_go (other i) p t) ((let_go_so (other i) p t).1 a)
+    | inl a ↦ or_left (not (is_synced (other i) t)) (has_released (other i) p t) (not_from_false (is_synced (other i) t) (false_from_ne_true (is_synced (other i) t) (λ e. a ((synced_so (other i) t).0 e))))
+    | inr a ↦ or_right (not (is_synced (other i) t)) (has_released (other i) p t) ((released_so (other i) p t).1 a)
   ],
 )
 

@@ -28,28 +28,28 @@ is_synced gateway [] = same gateway Zero
 is_synced gateway (note ∷ notes) = synced_after gateway note.by note.what (is_synced gateway notes)
 
 -- whether a gateway has let a pair go after a note of the gateway `by`, where `had` says whether it had before
-abbrev pub let_go_after : GatewayId → Pair → GatewayId → NoteKind → Bool → Bool
-let_go_after gateway pair by (Used noted) had =
+abbrev pub released_after : GatewayId → Pair → GatewayId → NoteKind → Bool → Bool
+released_after gateway pair by (Used noted) had =
     cond (same gateway by && same_pair pair noted) false had
-let_go_after gateway pair by (Released noted) had =
+released_after gateway pair by (Released noted) had =
     cond (same gateway by && same_pair pair noted) true had
-let_go_after gateway pair by (Retaken noted) had =
+released_after gateway pair by (Retaken noted) had =
     cond (same gateway by && same_pair pair noted) false had
-let_go_after gateway pair by Synced had = had
-let_go_after gateway pair by Crashed had = had
-let_go_after gateway pair by (Booted number) had = had
+released_after gateway pair by Synced had = had
+released_after gateway pair by Crashed had = had
+released_after gateway pair by (Booted number) had = had
 
 -- Let go: the last note of the gateway on the pair among Used, Released and Retaken is Released.
-abbrev pub has_let_go : GatewayId → Pair → List Note → Bool
-has_let_go gateway pair [] = false
-has_let_go gateway pair (note ∷ notes) =
-    let_go_after gateway pair note.by note.what (has_let_go gateway pair notes)
+abbrev pub has_released : GatewayId → Pair → List Note → Bool
+has_released gateway pair [] = false
+has_released gateway pair (note ∷ notes) =
+    released_after gateway pair note.by note.what (has_released gateway pair notes)
 
 -- Agreed deletion: the gateway, after these notes, releases the pair while the other gateway isn't synced or has let
 -- the pair go.
 abbrev pub is_agreed : GatewayId → Pair → List Note → Bool
 is_agreed gateway pair notes =
-    not (is_synced (other gateway) notes) || has_let_go (other gateway) pair notes
+    not (is_synced (other gateway) notes) || has_released (other gateway) pair notes
 
 -- whether a pair is open after a note, where `was` says whether it was before, and `agreed` says of a release of the
 -- pair whether it is an agreed deletion

@@ -11,7 +11,7 @@ IsSynced gateway trace = IsTrue (past.is_synced gateway (reverse trace))
 
 -- the gateway has let the pair go
 abbrev pub HasLetGo : GatewayId → Pair → List Note → Type 0
-HasLetGo gateway pair trace = IsTrue (past.has_let_go gateway pair (reverse trace))
+HasLetGo gateway pair trace = IsTrue (past.has_released gateway pair (reverse trace))
 
 -- a release of the pair by the gateway, as the next note, is an agreed deletion
 abbrev pub IsAgreed : GatewayId → Pair → List Note → Type 0

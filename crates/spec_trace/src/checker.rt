@@ -82,8 +82,8 @@ fn synced_after(synced: bool, gateway: GatewayId, note: Note) -> bool
 
 /// Whether a gateway has let a pair go after a note, where `gone` says whether it had before the
 /// note.
-fn let_go_after(gone: bool, gateway: GatewayId, pair: Pair, note: &Note) -> bool
-    ensures { result ≡ past.let_go_after gateway pair note.now.by note.now.what gone }
+fn released_after(gone: bool, gateway: GatewayId, pair: Pair, note: &Note) -> bool
+    ensures { result ≡ past.released_after gateway pair note.now.by note.now.what gone }
 {
     match note.what {
         NoteKind::Used(noted) | NoteKind::Retaken(noted) => {
@@ -94,12 +94,12 @@ fn let_go_after(gone: bool, gateway: GatewayId, pair: Pair, note: &Note) -> bool
     }
 }
 
-fn has_let_go(trace: &[Note], gateway: GatewayId, pair: Pair) -> bool
-    ensures { result ≡ past.has_let_go gateway pair (reverse trace.now) }
+fn has_released(trace: &[Note], gateway: GatewayId, pair: Pair) -> bool
+    ensures { result ≡ past.has_released gateway pair (reverse trace.now) }
 {
     let mut gone = false;
     for note in trace {
-        gone = let_go_after(gone, gateway, pair, note);
+        gone = released_after(gone, gateway, pair, note);
     }
     gone
 }
@@ -201,7 +201,7 @@ fn follow(
             Ok(())
         }
         NoteKind::Released(pair) => {
-            if alone || has_let_go(before, note.by.other(), pair) {
+            if alone || has_released(before, note.by.other(), pair) {
                 remove(opens, pair);
             }
             Ok(())

@@ -27,7 +27,7 @@ pub fn synced_by_position()
 {}
 
 /// A gateway has let a pair go exactly where its last note on it is Released.
-pub fn let_go_by_position()
+pub fn released_by_position()
     ensures { (i : GatewayId) (p : Pair) (t : List Note) → HasLetGo i p t ↔ LetGoSays i p t }
 {}
 
@@ -79,9 +79,9 @@ pub fn one_more_note()
     ensures synced { (i : GatewayId) (t : List Note) (n : Note) →
         past.is_synced i (reverse (t ++ n ∷ [])) ≡ past.synced_after i n.by n.what
         (past.is_synced i (reverse t)) }
-    ensures let_go { (i : GatewayId) (p : Pair) (t : List Note) (n : Note) →
-        past.has_let_go i p (reverse (t ++ n ∷ [])) ≡ past.let_go_after i p n.by n.what
-        (past.has_let_go i p (reverse t)) }
+    ensures released { (i : GatewayId) (p : Pair) (t : List Note) (n : Note) →
+        past.has_released i p (reverse (t ++ n ∷ [])) ≡ past.released_after i p n.by n.what
+        (past.has_released i p (reverse t)) }
     ensures opens { (p : Pair) (t : List Note) (n : Note) →
         past.is_open p (reverse (t ++ n ∷ [])) ≡ past.open_after p n.what
         (past.is_agreed n.by p (reverse t)) (past.is_open p (reverse t)) }

@@ -4,11 +4,11 @@ use Rattle.frame_sim.proofs.halves.step_up.Goals as goal
 
 pub append_datagram-requires-clause-told : goal.append_datagram-requires-clause-told
 append_datagram-requires-clause-told c =
-    let s = sends c.steps_go.ensures (λ g is. let most = is.most in omega (arith, most, c.limits_law.ensures.most_ports)) c.args.gateway.now c.told_to_step.new.gateway c.args.event c.args.out.now c.told_to_step.new.out c.in_ok-outcome.ensures.step c.told_to_step.ensures.bytes c.recall.ensures.gateway c.recall-2.ensures.link in
+    let s = sends c.steps_go.ensures (λ g is. let most = is.most in omega (arith, most, c.limits_law.ensures.most_ports)) c.args.gateway.now c.step_gateway.new.gateway c.args.event c.args.out.now c.step_gateway.new.out c.in_ok-outcome.ensures.step c.step_gateway.ensures.bytes c.recall.ensures.gateway c.recall-2.ensures.link in
     let longer = s.longer in
     omega (arith, longer, c.datagram_count-told.ensures)
 
 pub append_datagram-requires-clause-few : goal.append_datagram-requires-clause-few
 append_datagram-requires-clause-few c =
-    let s = sends c.steps_go.ensures (λ g is. let most = is.most in omega (arith, most, c.limits_law.ensures.most_ports)) c.args.gateway.now c.told_to_step.new.gateway c.args.event c.args.out.now c.told_to_step.new.out c.in_ok-outcome.ensures.step c.told_to_step.ensures.bytes c.recall.ensures.gateway c.recall-2.ensures.link in
+    let s = sends c.steps_go.ensures (λ g is. let most = is.most in omega (arith, most, c.limits_law.ensures.most_ports)) c.args.gateway.now c.step_gateway.new.gateway c.args.event c.args.out.now c.step_gateway.new.out c.in_ok-outcome.ensures.step c.step_gateway.ensures.bytes c.recall.ensures.gateway c.recall-2.ensures.link in
     rw (c.datagram_count-told.ensures) s.few

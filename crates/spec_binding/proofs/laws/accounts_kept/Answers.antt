@@ -33,5 +33,5 @@ returns-clause-restarted c = restarted-accounts
 pub returns-clause-alone : goal.returns-clause-alone
 returns-clause-alone c = alone-accounts
 
-pub returns-clause-let_go : goal.returns-clause-let_go
-returns-clause-let_go c = let-go-accounts
+pub returns-clause-release_all : goal.returns-clause-release_all
+returns-clause-release_all c = let-go-accounts

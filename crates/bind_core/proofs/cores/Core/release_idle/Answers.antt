@@ -2,7 +2,7 @@ use Rattle.std.proofs.Common.{◌≡◌, ◌≤◌, ◌++◌, [], Some, slice_ge
 use Rattle.std.proofs.lemmas.List.{append-nil}
 use Rattle.bindings.specs.Table.{idle_keys_of}
 use Rattle.spec_binding.specs.Books.{is_lone}
-use Rattle.spec_binding.specs.Ledgers.{Ledger, LetGo, let_go}
+use Rattle.spec_binding.specs.Ledgers.{Ledger, LetGo, release_all}
 use Rattle.bind_core.specs.Cores.{Core, book_of, ledger_of}
 use Rattle.bind_core.proofs.Performing.{works-as}
 use Rattle.bind_core.proofs.Releasing.{few-idle, one-more-at, gone, TickLaws, released-works}
@@ -51,9 +51,9 @@ loop-i-init c =
     let keys = idle_keys_of c.args.self.now.table (is_lone c.args.self.now.stage) c.args.now in
     let same = ap ledger_of c.list_idle.ensures in
     record {
-      ledger = ap (λ (l : Ledger). (let_go c.args.now keys l c.args.link.now).ledger) same;
-      link = ap (λ (l : Ledger). (let_go c.args.now keys l c.args.link.now).link) same;
-      notes = ap (λ (l : Ledger). c.args.notes.now.items ++ (let_go c.args.now keys l c.args.link.now).notes) same;
+      ledger = ap (λ (l : Ledger). (release_all c.args.now keys l c.args.link.now).ledger) same;
+      link = ap (λ (l : Ledger). (release_all c.args.now keys l c.args.link.now).link) same;
+      notes = ap (λ (l : Ledger). c.args.notes.now.items ++ (release_all c.args.now keys l c.args.link.now).notes) same;
       ready = ap (λ (k : Core). k.table.ready) c.list_idle.ensures;
       idle = ap (λ (k : Core). k.idle) c.list_idle.ensures;
       len = omega arith;

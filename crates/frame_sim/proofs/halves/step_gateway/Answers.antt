@@ -4,7 +4,7 @@ use Rattle.gateway.specs.Lacks.{LacksMemory}
 use Rattle.spec_step.specs.Shown.{Shown}
 use Rattle.spec_step.specs.declared.events.Event.{Event}
 use Rattle.frame_sim.specs.Lacks.{WasUnstepped}
-use Rattle.frame_sim.proofs.halves.told_to_step.Goals as goal
+use Rattle.frame_sim.proofs.halves.step_gateway.Goals as goal
 
 -- a step that found no memory did so on this output page
 unstepped : {X E : Type 0} (r : Result X E) (g : Shown) (event : Event) (page : Paged) → OnErr r (LacksMemory g page event) → OnErr r (WasUnstepped g event)
