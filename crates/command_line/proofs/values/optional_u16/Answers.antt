@@ -1,7 +1,7 @@
 use Rattle.std.specs.Str.Parse.{ParsesUnsigned, ExplainsUnsignedError, HasUnsignedDigitsIfOk}
 use Rattle.clap.specs.Words.{found_of, rows_of}
 use Rattle.command_line.proofs.Readings.{number_at, read_if}
-use Rattle.command_line.proofs.values.port_if.Goals as goal
+use Rattle.command_line.proofs.values.optional_u16.Goals as goal
 
 pub returns : goal.returns
 returns c =

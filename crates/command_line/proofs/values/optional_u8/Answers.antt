@@ -1,7 +1,7 @@
 use Rattle.std.specs.Str.Parse.{ParsesUnsigned, ExplainsUnsignedError, HasUnsignedDigitsIfOk}
 use Rattle.clap.specs.Words.{found_of}
 use Rattle.command_line.proofs.Readings.{number_at}
-use Rattle.command_line.proofs.values.byte.Goals as goal
+use Rattle.command_line.proofs.values.optional_u8.Goals as goal
 
 pub returns : goal.returns
 returns c =

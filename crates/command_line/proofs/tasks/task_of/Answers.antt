@@ -1,7 +1,7 @@
 use Rattle.clap.specs.Words.{found_of, rows_of}
 use Rattle.command_line.specs.declared.faults.ValueFault.TheVariants.{FoundNeedsIdZero, NoFilter, NoSide, NoStatus}
 use Rattle.command_line.proofs.Judged.{none_else, refuses_as, task_as}
-use Rattle.command_line.proofs.tasks.named.Goals as goal
+use Rattle.command_line.proofs.tasks.task_of.Goals as goal
 
 pub returns-in-gate-clause-ok : goal.returns-in-gate-clause-ok
 returns-in-gate-clause-ok c = task_as _ _ (rows_of (found_of c.args.matches.now)) _ c.in-gate.is c.gate.ensures.ok
