@@ -1,19 +1,19 @@
-//! Prints what a step told: frames, then datagrams, then notes.
+//! The lines of a step's output: frames, then datagrams, then notes.
 ghost use Rattle.std.specs.Prelude.{◌≡◌, ◌≤◌, flat_map, length, OnOk};
 ghost use Rattle.hex.specs.Hex.{encode_lower};
 ghost use Rattle.simulation.specs.Lines.{frame_line, frame_words, link_line, link_lines, link_words, more, note_line, told_lines};
 ghost use Rattle.simulation.specs.Printed.{Prints};
 
-use crate::words::{PairText, id_text, side_text};
+use crate::texts::{PairText, id_text, side_text};
 use nat_types::{GatewayId, Note, NoteKind, Side};
 use output::Out;
 use std::io::{self, Write};
 
-/// How many bytes are printed at a time.
-const AT_A_TIME: usize = 128;
+/// The most bytes that one write prints in hexadecimal.
+const HEX_CHUNK: usize = 128;
 
-/// Prints what a gateway told in a step. `sent` counts the datagrams that it ever sent.
-pub(crate) fn print_told<W: Write>(
+/// Prints what a gateway sent and noted in a step. `sent` counts all datagrams that the gateway has sent.
+pub(crate) fn print_output<W: Write>(
     output: &mut W,
     id: GatewayId,
     sent: &mut usize,
@@ -47,7 +47,7 @@ fn print_frame<W: Write>(output: &mut W, id: GatewayId, side: Side, bytes: &[u8]
     output.write_all(b"\n")
 }
 
-/// Writes what stands before the bytes of a frame.
+/// Writes the words before the bytes of a frame.
 fn write_frame_words<W: Write>(output: &mut W, id: GatewayId, side: Side) -> io::Result<()>
     ensures { Prints (W.contents output.old) result (W.contents output.new)
         (frame_words id side) }
@@ -87,7 +87,7 @@ fn print_datagram<W: Write>(
     output.write_all(b"\n")
 }
 
-/// Writes what stands before the bytes of a datagram.
+/// Writes the words before the bytes of a datagram.
 fn write_link_words<W: Write>(output: &mut W, id: GatewayId, number: usize) -> io::Result<()>
     ensures { Prints (W.contents output.old) result (W.contents output.new)
         (link_words id number) }
@@ -129,27 +129,27 @@ fn print_note<W: Write>(output: &mut W, note: &Note) -> io::Result<()>
     }
 }
 
-/// Writes bytes, two digits each.
+/// Writes bytes as two hexadecimal digits each.
 fn write_hex<W: Write>(output: &mut W, bytes: &[u8]) -> io::Result<()>
     ensures { Prints (W.contents output.old) result (W.contents output.new)
         (encode_lower bytes.now) }
 {
     let mut rest = bytes;
     while !rest.is_empty() {
-        let count = rest.len().min(AT_A_TIME);
+        let count = rest.len().min(HEX_CHUNK);
         write_few(output, &rest[..count])?;
         rest = &rest[count..];
     }
     Ok(())
 }
 
-/// No more bytes than are printed at a time.
+/// Writes at most [`HEX_CHUNK`] bytes as two hexadecimal digits each.
 fn write_few<W: Write>(output: &mut W, bytes: &[u8]) -> io::Result<()>
-    requires { length bytes.now ≤ AT_A_TIME }
+    requires { length bytes.now ≤ HEX_CHUNK }
     ensures { Prints (W.contents output.old) result (W.contents output.new)
         (encode_lower bytes.now) }
 {
-    let mut digits = [0; 2 * AT_A_TIME];
+    let mut digits = [0; 2 * HEX_CHUNK];
     let digits = &mut digits[..2 * bytes.len()];
     match hex::encode_to_slice(bytes, digits) {
         Ok(()) => output.write_all(digits),

@@ -2,7 +2,7 @@ use Rattle.std.proofs.Common.{◌≡◌, ◌∙◌, ◌++◌, ◌∷◌, ℕ, Li
 use Rattle.nat_types.specs.declared.gateways.GatewayId.{GatewayId}
 use Rattle.simulation.specs.Lines.{link_line, link_lines, more, one_more}
 use Rattle.simulation.proofs.Parts.{part_more, part_none, part_whole}
-use Rattle.simulation.proofs.told.print_datagrams.Goals as goal
+use Rattle.simulation.proofs.step_output.print_datagrams.Goals as goal
 
 -- the first datagram, and those behind it
 first : (i : GatewayId) (sent number : ℕ) (ds es : List (List ℕ)) (d : List ℕ) → ds ≡ d ∷ es → number ≡ one_more sent

@@ -2,7 +2,7 @@ use Rattle.std.proofs.Common.{◌≡◌, ◌∙◌, ◌++◌, ◌∷◌, [], ◌
 use Rattle.std.proofs.lemmas.List.{take_rest}
 use Rattle.hex.specs.Hex.{encode_lower, encode_with, lower_digits}
 use Rattle.simulation.proofs.Parts.{part_more, part_none, part_whole}
-use Rattle.simulation.proofs.told.write_hex.Goals as goal
+use Rattle.simulation.proofs.step_output.write_hex.Goals as goal
 
 encode_append : (t xs ys : List ℕ) → encode_with t (xs ++ ys) ≡ encode_with t xs ++ encode_with t ys
 unfolding encode_with

@@ -2,7 +2,7 @@ use Rattle.std.proofs.Common.{◌∙◌, ◌∷◌, ◌+◌, ap, refl, sym, drop
 use Rattle.std.proofs.lemmas.List.{drop_all, drop_more}
 use Rattle.simulation.specs.Lines.{note_line}
 use Rattle.simulation.proofs.Parts.{part_more, part_none, part_whole}
-use Rattle.simulation.proofs.told.print_notes.Goals as goal
+use Rattle.simulation.proofs.step_output.print_notes.Goals as goal
 
 pub loop-note-init : goal.loop-note-init
 loop-note-init g c = part_none (g.W.Write.contents c.args.output.now) _

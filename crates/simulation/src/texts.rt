@@ -1,4 +1,4 @@
-//! The words of lines.
+//! The gateway of an event, and the texts of gateways, sides and pairs in a run's lines.
 ghost use Rattle.std.specs.Prelude.{◌≡◌};
 ghost use Rattle.simulation.specs.Lines.{gateway_of, id_text, protocol_text, side_text};
 
@@ -6,7 +6,7 @@ use addresses::{Ip, Protocol};
 use nat_types::{GatewayId, Pair, Side, WorldEvent};
 use std::fmt::{self, Display, Formatter};
 
-/// The gateway that an event happens to.
+/// Returns the gateway to which an event happens.
 pub(crate) fn gateway_of(event: &WorldEvent) -> GatewayId
     ensures { result ≡ gateway_of event.now }
 {
@@ -22,6 +22,7 @@ pub(crate) fn gateway_of(event: &WorldEvent) -> GatewayId
     }
 }
 
+/// Returns `0` or `1`.
 pub(crate) fn id_text(id: GatewayId) -> &'static str
     ensures { result.now ≡ id_text id }
 {
@@ -31,6 +32,7 @@ pub(crate) fn id_text(id: GatewayId) -> &'static str
     }
 }
 
+/// Returns `inside` or `outside`.
 pub(crate) fn side_text(side: Side) -> &'static str
     ensures { result.now ≡ side_text side }
 {
@@ -40,6 +42,7 @@ pub(crate) fn side_text(side: Side) -> &'static str
     }
 }
 
+/// Returns `icmp`, `tcp` or `udp`.
 fn protocol_text(protocol: Protocol) -> &'static str
     ensures { result.now ≡ protocol_text protocol }
 {
@@ -50,7 +53,7 @@ fn protocol_text(protocol: Protocol) -> &'static str
     }
 }
 
-/// An address, as `192.168.1.10`.
+/// An address, printed as `192.168.1.10`.
 #[derive(Clone, Copy)]
 struct AddressText(Ip);
 
@@ -68,7 +71,7 @@ impl Display for AddressText {
     }
 }
 
-/// A pair, as `udp 20000 192.168.1.10 5000`.
+/// A pair, printed as `udp 20000 192.168.1.10 5000`: the outside port, and the inside address and port.
 #[derive(Clone, Copy)]
 pub(crate) struct PairText<'a>(pub(crate) &'a Pair);
 

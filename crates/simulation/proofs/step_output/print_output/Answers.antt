@@ -2,7 +2,7 @@ use Rattle.std.proofs.Common.{ap, flat_map, refl, sym}
 use Rattle.simulation.specs.Lines.{note_line}
 use Rattle.simulation.proofs.Splits.{told_split}
 use Rattle.simulation.proofs.Parts.{part_more, part_none, part_rest, prints_as}
-use Rattle.simulation.proofs.told.print_told.Goals as goal
+use Rattle.simulation.proofs.step_output.print_output.Goals as goal
 
 pub returns-clause-printed : goal.returns-clause-printed
 returns-clause-printed g c =

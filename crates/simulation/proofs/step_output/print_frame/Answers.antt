@@ -1,6 +1,6 @@
 use Rattle.std.proofs.Common.{refl}
 use Rattle.simulation.proofs.Parts.{part_more, part_none, part_rest}
-use Rattle.simulation.proofs.told.print_frame.Goals as goal
+use Rattle.simulation.proofs.step_output.print_frame.Goals as goal
 
 pub returns : goal.returns
 returns g c =

@@ -1,7 +1,7 @@
 use Rattle.std.proofs.Common.{◌≡◌, ap, flat_map}
 use Rattle.simulation.specs.Lines.{frame_line}
 use Rattle.simulation.proofs.Parts.{part_more, part_none, part_whole}
-use Rattle.simulation.proofs.told.print_frames.Goals as goal
+use Rattle.simulation.proofs.step_output.print_frames.Goals as goal
 
 pub loop-frame-init : goal.loop-frame-init
 loop-frame-init g c =

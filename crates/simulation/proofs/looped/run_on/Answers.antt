@@ -1,6 +1,6 @@
 use Rattle.std.proofs.Common.{◌∙◌, Bool, ap, if◌then◌else◌}
 use Rattle.std.proofs.KnownBytes.{Appends-trans}
-use Rattle.simulation.proofs.looped.play_on.Goals as goal
+use Rattle.simulation.proofs.looped.run_on.Goals as goal
 
 pub returns : goal.returns
 returns g c =

@@ -2,36 +2,36 @@
 
 use nat_types::{GatewayId, WorldEvent};
 
-/// The moment at which a gateway's clock stands for good.
-const LAST_MOMENT: u64 = 4_000_000_000_000;
+/// The last time of a gateway's clock, in centiseconds: the clock stays there.
+const LAST_TIME: u64 = 4_000_000_000_000;
 
-/// The clock of each gateway, in centiseconds, as the events of a run set it; none while it is down.
+/// The clock of each gateway in centiseconds, as the events of a run set it; None while the gateway is down.
 #[derive(Clone, Copy, Debug)]
-pub(crate) struct Moments {
+pub(crate) struct Clocks {
     zero: Option<u64>,
     one: Option<u64>,
 }
 
-impl Moments {
-    /// Of a new world: gateway 0 is up.
-    pub(crate) fn new() -> Moments {
-        Moments {
+impl Clocks {
+    /// Returns the clocks of a new world, in which gateway 0 alone is up.
+    pub(crate) fn new() -> Clocks {
+        Clocks {
             zero: Some(0),
             one: None,
         }
     }
 
-    /// The moment of a gateway's packets: 0 while it is down.
-    pub(crate) fn of(&self, id: GatewayId) -> u64 {
+    /// Returns the time of a gateway's packets: 0 while the gateway is down.
+    pub(crate) fn time(&self, id: GatewayId) -> u64 {
         self.clock(id).unwrap_or(0)
     }
 
-    /// An event was applied.
+    /// Sets the clocks by an event that was applied.
     pub(crate) fn follow(&mut self, event: &WorldEvent) {
         match event {
-            WorldEvent::Tick(id, moment) => {
+            WorldEvent::Tick(id, time) => {
                 if let Some(now) = self.clock(*id) {
-                    self.set(*id, Some(now.max((*moment).min(LAST_MOMENT))));
+                    self.set(*id, Some(now.max((*time).min(LAST_TIME))));
                 }
             }
             WorldEvent::Crash(id) => self.set(*id, None),
