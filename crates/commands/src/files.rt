@@ -2,7 +2,7 @@
 
 use crate::meters::Meter;
 use boot_file::create;
-use checks::{Request, compare};
+use checks::{CheckOptions, compare};
 use command_line::{CheckWords, RunWords};
 use faults::{Fault, read_text};
 use std::fs::{File, Files};
@@ -30,14 +30,14 @@ pub(crate) fn check<R: Files<File = File> + AllocGlobal, O: Write, E: Write>(
         return compare(rt, settings, other.as_str(), output, errors);
     }
     let text = read_text(rt, settings)?;
-    let request = Request {
+    let options = CheckOptions {
         id: words.id,
         strict: words.strict,
         inside: words.inside.as_deref(),
         outside: words.outside.as_deref(),
         link: words.link.as_deref(),
     };
-    checks::check(rt, text.as_str(), &request, output)
+    checks::check(rt, text.as_str(), &options, output)
 }
 
 /// Runs a script, and says on a terminal how far it is.

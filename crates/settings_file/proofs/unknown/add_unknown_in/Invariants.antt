@@ -1,7 +1,7 @@
 use Rattle.std.proofs.Common.{◌≡◌, ◌++◌, map, string_bytes}
 use Rattle.toml.specs.View.{table_view, members_view}
 use Rattle.settings_file.specs.Unknown.{unknown_in}
-use Rattle.settings_file.proofs.unknown.unknown_in.Given as goal
+use Rattle.settings_file.proofs.unknown.add_unknown_in.Given as goal
 
 -- what is found, and what is left, is all
 abbrev pub invariant-loop-text : goal.invariant-loop-text

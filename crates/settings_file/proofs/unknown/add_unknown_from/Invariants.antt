@@ -1,7 +1,7 @@
 use Rattle.std.proofs.Common.{◌≡◌, ◌++◌, drop, map, string_bytes}
 use Rattle.toml.specs.View.{view}
 use Rattle.settings_file.specs.Unknown.{unknown_from}
-use Rattle.settings_file.proofs.unknown.unknown_from.Given as goal
+use Rattle.settings_file.proofs.unknown.add_unknown_from.Given as goal
 
 -- what is found, and what is left, is all
 abbrev pub invariant-loop-table : goal.invariant-loop-table

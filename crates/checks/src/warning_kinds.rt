@@ -1,17 +1,17 @@
-//! Warnings.
+//! The warnings of settings, and their texts.
 
 use settings_file::Key;
 
-/// What is likely not meant, though a pair can run with it.
+/// The kind of a warning: a value that is likely a mistake, though a pair can run with it.
 #[derive(Clone, Copy)]
-pub enum Doubt {
+pub enum WarningKind {
     /// The range has one port.
     OnePort,
     /// The network has addresses that no host has.
     Martian,
     /// Both sides have this virtual router's number.
     SameNumber,
-    /// It is the address of the network itself.
+    /// The address is that of the network itself.
     NetworkAddress,
     /// The box has this MAC on its other side too.
     SameMac,
@@ -19,7 +19,7 @@ pub enum Doubt {
     ShortInterval,
     /// The path is empty.
     EmptyPath,
-    /// The path of the control socket beside it is too long.
+    /// The path of the control socket beside the boot file is too long.
     LongPath,
     /// Both boxes have this priority.
     SamePriority,
@@ -29,44 +29,46 @@ pub enum Doubt {
     OtherPreempt,
     /// Both boxes have this path.
     SamePath,
-    /// The neighbour stands there before.
+    /// The neighbour is in the list before.
     Twice,
     /// Another key before it has this loopback port.
     SamePort,
 }
 
-impl Doubt {
-    /// What a user is told.
+impl WarningKind {
+    /// Returns the text for the user.
     pub fn as_str(self) -> &'static str {
         match self {
-            Doubt::OnePort => "the range has one port, for one UDP and one TCP pair",
-            Doubt::Martian =>
+            WarningKind::OnePort => "the range has one port, for one UDP and one TCP pair",
+            WarningKind::Martian =>
                 "in 0/8, 127/8, 224/4 and 240/4 no host has an address; nothing is translated",
-            Doubt::SameNumber => "as on the inside: right only where the two networks are apart",
-            Doubt::NetworkAddress => "this is the address of the network itself",
-            Doubt::SameMac =>
+            WarningKind::SameNumber =>
+                "as on the inside: right only where the two networks are apart",
+            WarningKind::NetworkAddress => "this is the address of the network itself",
+            WarningKind::SameMac =>
                 "as on the inside: a switch of both networks would learn it now here, now there",
-            Doubt::ShortInterval =>
+            WarningKind::ShortInterval =>
                 "a box looks only each centisecond: an advertisement that is late moves a side",
-            Doubt::EmptyPath => "the path is empty",
-            Doubt::LongPath =>
+            WarningKind::EmptyPath => "the path is empty",
+            WarningKind::LongPath =>
                 "over 92 bytes: the control socket beside it has no room, and gate doesn't start",
-            Doubt::SamePriority => "as the other box's: the one with the greater address is Active",
-            Doubt::OtherInterval =>
+            WarningKind::SamePriority =>
+                "as the other box's: the one with the greater address is Active",
+            WarningKind::OtherInterval =>
                 "not the other box's: each notices the other's end by its own measure",
-            Doubt::OtherPreempt =>
+            WarningKind::OtherPreempt =>
                 "not the other box's: which box is Active depends on which began first",
-            Doubt::SamePath => "as the other box's: right only on two machines",
-            Doubt::Twice => "this neighbour stands there before; the first counts",
-            Doubt::SamePort =>
+            WarningKind::SamePath => "as the other box's: right only on two machines",
+            WarningKind::Twice => "this neighbour stands there before; the first counts",
+            WarningKind::SamePort =>
                 "another key has this port: loop refuses it, and gate with both on loopback",
         }
     }
 }
 
-/// A key of settings, and what is likely not meant there.
+/// A warning at a key of settings.
 #[derive(Clone, Copy)]
 pub struct Warning {
     pub key: Key,
-    pub doubt: Doubt,
+    pub kind: WarningKind,
 }

@@ -1,6 +1,6 @@
 use Rattle.std.proofs.Common.{◌≡◌, ◌++◌, drop}
 use Rattle.settings_file.specs.Faults.{all_bad}
-use Rattle.settings_file.proofs.rows.add_bad.Given as goal
+use Rattle.settings_file.proofs.key_checks.add_failing.Given as goal
 
 -- what is found, and what is left, is all
 abbrev pub invariant-loop-key : goal.invariant-loop-key

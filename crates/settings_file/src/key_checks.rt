@@ -1,27 +1,27 @@
-//! Lists of keys.
+//! Lists of keys, each with whether its value passes a check.
 ghost use Rattle.std.specs.Prelude.{◌≡◌, ◌++◌, OnOk};
 ghost use Rattle.settings_file.specs.Faults.{all_bad, first};
 
 use crate::Key;
 use std::alloc::AllocError;
 
-/// Adds the keys of rows whose values aren't good.
+/// Adds the key of each row that doesn't pass: `false` beside a key is a failure.
 ///
 /// # Errors
 ///
-/// Where memory is refused. Some of them may be added then.
-pub fn add_bad(rows: &[(Key, bool)], found: &mut Vec<Key>) -> Result<(), AllocError>
+/// Out of memory. Some of the keys may be added then.
+pub fn add_failing(rows: &[(Key, bool)], found: &mut Vec<Key>) -> Result<(), AllocError>
     ensures items { OnOk result (found.new.items ≡ found.old.items ++ all_bad rows.now) }
 {
-    for (key, good) in rows {
-        if !*good {
+    for (key, passes) in rows {
+        if !*passes {
             found.push(*key)?;
         }
     }
     Ok(())
 }
 
-/// The first of some keys.
+/// Returns the first of some keys.
 pub(crate) fn first(keys: &[Key]) -> Option<Key>
     ensures { result ≡ first keys.now }
 {
