@@ -2,7 +2,6 @@
 
 use crate::{Warning, WarningKind};
 use addresses::Ip;
-use nat_types::Side;
 use settings::{GatewaySettings, Neighbour, PortRange, Settings};
 use settings_file::{Key, Name, Section, add_port_clashes, is_network_address};
 use std::alloc::{AllocError, Global};

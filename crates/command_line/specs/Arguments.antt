@@ -1,4 +1,4 @@
--- The arguments of a command, and the commands of a program, as clap is told of them.
+-- The arguments of a command, and the commands of a program, as clap takes them.
 use Rattle.std.specs.Prelude.{◌≡◌, Bool, true, false, List, [], ◌∷◌}
 use Rattle.clap.specs.Words.{App, Rule, Text, app_of, new_app, with_rule, with_subcommand}
 use Rattle.clap.specs.declared.builder.action.ArgAction.{ArgAction}

@@ -4,7 +4,7 @@ use Rattle.simulation.specs.Lines.{link_line, link_lines, more, one_more}
 use Rattle.simulation.proofs.Parts.{part_more, part_none, part_whole}
 use Rattle.simulation.proofs.step_output.print_datagrams.Goals as goal
 
--- the first datagram, and those behind it
+-- the first datagram, and those after it
 first : (i : GatewayId) (sent number : ℕ) (ds es : List (List ℕ)) (d : List ℕ) → ds ≡ d ∷ es → number ≡ one_more sent
     → link_lines i sent ds ≡ link_line i number d ++ link_lines i number es
 first i sent number ds es d is counted = rw (is, counted) refl
