@@ -46,8 +46,8 @@ pub(crate) fn report_boot_file<R: Files<File = File>>(
     }
 }
 
-/// Reads the state of a boot file. Returns None where the path is no regular file: that isn't opened, since the open of a named
-/// pipe would wait.
+/// Reads the state of a boot file. Returns None where the path is no regular file: that isn't opened, since the open of
+/// a named pipe would wait.
 fn inspect<R: Files<File = File>>(rt: &R, path: &str) -> io::Result<Option<BootFile>> {
     if !fs::metadata(rt, path)?.is_file() {
         return Ok(None);

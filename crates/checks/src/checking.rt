@@ -12,9 +12,9 @@ use std::alloc::{AllocError, Global};
 use std::fs::{File, Files};
 use std::io::Write;
 
-/// Writes every fault and every warning of a text of settings, each on a line with its key, then the findings on the interfaces,
-/// the address and the boot file of the options, and last the number of faults and of warnings. Returns the exit status: 1 where
-/// there is a fault, or a warning of a strict check, else 0.
+/// Writes every fault and every warning of a text of settings, each on a line with its key, then the findings on the
+/// interfaces, the address and the boot file of the options, and last the number of faults and of warnings. Returns the
+/// exit status: 1 where there is a fault, or a warning of a strict check, else 0.
 ///
 /// # Errors
 ///

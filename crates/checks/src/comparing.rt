@@ -7,9 +7,9 @@ use std::alloc::Global;
 use std::fs::Files;
 use std::io::Write;
 
-/// Writes each key in which the settings of the files at two paths differ, whether the key may differ, and last how many keys do.
-/// A file without settings is reported on `errors`. Returns the exit status: 1 where a file has no settings or a key differs that
-/// must not, else 0.
+/// Writes each key in which the settings of the files at two paths differ, whether the key may differ, and last how
+/// many keys do. A file without settings is reported on `errors`. Returns the exit status: 1 where a file has no
+/// settings or a key differs that must not, else 0.
 ///
 /// # Errors
 ///

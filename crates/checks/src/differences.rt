@@ -123,9 +123,9 @@ pub fn differing_keys(
     Ok(found)
 }
 
-/// Whether the two boxes may have different values at a key: only one of them reads it, or the value is one of the machine on
-/// which a box runs. The values at all other keys must be the same on both boxes; those are exactly the keys in the digest of
-/// `gate/src/digests.rt`.
+/// Whether the two boxes may have different values at a key: only one of them reads it, or the value is one of the
+/// machine on which a box runs. The values at all other keys must be the same on both boxes; those are exactly the keys
+/// in the digest of `gate/src/digests.rt`.
 pub fn may_differ(key: Key) -> bool {
     match key.name {
         Some(

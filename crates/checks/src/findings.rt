@@ -5,7 +5,8 @@ use std::alloc::{AllocError, Global};
 use std::fmt::Display;
 use std::io::Write;
 
-/// The lines of a check. They are written once all are there, so that nothing is written where the check is out of memory.
+/// The lines of a check. They are written once all are there, so that nothing is written where the check is out of
+/// memory.
 #[derive(Drop)]
 pub(crate) struct Findings {
     text: String,
@@ -40,8 +41,8 @@ impl Findings {
         writeln!(self.text, "note: {what}")
     }
 
-    /// Writes the lines and the number of faults and of warnings. Returns the exit status: 1 where there is a fault, or a warning
-    /// of a strict check, else 0.
+    /// Writes the lines and the number of faults and of warnings. Returns the exit status: 1 where there is a fault, or
+    /// a warning of a strict check, else 0.
     ///
     /// # Errors
     ///

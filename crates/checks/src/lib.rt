@@ -1,4 +1,5 @@
-//! `natpair check`: every fault and every warning of a text of settings, and the keys in which the settings of two files differ.
+//! `natpair check`: every fault and every warning of a text of settings, and the keys in which the settings of two
+//! files differ.
 #![tactic(auto)]
 
 mod boot_files;

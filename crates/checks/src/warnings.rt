@@ -6,12 +6,12 @@ use settings::{GatewaySettings, Neighbour, PortRange, Settings};
 use settings_file::{Key, Name, Section, add_port_clashes, is_network_address};
 use std::alloc::{AllocError, Global};
 
-/// The longest path of a boot file beside which the control socket's path isn't too long, in bytes: the 107 of a socket's path, less
-/// the end of its name.
+/// The longest path of a boot file beside which the control socket's path isn't too long, in bytes: the 107 of a
+/// socket's path, less the end of its name.
 const MAX_BOOT_FILE_PATH: usize = 107 - ".control/socket".len();
 
-/// Returns all warnings of settings: those of the networks, of each gateway, of both gateways and of the neighbours, then the ports
-/// that two keys have.
+/// Returns all warnings of settings: those of the networks, of each gateway, of both gateways and of the neighbours,
+/// then the ports that two keys have.
 ///
 /// # Errors
 ///

@@ -53,8 +53,8 @@ pub enum Task {
 ///
 /// # Errors
 ///
-/// `Refused` where `clap` refuses the words or they ask for help: a number that is missing or beyond its limits, too. Words that
-/// ask for the version are a task. `Values` where the values of the command don't go together; `NoMemory`.
+/// `Refused` where `clap` refuses the words or they ask for help: a number that is missing or beyond its limits, too.
+/// Words that ask for the version are a task. `Values` where the values of the command don't go together; `NoMemory`.
 pub fn command(alloc: Global, words: &[String]) -> Result<Task, LineFault>
     ensures ok { IfOk result (Asks (map string_bytes words.now)) }
     ensures err { IfErr result (Refuses (map string_bytes words.now)) }

@@ -8,8 +8,8 @@ use nat_types::Side;
 use std::alloc::{AllocError, Global};
 use toml::{Table, Value};
 
-/// Returns all keys whose values are bad, in the order of the text. An address is compared with its network only where the
-/// network is known, so that a bad prefix isn't a fault of each address in it too.
+/// Returns all keys whose values are bad, in the order of the text. An address is compared with its network only where
+/// the network is known, so that a bad prefix isn't a fault of each address in it too.
 pub(crate) fn bad_values(alloc: Global, document: &Table) -> Result<Vec<Key>, AllocError> {
     let inside = network_of(document, Section::Inside);
     let outside = network_of(document, Section::Outside);

@@ -16,8 +16,8 @@ pub struct OnLoopback {
 /// A key of a port, and the port, or None where its place isn't on loopback.
 type Row = (Key, Option<u16>);
 
-/// Returns the first key, in the order of the text, whose loopback port an earlier key has too, among the ports that a box
-/// binds and those to which it sends frames. Only the places on loopback count.
+/// Returns the first key, in the order of the text, whose loopback port an earlier key has too, among the ports that a
+/// box binds and those to which it sends frames. Only the places on loopback count.
 pub fn port_clash(settings: &Settings, id: GatewayId, on: OnLoopback) -> Option<Key> {
     let section = match id {
         GatewayId::Zero => Section::GatewayZero,
@@ -39,8 +39,8 @@ pub fn port_clash(settings: &Settings, id: GatewayId, on: OnLoopback) -> Option<
     first_taken(&rows)
 }
 
-/// Returns the first key, in the order of the text, whose loopback port an earlier key has too, for both boxes on one machine
-/// with all their places on loopback.
+/// Returns the first key, in the order of the text, whose loopback port an earlier key has too, for both boxes on one
+/// machine with all their places on loopback.
 pub fn port_clash_of_both(settings: &Settings) -> Option<Key> {
     first_taken(&rows_of_both(settings))
 }

@@ -1,5 +1,5 @@
-//! The sections of a document: ports, the two networks with the router, and ICMP. The errors are the first keys whose values are
-//! bad.
+//! The sections of a document: ports, the two networks with the router, and ICMP. The errors are the first keys whose
+//! values are bad.
 ghost use Rattle.std.specs.Prelude.{◌≡◌, IsTrue, ◌<◌, ◌≤◌, Some, IfOk};
 ghost use Rattle.std.specs.Option.{ForSome};
 ghost use Rattle.toml.specs.View.{table_view};

@@ -80,8 +80,8 @@ impl Values {
     ///
     /// # Errors
     ///
-    /// `RangesOverlap` where the gateways' port ranges share a port; `SameIds` where the gateways share an address, a MAC or a
-    /// loopback port, or one has a virtual address.
+    /// `RangesOverlap` where the gateways' port ranges share a port; `SameIds` where the gateways share an address, a
+    /// MAC or a loopback port, or one has a virtual address.
     pub(crate) fn assemble(self) -> Result<Settings, SettingFault>
         ensures ok { IfOk result (IsAssembled self) }
         ensures err { IfErr result (TellsValues self) }

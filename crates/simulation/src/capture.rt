@@ -117,7 +117,8 @@ pub(crate) fn end_capture<W: Write + Drop>(
     }
 }
 
-/// Returns the bytes that an event brings, and the interface at which they arrive: a frame, or a datagram that was sent.
+/// Returns the bytes that an event brings, and the interface at which they arrive: a frame, or a datagram that was
+/// sent.
 pub(crate) fn input_of<'a>(
     world: &'a World<'_>,
     event: &'a WorldEvent,

@@ -1,5 +1,5 @@
-//! Runs scripts of events on a pair of gateways, and prints what they do. `run_sim` applies each event directly; `run_loop` first
-//! sends the event's frame or datagram through a UDP socket.
+//! Runs scripts of events on a pair of gateways, and prints what they do. `run_sim` applies each event directly;
+//! `run_loop` first sends the event's frame or datagram through a UDP socket.
 #![tactic(auto)]
 
 mod capture;

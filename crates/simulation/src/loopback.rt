@@ -131,11 +131,13 @@ pub struct Loopback<'a, R> {
 }
 
 impl<'a, R: Net> Loopback<'a, R> {
-    /// Binds the ports in the settings of both gateways: the link, the inside and the outside of gateway 0, then those of gateway 1.
+    /// Binds the ports in the settings of both gateways: the link, the inside and the outside of gateway 0, then those
+    /// of gateway 1.
     ///
     /// # Errors
     ///
-    /// `CantWork` with the first key whose port another key before it has; `NoPort` of the first port that can't be bound.
+    /// `CantWork` with the first key whose port another key before it has; `NoPort` of the first port that can't be
+    /// bound.
     pub fn open(rt: &'a R, settings: &Settings) -> Result<Loopback<'a, R>, Fault> {
         if let Some(key) = port_clash_of_both(settings) {
             return Err(Fault::Setting(SettingFault::CantWork(key)));

@@ -25,13 +25,13 @@ pub trait Channel {
     fn pass(&mut self, interface: Interface, bytes: &[u8]) -> bool;
 }
 
-/// Runs a script with settings, both given as texts, through the loopback ports of the settings, and writes a capture to the file
-/// at a path, where there is one. Returns the exit status: 0, or 3 where an event was refused.
+/// Runs a script with settings, both given as texts, through the loopback ports of the settings, and writes a capture
+/// to the file at a path, where there is one. Returns the exit status: 0, or 3 where an event was refused.
 ///
 /// # Errors
 ///
-/// Those of [`read_job`], of [`Loopback::open`] and of opening the capture's file, in this order: nothing is run then. A failed
-/// write of the capture comes before the errors of [`run_loop_job`].
+/// Those of [`read_job`], of [`Loopback::open`] and of opening the capture's file, in this order: nothing is run then.
+/// A failed write of the capture comes before the errors of [`run_loop_job`].
 pub fn run_loop<R: Files + Net + Clock + AllocGlobal, W: Write>(
     rt: &R,
     settings: &str,
@@ -47,9 +47,9 @@ pub fn run_loop<R: Files + Net + Clock + AllocGlobal, W: Write>(
     status
 }
 
-/// Runs a job on a new world. The frame or datagram of each event is first sent through a channel; where the channel loses it, the
-/// event isn't applied, and a line says so. Each event is captured and printed before the next one. Returns the exit status: 0, or
-/// 3 where an event was refused.
+/// Runs a job on a new world. The frame or datagram of each event is first sent through a channel; where the channel
+/// loses it, the event isn't applied, and a line says so. Each event is captured and printed before the next one.
+/// Returns the exit status: 0, or 3 where an event was refused.
 ///
 /// # Errors
 ///

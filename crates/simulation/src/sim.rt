@@ -36,13 +36,13 @@ impl<P: Progress> Progress for Option<P> {
     }
 }
 
-/// Runs a script with settings, both given as texts, and writes a capture to the file at a path, where there is one. Returns the
-/// exit status: 0, or 3 where an event was refused.
+/// Runs a script with settings, both given as texts, and writes a capture to the file at a path, where there is one.
+/// Returns the exit status: 0, or 3 where an event was refused.
 ///
 /// # Errors
 ///
-/// Those of [`read_job`], then those of opening the capture's file: nothing is run then. A failed write of the capture comes
-/// before the errors of [`run_sim_job`].
+/// Those of [`read_job`], then those of opening the capture's file: nothing is run then. A failed write of the capture
+/// comes before the errors of [`run_sim_job`].
 pub fn run_sim<R: Files + AllocGlobal, P: Progress, W: Write>(
     rt: &R,
     settings: &str,
@@ -58,8 +58,9 @@ pub fn run_sim<R: Files + AllocGlobal, P: Progress, W: Write>(
     status
 }
 
-/// Runs a job on a new world, and reports the progress before every 64 events. Writes the whole capture after the last event, and
-/// prints the lines of the run after the capture. Returns the exit status: 0, or 3 where an event was refused.
+/// Runs a job on a new world, and reports the progress before every 64 events. Writes the whole capture after the last
+/// event, and prints the lines of the run after the capture. Returns the exit status: 0, or 3 where an event was
+/// refused.
 ///
 /// # Errors
 ///
