@@ -46,7 +46,8 @@ impl LineFault {
     }
 
     /// Writes `clap`'s text unchanged, or a line that begins with `natpair: `, in one write, and returns the exit
-    /// status of the program. Where memory for the text is lacking, the line for `NoMemory` is written instead.
+    /// status of the program. Out of memory for the text, it writes the line for
+    /// `NoMemory` instead.
     pub fn report<E: Write>(&self, alloc: Global, errors: &mut E) -> u8 {
         let text = match self {
             LineFault::Refused(error) => format!(in alloc; "{error}"),

@@ -5,8 +5,8 @@ use std::alloc::{AllocError, AllocFailed};
 use std::fmt;
 use thiserror::Error;
 
-/// The reason for which a text has no settings. Its `Display` is a number, a name and a key, as `2 Missing
-/// outside.router`.
+/// The reason for which a text has no settings. Its `Display` is a number, a name and a key, as
+/// `2 Missing outside.router`.
 ///
 /// Faults are looked for in this order: `NotToml`, `UnknownKey`, `Missing`, `BadValue`, `RangesOverlap`, `SameIds`,
 /// `CantWork`. Of several missing keys, bad values or keys that can't work the fault has the first in the order of the

@@ -21,7 +21,7 @@ use toml::Table;
 /// The first fault in this order: the text isn't TOML, an unknown key (of several the least path by bytes), a
 /// missing key, a bad value, port ranges that overlap, ids that the two gateways share, a value that can never
 /// work; of missing keys, bad values and values that can't work the first in the order of the keys. `NoMemory` only
-/// where memory is lacking.
+/// where the program is out of memory.
 #[tactic(auto, using(crate::proofs::Agree::read_from))]
 pub fn read(alloc: Global, text: &str) -> Result<Settings, SettingFault>
     ensures ok { IfOk result (IsReadFrom (parse_document text.now)) }
