@@ -1,7 +1,7 @@
 //! What an operator asks of a running box.
 
 use crate::words::{LONGEST, ask, control_path};
-use command_line::{Form, PairsWords, StatusWords};
+use command_line::{PairsWords, StatusFormat, StatusWords};
 use control::{ControlPath, Reply, Word};
 use faults::Fault;
 use nat_types::Key;
@@ -31,9 +31,9 @@ pub(crate) fn status<R: Files + Net + Clock + AllocGlobal, O: Write>(
     }
     let report = ask_report(rt, &path)?;
     match words.form {
-        Form::Plain => write!(output, "{}", PlainText(&report))?,
-        Form::Json => write!(output, "{}", JsonText(&report))?,
-        Form::Prometheus => write!(output, "{}", MetricsText(&report))?,
+        StatusFormat::Plain => write!(output, "{}", PlainText(&report))?,
+        StatusFormat::Json => write!(output, "{}", JsonText(&report))?,
+        StatusFormat::Prometheus => write!(output, "{}", MetricsText(&report))?,
     }
     output.flush()?;
     Ok(())

@@ -2,10 +2,9 @@
 
 use crate::meters::Meter;
 use boot_file::create;
-use checks::{Request, compare};
+use checks::{CheckOptions, compare};
 use command_line::{CheckWords, RunWords};
 use faults::{Fault, read_text};
-use simulation::{looped, sim};
 use std::fs::{File, Files};
 use std::io::Write;
 use std::net::Net;
@@ -31,14 +30,14 @@ pub(crate) fn check<R: Files<File = File> + AllocGlobal, O: Write, E: Write>(
         return compare(rt, settings, other.as_str(), output, errors);
     }
     let text = read_text(rt, settings)?;
-    let request = Request {
+    let options = CheckOptions {
         id: words.id,
         strict: words.strict,
         inside: words.inside.as_deref(),
         outside: words.outside.as_deref(),
         link: words.link.as_deref(),
     };
-    checks::check(rt, text.as_str(), &request, output)
+    checks::check(rt, text.as_str(), &options, output)
 }
 
 /// Runs a script, and says on a terminal how far it is.
@@ -52,7 +51,7 @@ pub(crate) fn run_sim<R: Files<File = File> + Clock + AllocGlobal, O: Write, E: 
     let settings = read_text(rt, words.settings.as_str())?;
     let script = read_text(rt, words.script.as_str())?;
     let mut meter = Meter::start(rt, errors, is_terminal);
-    sim::run(
+    simulation::run_sim(
         rt,
         settings.as_str(),
         script.as_str(),
@@ -70,7 +69,7 @@ pub(crate) fn run_loop<R: Files<File = File> + Net + Clock + AllocGlobal, O: Wri
 ) -> Result<u8, Fault> {
     let settings = read_text(rt, words.settings.as_str())?;
     let script = read_text(rt, words.script.as_str())?;
-    looped::run(
+    simulation::run_loop(
         rt,
         settings.as_str(),
         script.as_str(),
