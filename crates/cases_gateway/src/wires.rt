@@ -6,7 +6,7 @@ use crate::replies::show_reply;
 use cases_words::Case;
 use control::Word;
 use nat_types::Side;
-use platform::Clock;
+use platform::CentisecondClock;
 use sockets::{LONGEST, Losses, Place, SendFault, Wire, WireFault};
 use std::alloc::Global;
 use std::time::Duration;
@@ -232,7 +232,7 @@ pub(crate) struct StepClock {
     pub(crate) pace: u64,
 }
 
-impl Clock for StepClock {
+impl CentisecondClock for StepClock {
     fn now(&mut self) -> u64 {
         self.now = self.now.saturating_add(self.pace);
         self.now

@@ -9,7 +9,7 @@ use crate::taking::{take_event, take_message};
 use gateway::{Event, Gateway, Out};
 use journal::{EventLog, Journal};
 use nat_types::GatewayId;
-use platform::Clock;
+use platform::CentisecondClock;
 use reports::{Counters, Sides};
 use sockets::{LONGEST, Wire, WireFault};
 use std::alloc::Global;
@@ -114,7 +114,7 @@ impl State {
 /// second began; and that it ends, before the gateway is stopped.
 ///
 /// A send that fails is a lost datagram. An event for which memory is refused changes nothing.
-pub fn serve<W: Wire, C: Clock, U: EndSignal, M: Manager, L: Journal>(
+pub fn serve<W: Wire, C: CentisecondClock, U: EndSignal, M: Manager, L: Journal>(
     alloc: Global,
     gateway: &mut Gateway,
     wire: &mut W,
@@ -136,7 +136,7 @@ pub fn serve<W: Wire, C: Clock, U: EndSignal, M: Manager, L: Journal>(
 }
 
 /// The rounds of `serve` alone: the gateway isn't stopped, and can go on.
-pub fn run_rounds<W: Wire, C: Clock, U: EndSignal, M: Manager, L: Journal>(
+pub fn run_rounds<W: Wire, C: CentisecondClock, U: EndSignal, M: Manager, L: Journal>(
     alloc: Global,
     gateway: &mut Gateway,
     wire: &mut W,
@@ -155,7 +155,7 @@ pub fn run_rounds<W: Wire, C: Clock, U: EndSignal, M: Manager, L: Journal>(
     log.finish(gateway.moment());
 }
 
-fn all_rounds<W: Wire, C: Clock, U: EndSignal, M: Manager, L: Journal>(
+fn all_rounds<W: Wire, C: CentisecondClock, U: EndSignal, M: Manager, L: Journal>(
     gateway: &mut Gateway,
     wire: &mut W,
     clock: &mut C,
@@ -182,7 +182,7 @@ fn all_rounds<W: Wire, C: Clock, U: EndSignal, M: Manager, L: Journal>(
     }
 }
 
-fn round<W: Wire, C: Clock, L: Journal>(
+fn round<W: Wire, C: CentisecondClock, L: Journal>(
     gateway: &mut Gateway,
     wire: &mut W,
     clock: &mut C,
