@@ -218,24 +218,23 @@ fn say_stop(rt: &HostRuntime, case: &mut Case) {
 
 fn said(rt: &HostRuntime, name: &str) -> Result<()> {
     let path = ControlPath::beside(rt.alloc(), name)?;
-    say(rt, &path, b"NO\0\0\0\0\0\0\0\x07")?;
+    let word = Word::PeerOff {
+        boot: Some(7),
+        forced: false,
+    };
+    say(rt, &path, word)?;
     Ok(())
 }
 
 fn ask_status(rt: &HostRuntime, case: &mut Case) {
-    match asked(rt, case.word()) {
-        Ok(count) => {
-            case.say("  ", count);
-            case.put(" bytes\n");
-        }
-        Err(fault) => case.tell(fault),
-    }
+    let asked = asked(rt, case.word());
+    case.done(asked, "replied");
 }
 
-fn asked(rt: &HostRuntime, name: &str) -> Result<usize> {
+fn asked(rt: &HostRuntime, name: &str) -> Result<()> {
     let path = ControlPath::beside(rt.alloc(), name)?;
-    let mut buffer = [0; LONGEST];
-    Ok(ask(rt, &path, Word::Status.bytes().as_slice(), &mut buffer)?)
+    ask(rt, &path, Word::Status, &mut [0; LONGEST])?;
+    Ok(())
 }
 
 fn mode(rt: &HostRuntime, case: &mut Case) {
