@@ -54,14 +54,14 @@ impl Memory {
 }
 
 impl Transport for Memory {
-    fn send(&mut self, buffer: &[u8; LONGEST], count: usize) -> Result<(), SendFault> {
+    fn send(&mut self, datagram: &[u8]) -> Result<(), SendFault> {
         if self.fails() {
             return Err(SendFault::Failed);
         }
-        if count > self.longest {
+        if datagram.len() > self.longest {
             return Err(SendFault::TooLong);
         }
-        let bytes = Vec::from_slice(self.alloc, &buffer[..count]).map_err(|_| SendFault::Failed)?;
+        let bytes = Vec::from_slice(self.alloc, datagram).map_err(|_| SendFault::Failed)?;
         self.sent.push(bytes).map_err(|_| SendFault::Failed)
     }
 

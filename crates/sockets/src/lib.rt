@@ -15,7 +15,7 @@ pub use ends::{End, Ends};
 pub use losses::{Losses, SendFault};
 pub use peers::{Peer, Sender};
 pub use place_sockets::PlaceSocket;
-pub use sockets::{CONTROL, Ports, SocketFault, Sockets};
+pub use sockets::{CONTROL_TOKEN, LoopbackPorts, SocketFault, Sockets};
 pub use transports::{Arrived, Transport};
 pub use vxlan::Network;
 pub use ways::{NoDescriptor, Way, Ways, first_unbound};
