@@ -3,7 +3,7 @@
 use crate::{Direction, Interface, LiveCapture, NonBlockingWriter, Packet};
 use nat_types::GatewayId;
 use platform::CentisecondClock;
-use sockets::{LONGEST, Losses, Place, Wire, WireFault};
+use sockets::{MAX_DATAGRAM, Losses, Place, Wire, WireFault};
 use std::time::Duration;
 
 /// A gateway's wire whose frames and datagrams are captured, each after it was received or sent. An operator's words aren't
@@ -38,7 +38,7 @@ impl<W: Wire, C: CentisecondClock, O: NonBlockingWriter> Wire for Tapped<W, C, O
     fn receive(
         &mut self,
         limit: Duration,
-        buffer: &mut [u8; LONGEST],
+        buffer: &mut [u8; MAX_DATAGRAM],
     ) -> Result<Option<(Place, usize)>, WireFault> {
         let received = self.wire.receive(limit, buffer)?;
         if let Some((place, count)) = received {

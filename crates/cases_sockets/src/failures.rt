@@ -1,7 +1,7 @@
 //! Rounds over a wire of which one call fails.
 
 use cases_words::Case;
-use sockets::{LONGEST, Place, Sockets, Wire};
+use sockets::{MAX_DATAGRAM, Place, Sockets, Wire};
 use std::time::Duration;
 
 /// In each of 20 rounds both boxes send a datagram on the link, and gateway 0 looks for one. Its wire fails at a
@@ -28,7 +28,7 @@ fn tell(case: &mut Case, came: usize, left: usize, sent: usize) {
 fn count_received(wire: &mut Sockets, number: u64, other: &mut Sockets) -> usize {
     let mut received = 0_usize;
     let mut left = number;
-    let mut buffer = [0; LONGEST];
+    let mut buffer = [0; MAX_DATAGRAM];
     for _ in 0..20 {
         let _ = other.send(Place::Link, b"one");
         if !fails(&mut left) {
@@ -52,7 +52,7 @@ fn fails(left: &mut u64) -> bool {
 
 /// How many datagrams are there, all of which are received.
 fn drained(wire: &mut Sockets) -> usize {
-    let mut buffer = [0; LONGEST];
+    let mut buffer = [0; MAX_DATAGRAM];
     for count in 0..100 {
         let Ok(Some(_)) = wire.receive(Duration::ZERO, &mut buffer) else {
             return count;

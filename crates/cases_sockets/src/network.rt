@@ -7,7 +7,7 @@ use crate::words::{place_in, tell_losses};
 use anyhow::Result;
 use cases_words::{Actor, Case};
 use control::{ControlPath, Word, ask, say};
-use sockets::{LONGEST, Place, Sockets, Wire, WireFault};
+use sockets::{MAX_DATAGRAM, Place, Sockets, Wire, WireFault};
 use std::alloc::Global;
 use std::fs;
 use std::io::Write;
@@ -134,7 +134,7 @@ fn repeated(case: &mut Case, count: usize) -> Vec<u8> {
 
 /// Prints the next datagram.
 fn receive(sockets: &mut Sockets, limit: Duration, case: &mut Case) {
-    let mut buffer = [0; LONGEST];
+    let mut buffer = [0; MAX_DATAGRAM];
     match sockets.receive(limit, &mut buffer) {
         Ok(Some((place, count))) => {
             case.show("  ", place);
@@ -233,7 +233,7 @@ fn ask_status(rt: &HostRuntime, case: &mut Case) {
 
 fn asked(rt: &HostRuntime, name: &str) -> Result<()> {
     let path = ControlPath::beside(rt.alloc(), name)?;
-    ask(rt, &path, Word::Status, &mut [0; LONGEST])?;
+    ask(rt, &path, Word::Status, &mut [0; MAX_DATAGRAM])?;
     Ok(())
 }
 

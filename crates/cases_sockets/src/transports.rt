@@ -1,7 +1,7 @@
 //! A transport in memory, of which a call may fail.
 ghost use Rattle.std.specs.Prelude.{◌≤◌};
 
-use sockets::{Arrived, LONGEST, SendFault, Sender, Transport, WireFault};
+use sockets::{Arrived, MAX_DATAGRAM, SendFault, Sender, Transport, WireFault};
 use std::alloc::Global;
 
 /// A datagram that is to arrive.
@@ -36,7 +36,7 @@ impl Memory {
             sent: Vec::new(alloc),
             left: 0,
             is_stuck: false,
-            longest: LONGEST,
+            longest: MAX_DATAGRAM,
         }
     }
 
@@ -65,7 +65,7 @@ impl Transport for Memory {
         self.sent.push(bytes).map_err(|_| SendFault::Failed)
     }
 
-    fn receive(&mut self, buffer: &mut [u8; LONGEST]) -> Result<Option<Arrived>, WireFault> {
+    fn receive(&mut self, buffer: &mut [u8; MAX_DATAGRAM]) -> Result<Option<Arrived>, WireFault> {
         if self.fails() {
             return Err(WireFault);
         }
@@ -81,10 +81,10 @@ impl Transport for Memory {
 }
 
 /// Copies bytes into a buffer as far as they fit, and says how many.
-pub(crate) fn copied(bytes: &[u8], buffer: &mut [u8; LONGEST]) -> usize
-    ensures { result ≤ LONGEST }
+pub(crate) fn copied(bytes: &[u8], buffer: &mut [u8; MAX_DATAGRAM]) -> usize
+    ensures { result ≤ MAX_DATAGRAM }
 {
-    let count = bytes.len().min(LONGEST);
+    let count = bytes.len().min(MAX_DATAGRAM);
     buffer[..count].copy_from_slice(&bytes[..count]);
     count
 }

@@ -2,7 +2,7 @@
 
 use crate::names::{PROTOCOLS, dropped, left_out, origin_name};
 use crate::units::Seconds;
-use crate::{Count, Counters, GatewayReport, PairCounts, PeerReport, Report, SideReport};
+use crate::{Counter, Counters, GatewayReport, PairCounts, PeerReport, Report, SideReport};
 use addresses::Protocol;
 use journal::{Cause, Origin, reason_name, role_name};
 use nat_types::EntryState;
@@ -155,10 +155,10 @@ fn write_place<W: fmt::Write>(
         before,
         name,
         &[
-            ("in", counters.of(origin, Count::Received)),
-            ("out", counters.of(origin, Count::Sent)),
-            ("failed", counters.of(origin, Count::SendFailed)),
-            ("too_long", counters.of(origin, Count::TooLong)),
+            ("in", counters.of(origin, Counter::Received)),
+            ("out", counters.of(origin, Counter::Sent)),
+            ("failed", counters.of(origin, Counter::SendFailed)),
+            ("too_long", counters.of(origin, Counter::TooLong)),
         ],
     )
 }

@@ -3,7 +3,7 @@
 
 use crate::names::{PROTOCOLS, STATES, dropped, left_out, origin_name, state_name};
 use crate::units::Seconds;
-use crate::{Count, Counters, GatewayReport, PairCounts, PeerReport, Report, Sides};
+use crate::{Counter, Counters, GatewayReport, PairCounts, PeerReport, Report, Sides};
 use addresses::Protocol;
 use journal::{Cause, Origin, reason_name};
 use std::fmt::{self, Display, Formatter};
@@ -213,8 +213,8 @@ fn write_ports<W: fmt::Write>(f: &mut Formatter<W>, gateway: &GatewayReport) -> 
 
 /// Writes what was received and sent.
 fn write_traffic<W: fmt::Write>(f: &mut Formatter<W>, counters: &Counters) -> fmt::Result {
-    let received = |origin| counters.of(origin, Count::Received);
-    let sent = |origin| counters.of(origin, Count::Sent);
+    let received = |origin| counters.of(origin, Counter::Received);
+    let sent = |origin| counters.of(origin, Counter::Sent);
     write_counter(
         f,
         "natpair_frames_total",
@@ -250,10 +250,10 @@ fn write_traffic<W: fmt::Write>(f: &mut Formatter<W>, counters: &Counters) -> fm
 fn write_failures<W: fmt::Write>(f: &mut Formatter<W>, counters: &Counters) -> fmt::Result {
     let name = "natpair_send_failures_total";
     write_head(f, "counter", name, "What the system didn't take.")?;
-    write_places(f, name, counters, Count::SendFailed)?;
+    write_places(f, name, counters, Counter::SendFailed)?;
     let name = "natpair_too_long_total";
     write_head(f, "counter", name, "What was longer than its way takes.")?;
-    write_places(f, name, counters, Count::TooLong)
+    write_places(f, name, counters, Counter::TooLong)
 }
 
 /// Writes a counter of each place.
@@ -261,7 +261,7 @@ fn write_places<W: fmt::Write>(
     f: &mut Formatter<W>,
     name: &str,
     counters: &Counters,
-    what: Count,
+    what: Counter,
 ) -> fmt::Result {
     for origin in Origin::ALL {
         let (place, count) = (origin_name(origin), counters.of(origin, what));

@@ -1,6 +1,6 @@
 //! Names in texts, and sums that more than one text has.
 
-use crate::{Count, Counters};
+use crate::{Counter, Counters};
 use addresses::Protocol;
 use journal::{Cause, Origin};
 use nat_types::EntryState;
@@ -39,14 +39,14 @@ pub(crate) fn state_name(state: EntryState) -> &'static str {
 
 /// Returns how many events of an origin were dropped for a reason.
 pub(crate) fn dropped(counters: &Counters, origin: Origin, reason: Reason) -> u64 {
-    counters.of(origin, Count::Lost(Cause::Dropped(reason)))
+    counters.of(origin, Counter::Lost(Cause::Dropped(reason)))
 }
 
 /// Returns how many events were left out, since memory ran out.
 pub(crate) fn left_out(counters: &Counters) -> u64 {
     let mut total = 0_u64;
     for origin in Origin::ALL {
-        total = total.saturating_add(counters.of(origin, Count::Lost(Cause::NoMemory)));
+        total = total.saturating_add(counters.of(origin, Counter::Lost(Cause::NoMemory)));
     }
     total
 }

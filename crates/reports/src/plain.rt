@@ -2,7 +2,7 @@
 
 use crate::names::{dropped, left_out, origin_name};
 use crate::units::{Grouped, Seconds, Span};
-use crate::{Count, Counters, GatewayReport, PeerReport, Report, SideReport};
+use crate::{Counter, Counters, GatewayReport, PeerReport, Report, SideReport};
 use addresses::Protocol;
 use journal::{Cause, Origin, reason_name, role_name};
 use nat_types::EntryState;
@@ -118,10 +118,10 @@ const PLACES: [(&str, Origin); 4] = [
 /// Writes what was received and sent at each place, and what couldn't be sent.
 fn write_traffic<W: fmt::Write>(f: &mut Formatter<W>, counters: &Counters) -> fmt::Result {
     for (name, origin) in PLACES {
-        let received = Grouped(counters.of(origin, Count::Received));
-        let sent = Grouped(counters.of(origin, Count::Sent));
-        let failed = Grouped(counters.of(origin, Count::SendFailed));
-        let too_long = Grouped(counters.of(origin, Count::TooLong));
+        let received = Grouped(counters.of(origin, Counter::Received));
+        let sent = Grouped(counters.of(origin, Counter::Sent));
+        let failed = Grouped(counters.of(origin, Counter::SendFailed));
+        let too_long = Grouped(counters.of(origin, Counter::TooLong));
         write!(f, "{name}{received} in, {sent} out, ")?;
         writeln!(f, "{failed} not sent, {too_long} too long")?;
     }

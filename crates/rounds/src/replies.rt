@@ -10,8 +10,8 @@ use control::{HEARD, PAGE, REPORT, refusal_bytes};
 use gateway::Gateway;
 use journal::{EventLog, Journal, Origin};
 use nat_types::{NoMemory, Side};
-use reports::{Count, Counters, Report};
-use sockets::{LONGEST, Place, Wire};
+use reports::{Counter, Counters, Report};
+use sockets::{MAX_DATAGRAM, Place, Wire};
 
 /// Replies to a word at once, or keeps its request. A word that is taken, and for which memory was refused, has an
 /// empty reply.
@@ -37,7 +37,7 @@ fn answer<W: Wire>(bytes: &[u8], wire: &mut W, state: &mut State)
     ensures passes { W.passes wire.old nothing wire.new }
 {
     wire.answer(bytes);
-    state.counters.count(Origin::Own, Count::Sent);
+    state.counters.count(Origin::Own, Counter::Sent);
 }
 
 /// Answers the request of this round, if there is one. Where memory is refused for the answer, it is empty.
@@ -45,7 +45,7 @@ pub(crate) fn answer_request<W: Wire, L: Journal>(
     gateway: &Gateway,
     wire: &mut W,
     identity: Identity,
-    buffer: &mut [u8; LONGEST],
+    buffer: &mut [u8; MAX_DATAGRAM],
     state: &mut State,
     log: &EventLog<L>,
 )
@@ -65,10 +65,10 @@ pub(crate) fn answer_request<W: Wire, L: Journal>(
 }
 
 /// Puts a head and bytes into the buffer, and gives how many there are.
-fn put(head: [u8; 2], bytes: &[u8], buffer: &mut [u8; LONGEST]) -> usize
-    ensures { result ≤ LONGEST }
+fn put(head: [u8; 2], bytes: &[u8], buffer: &mut [u8; MAX_DATAGRAM]) -> usize
+    ensures { result ≤ MAX_DATAGRAM }
 {
-    let count = bytes.len().min(LONGEST - 2);
+    let count = bytes.len().min(MAX_DATAGRAM - 2);
     buffer[..2].copy_from_slice(&head);
     buffer[2..2 + count].copy_from_slice(&bytes[..count]);
     2 + count
@@ -104,8 +104,8 @@ const PLACES: [(Place, Origin); 4] = [
 fn with_losses<W: Wire>(mut counters: Counters, wire: &W) -> Counters {
     for (place, origin) in PLACES {
         let losses = wire.losses(place);
-        counters.add(origin, Count::TooLong, losses.too_long);
-        counters.add(origin, Count::SendFailed, losses.failed);
+        counters.add(origin, Counter::TooLong, losses.too_long);
+        counters.add(origin, Counter::SendFailed, losses.failed);
     }
     counters
 }

@@ -11,7 +11,7 @@ use journal::{EventLog, Journal};
 use nat_types::GatewayId;
 use platform::CentisecondClock;
 use reports::{Counters, Sides};
-use sockets::{LONGEST, Wire, WireFault};
+use sockets::{MAX_DATAGRAM, Wire, WireFault};
 use std::alloc::Global;
 use std::time::Duration;
 
@@ -167,7 +167,7 @@ fn all_rounds<W: Wire, C: CentisecondClock, U: EndSignal, M: Manager, L: Journal
 )
     ensures rounds { HasTurned W.passes gateway.old wire.old gateway.new wire.new }
 {
-    let mut buffer = [0; LONGEST];
+    let mut buffer = [0; MAX_DATAGRAM];
     let mut last = 0;
     for _ in 0..options.rounds.map_or(u64::MAX, u64::from) {
         if state.is_ending || until.has_come() {
@@ -186,7 +186,7 @@ fn round<W: Wire, C: CentisecondClock, L: Journal>(
     gateway: &mut Gateway,
     wire: &mut W,
     clock: &mut C,
-    buffer: &mut [u8; LONGEST],
+    buffer: &mut [u8; MAX_DATAGRAM],
     state: &mut State,
     log: &mut EventLog<L>,
     options: &Options,
@@ -206,7 +206,7 @@ fn round<W: Wire, C: CentisecondClock, L: Journal>(
 fn take_what_comes<W: Wire, L: Journal>(
     gateway: &mut Gateway,
     wire: &mut W,
-    buffer: &mut [u8; LONGEST],
+    buffer: &mut [u8; MAX_DATAGRAM],
     state: &mut State,
     log: &mut EventLog<L>,
     track: bool,
@@ -227,7 +227,7 @@ fn take_next<W: Wire, L: Journal>(
     gateway: &mut Gateway,
     wire: &mut W,
     limit: Duration,
-    buffer: &mut [u8; LONGEST],
+    buffer: &mut [u8; MAX_DATAGRAM],
     state: &mut State,
     log: &mut EventLog<L>,
     track: bool,

@@ -12,7 +12,7 @@ use crate::replies::reply;
 use crate::rounds::State;
 use gateway::{Event, Gateway, NoMemory, Out, Outcome};
 use journal::{EventLog, Journal, Origin};
-use reports::{Count, Counters};
+use reports::{Counter, Counters};
 use sockets::{Place, Wire};
 
 /// Takes what came at a place, if it is an event, and replies to a word.
@@ -28,7 +28,7 @@ pub(crate) fn take_message<W: Wire, L: Journal>(
     ensures taken { TakesReplied W.passes place bytes.now gateway.old wire.old
         gateway.new wire.new }
 {
-    state.counters.count(origin_at(place), Count::Received);
+    state.counters.count(origin_at(place), Counter::Received);
     state.is_ending = state.is_ending || is_stop(place, bytes);
     let view = view_of(gateway);
     let event = event_of(&view, place, bytes, track);
@@ -68,7 +68,7 @@ pub(crate) fn take_event<W: Wire, L: Journal>(
     send_all(wire, &state.out, &mut state.counters);
     let cause = cause_of(outcome);
     if let Some(cause) = cause {
-        state.counters.count(origin_of(&event), Count::Lost(cause));
+        state.counters.count(origin_of(&event), Counter::Lost(cause));
     }
     log_step(log, &event, cause, &before, &view_of(gateway));
     outcome.is_ok()
@@ -102,7 +102,7 @@ fn send<W: Wire>(wire: &mut W, to: Place, bytes: &[u8], counters: &mut Counters)
     ensures passes { W.passes wire.old (sent to bytes.now) wire.new }
 {
     if wire.send(to, bytes).is_ok() {
-        counters.count(origin_at(to), Count::Sent);
+        counters.count(origin_at(to), Counter::Sent);
     }
 }
 

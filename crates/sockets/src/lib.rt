@@ -19,4 +19,4 @@ pub use sockets::{CONTROL_TOKEN, LoopbackPorts, SocketFault, Sockets};
 pub use transports::{Arrived, Transport};
 pub use vxlan::Network;
 pub use ways::{NoDescriptor, Way, Ways, first_unbound};
-pub use wire::{LONGEST, Place, Wire, WireFault};
+pub use wire::{MAX_DATAGRAM, Place, Wire, WireFault};

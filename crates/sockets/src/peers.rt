@@ -2,7 +2,7 @@
 ghost use Rattle.std.specs.Prelude.{◌≤◌, IfSome};
 
 use crate::vxlan::HEADER_LENGTH;
-use crate::{Arrived, End, LONGEST, Network};
+use crate::{Arrived, End, MAX_DATAGRAM, Network};
 use addresses::Ip;
 
 /// Who sent a datagram.
@@ -27,9 +27,9 @@ pub enum Peer {
 impl Peer {
     /// Accepts a datagram that arrived in the buffer, if the peer sent it. Moves what the datagram carries to the buffer's
     /// front, and returns how many bytes that has; `None` for a stranger's datagram.
-    pub(crate) fn accept(self, arrived: Arrived, buffer: &mut [u8; LONGEST]) -> Option<usize>
-        requires { arrived.count ≤ LONGEST }
-        ensures { IfSome result (λ length. length ≤ LONGEST) }
+    pub(crate) fn accept(self, arrived: Arrived, buffer: &mut [u8; MAX_DATAGRAM]) -> Option<usize>
+        requires { arrived.count ≤ MAX_DATAGRAM }
+        ensures { IfSome result (λ length. length ≤ MAX_DATAGRAM) }
     {
         let Arrived { count, sender } = arrived;
         match self {
@@ -48,8 +48,8 @@ impl Peer {
 
     /// Writes the datagram that carries these bytes into the buffer, and returns its length; `None` where that is too long
     /// for the buffer.
-    pub(crate) fn encapsulate(self, bytes: &[u8], buffer: &mut [u8; LONGEST]) -> Option<usize>
-        ensures { IfSome result (λ length. length ≤ LONGEST) }
+    pub(crate) fn encapsulate(self, bytes: &[u8], buffer: &mut [u8; MAX_DATAGRAM]) -> Option<usize>
+        ensures { IfSome result (λ length. length ≤ MAX_DATAGRAM) }
     {
         let start = match self {
             Peer::Vxlan(_, network) => {
@@ -58,7 +58,7 @@ impl Peer {
             }
             Peer::Udp(_) | Peer::Interface => 0,
         };
-        if bytes.len() > LONGEST - start {
+        if bytes.len() > MAX_DATAGRAM - start {
             return None;
         }
         buffer[start..start + bytes.len()].copy_from_slice(bytes);

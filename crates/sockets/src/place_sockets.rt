@@ -1,7 +1,7 @@
 //! A place of a box, over the transport of its datagrams.
 ghost use Rattle.std.specs.Prelude.{◌≤◌, IfOk, IfSome};
 
-use crate::{LONGEST, Losses, Peer, SendFault, Transport, WireFault};
+use crate::{MAX_DATAGRAM, Losses, Peer, SendFault, Transport, WireFault};
 
 /// How many datagrams of strangers one `receive` skips at most, so that a flood of them keeps no other place waiting.
 const MAX_STRANGERS_PER_RECEIVE: usize = 64;
@@ -18,7 +18,7 @@ pub struct PlaceSocket<C> {
     /// Whether something may have arrived since the transport had nothing.
     is_ready: bool,
     /// The datagram that is being sent, with its header.
-    buffer: [u8; LONGEST],
+    buffer: [u8; MAX_DATAGRAM],
 }
 
 impl<C: Transport> PlaceSocket<C> {
@@ -34,7 +34,7 @@ impl<C: Transport> PlaceSocket<C> {
                 failed: 0,
             },
             is_ready: true,
-            buffer: [0; LONGEST],
+            buffer: [0; MAX_DATAGRAM],
         }
     }
 
@@ -91,8 +91,8 @@ impl<C: Transport> PlaceSocket<C> {
     /// # Errors
     ///
     /// Where the transport failed. Nothing was received then.
-    pub fn receive(&mut self, buffer: &mut [u8; LONGEST]) -> Result<Option<usize>, WireFault>
-        ensures { IfOk result (λ found. IfSome found (λ count. count ≤ LONGEST)) }
+    pub fn receive(&mut self, buffer: &mut [u8; MAX_DATAGRAM]) -> Result<Option<usize>, WireFault>
+        ensures { IfOk result (λ found. IfSome found (λ count. count ≤ MAX_DATAGRAM)) }
     {
         for _ in 0..MAX_STRANGERS_PER_RECEIVE {
             if !self.is_ready {

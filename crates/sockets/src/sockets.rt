@@ -3,7 +3,7 @@ ghost use Rattle.std.specs.Prelude.{◌≤◌, IfOk, IfSome};
 ghost use Rattle.sockets.specs.Wires.{AnyWay};
 
 use crate::transports::Socket;
-use crate::{LONGEST, Losses, Place, PlaceSocket, SendFault, Ways, Wire, WireFault};
+use crate::{MAX_DATAGRAM, Losses, Place, PlaceSocket, SendFault, Ways, Wire, WireFault};
 use control::Control;
 use mio::{Events, Poll, Token};
 use nat_types::{GatewayId, Side};
@@ -137,8 +137,8 @@ impl Sockets {
     }
 
     /// Receives the next datagram or word that has arrived, trying each place once.
-    fn take(&mut self, buffer: &mut [u8; LONGEST]) -> Result<Option<(Place, usize)>, WireFault>
-        ensures { IfOk result (λ found. IfSome found (λ one. one.1 ≤ LONGEST)) }
+    fn take(&mut self, buffer: &mut [u8; MAX_DATAGRAM]) -> Result<Option<(Place, usize)>, WireFault>
+        ensures { IfOk result (λ found. IfSome found (λ one. one.1 ≤ MAX_DATAGRAM)) }
     {
         for _ in 0..PLACES {
             let place = self.next;
@@ -188,7 +188,7 @@ impl Wire for Sockets {
     fn receive(
         &mut self,
         limit: Duration,
-        buffer: &mut [u8; LONGEST],
+        buffer: &mut [u8; MAX_DATAGRAM],
     ) -> Result<Option<(Place, usize)>, WireFault> {
         // 1. Where there is time and something is ready, poll without waiting. Else a flood at one place would hide the
         //    others, which are tried again only after a poll reports them.

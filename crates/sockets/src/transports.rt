@@ -1,7 +1,7 @@
 //! The transports of a place's datagrams: a UDP socket, or an inherited descriptor.
 ghost use Rattle.std.specs.Prelude.{◌≤◌, IfOk, IfSome};
 
-use crate::{End, Ends, LONGEST, SendFault, Sender, Way, WireFault};
+use crate::{End, Ends, MAX_DATAGRAM, SendFault, Sender, Way, WireFault};
 use mio::net::UdpSocket;
 use mio::unix::SourceFd;
 use mio::{Interest, Registry, Token};
@@ -34,8 +34,8 @@ pub trait Transport {
     /// # Errors
     ///
     /// Where receiving failed. Nothing is received then.
-    fn receive(&mut self, buffer: &mut [u8; LONGEST]) -> Result<Option<Arrived>, WireFault>
-        ensures { IfOk result (λ found. IfSome found (λ one. one.count ≤ LONGEST)) };
+    fn receive(&mut self, buffer: &mut [u8; MAX_DATAGRAM]) -> Result<Option<Arrived>, WireFault>
+        ensures { IfOk result (λ found. IfSome found (λ one. one.count ≤ MAX_DATAGRAM)) };
 }
 
 /// The socket or descriptor of a place.
@@ -110,8 +110,8 @@ impl Socket {
 
     /// Reads a datagram. Here, too, a connected socket may first report that an earlier datagram found nobody. A descriptor
     /// that gives no bytes is closed at its other end.
-    fn read(&mut self, buffer: &mut [u8; LONGEST]) -> io::Result<Arrived>
-        ensures { IfOk result (λ one. one.count ≤ LONGEST) }
+    fn read(&mut self, buffer: &mut [u8; MAX_DATAGRAM]) -> io::Result<Arrived>
+        ensures { IfOk result (λ one. one.count ≤ MAX_DATAGRAM) }
     {
         match self {
             Socket::Connected(socket) => match receive_from(socket, buffer) {
@@ -144,7 +144,7 @@ impl Transport for Socket {
         }
     }
 
-    fn receive(&mut self, buffer: &mut [u8; LONGEST]) -> Result<Option<Arrived>, WireFault> {
+    fn receive(&mut self, buffer: &mut [u8; MAX_DATAGRAM]) -> Result<Option<Arrived>, WireFault> {
         match self.read(buffer) {
             Ok(arrived) => Ok(Some(arrived)),
             Err(error) if error.kind() == ErrorKind::WouldBlock => Ok(None),
@@ -154,8 +154,8 @@ impl Transport for Socket {
 }
 
 /// Receives a datagram by a socket, with its sender.
-fn receive_from(socket: &mut UdpSocket, buffer: &mut [u8; LONGEST]) -> io::Result<Arrived>
-    ensures { IfOk result (λ one. one.count ≤ LONGEST) }
+fn receive_from(socket: &mut UdpSocket, buffer: &mut [u8; MAX_DATAGRAM]) -> io::Result<Arrived>
+    ensures { IfOk result (λ one. one.count ≤ MAX_DATAGRAM) }
 {
     match socket.recv_from(buffer)? {
         (count, SocketAddr::V4(from)) => Ok(Arrived {

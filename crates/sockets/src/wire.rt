@@ -6,9 +6,9 @@ use crate::Losses;
 use nat_types::Side;
 use std::time::Duration;
 
-/// The length of a receiver's buffer, in bytes. A link datagram has at most 2,214 bytes and a frame 1,514; a longer
-/// datagram loses its end, and what is left is too long for either.
-pub const LONGEST: usize = 4_096;
+/// How many bytes of a datagram are received or sent at most. A datagram of the link has at most 2,214 bytes, and a frame
+/// 1,514. Of a longer datagram the end is lost, and what is received is too long for both.
+pub const MAX_DATAGRAM: usize = 4_096;
 
 /// The place that a datagram comes from, or goes to.
 #[derive(Clone, Copy, Debug, PartialEq, Eq)]
@@ -39,9 +39,9 @@ pub trait Wire {
     fn receive(
         &mut self,
         limit: Duration,
-        buffer: &mut [u8; LONGEST],
+        buffer: &mut [u8; MAX_DATAGRAM],
     ) -> Result<Option<(Place, usize)>, WireFault>
-        ensures within { IfOk result (λ found. IfSome found (λ one. one.1 ≤ LONGEST)) }
+        ensures within { IfOk result (λ found. IfSome found (λ one. one.1 ≤ MAX_DATAGRAM)) }
         ensures passes { passes self.old (message_of result buffer.new) self.new };
 
     /// Sends a datagram to a place.
