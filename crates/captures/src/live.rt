@@ -108,7 +108,9 @@ impl<W: NonBlockingWriter> LiveCapture<W> {
     /// Writes some of what is missing of the block, and returns how many bytes.
     fn write_some(&mut self) -> io::Result<usize> {
         let missing = &self.block.as_slice()[self.written.min(self.block.len())..];
-        let count = self.writer.try_write(&missing[..missing.len().min(MAX_WRITE)])?;
+        let count = self
+            .writer
+            .try_write(&missing[..missing.len().min(MAX_WRITE)])?;
         self.written = self.written.saturating_add(count);
         Ok(count)
     }

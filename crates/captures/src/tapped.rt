@@ -3,7 +3,7 @@
 use crate::{Direction, Interface, LiveCapture, NonBlockingWriter, Packet};
 use nat_types::GatewayId;
 use platform::CentisecondClock;
-use sockets::{MAX_DATAGRAM, Losses, Place, Wire, WireFault};
+use sockets::{Losses, MAX_DATAGRAM, Place, Wire, WireFault};
 use std::time::Duration;
 
 /// A gateway's wire whose frames and datagrams are captured, each after it was received or sent. An operator's words aren't

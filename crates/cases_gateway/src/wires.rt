@@ -7,7 +7,7 @@ use cases_words::Case;
 use control::Word;
 use nat_types::Side;
 use platform::CentisecondClock;
-use sockets::{MAX_DATAGRAM, Losses, Place, SendFault, Wire, WireFault};
+use sockets::{Losses, MAX_DATAGRAM, Place, SendFault, Wire, WireFault};
 use std::alloc::Global;
 use std::time::Duration;
 

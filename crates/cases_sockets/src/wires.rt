@@ -4,7 +4,7 @@ ghost use Rattle.sockets.specs.Wires.{AnyWay};
 
 use crate::transports::copied;
 use crate::words::{name_of, shown};
-use sockets::{MAX_DATAGRAM, Losses, Place, Wire, WireFault};
+use sockets::{Losses, MAX_DATAGRAM, Place, Wire, WireFault};
 use std::cell::RefCell;
 use std::io;
 use std::time::Duration;

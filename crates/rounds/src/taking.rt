@@ -68,7 +68,9 @@ pub(crate) fn take_event<W: Wire, L: Journal>(
     send_all(wire, &state.out, &mut state.counters);
     let cause = cause_of(outcome);
     if let Some(cause) = cause {
-        state.counters.count(origin_of(&event), Counter::Lost(cause));
+        state
+            .counters
+            .count(origin_of(&event), Counter::Lost(cause));
     }
     log_step(log, &event, cause, &before, &view_of(gateway));
     outcome.is_ok()

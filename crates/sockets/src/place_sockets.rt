@@ -1,7 +1,7 @@
 //! A place of a box, over the transport of its datagrams.
 ghost use Rattle.std.specs.Prelude.{◌≤◌, IfOk, IfSome};
 
-use crate::{MAX_DATAGRAM, Losses, Peer, SendFault, Transport, WireFault};
+use crate::{Losses, MAX_DATAGRAM, Peer, SendFault, Transport, WireFault};
 
 /// How many datagrams of strangers one `receive` skips at most, so that a flood of them keeps no other place waiting.
 const MAX_STRANGERS_PER_RECEIVE: usize = 64;

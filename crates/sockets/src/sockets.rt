@@ -3,7 +3,7 @@ ghost use Rattle.std.specs.Prelude.{◌≤◌, IfOk, IfSome};
 ghost use Rattle.sockets.specs.Wires.{AnyWay};
 
 use crate::transports::Socket;
-use crate::{MAX_DATAGRAM, Losses, Place, PlaceSocket, SendFault, Ways, Wire, WireFault};
+use crate::{Losses, MAX_DATAGRAM, Place, PlaceSocket, SendFault, Ways, Wire, WireFault};
 use control::Control;
 use mio::{Events, Poll, Token};
 use nat_types::{GatewayId, Side};
