@@ -28,7 +28,7 @@ pub struct Control {
     token: Token,
     /// Whether a client may have connected or said a word since the last `take` that found nothing.
     is_ready: bool,
-    /// Whether the last `accept` failed for another reason than that nobody connects.
+    /// Whether the last `accept` failed for a reason that may last, as that the process has no free descriptor.
     has_failed: bool,
     refused: u64,
     unanswered: u64,

@@ -12,7 +12,7 @@ pub struct PlaceSocket<C> {
     transport: C,
     peer: Peer,
     strangers: u64,
-    /// Whether the last attempt to send, or to receive what had arrived, failed.
+    /// Whether the last send or receive failed. A receive that found nothing, or only datagrams of strangers, doesn't count.
     is_failing: bool,
     losses: Losses,
     /// Whether something may have arrived since the transport had nothing.
@@ -58,8 +58,7 @@ impl<C: Transport> PlaceSocket<C> {
         self.strangers
     }
 
-    /// Whether the place fails in either direction: the last attempt to send a datagram, or to receive one that had arrived,
-    /// failed. A success in either direction ends that.
+    /// Whether the last send or receive failed. A receive that found nothing, or only datagrams of strangers, doesn't count.
     pub fn is_failing(&self) -> bool {
         self.is_failing
     }

@@ -56,7 +56,7 @@ pub trait Wire {
     fn answer(&mut self, bytes: &[u8])
         ensures passes { passes self.old nothing self.new };
 
-    /// Whether a place fails: the last attempt to send a datagram there, or to receive one that had arrived, failed.
+    /// Whether the last send or receive at a place failed. A receive that found nothing there doesn't count.
     fn is_failing(&self, place: Place) -> bool;
 
     /// Returns how many datagrams of a place couldn't be sent; of the operator's place, how many answers.
