@@ -9,10 +9,10 @@ pub const VERSION: u8 = 2;
 
 /// How many bytes a report or a page has at most: those of a full page, which has 3 bytes before its entries, and 10 for
 /// each. A report has at most 1,058.
-pub const MAX_LENGTH: usize = 3 + 10 * MAX_PAGE_ENTRIES;
+pub const MAX_REPORT_BYTES: usize = 3 + 10 * MAX_PAGE_ENTRIES;
 
 /// The bytes of a report or a page.
-pub type ReportBytes = ArrayVec<u8, MAX_LENGTH>;
+pub type ReportBytes = ArrayVec<u8, MAX_REPORT_BYTES>;
 
 /// Why bytes are no report, and no page.
 #[derive(Clone, Copy, Debug, PartialEq, Eq)]
