@@ -1,4 +1,4 @@
-//! What is done with files: boot files are made, settings are checked, and scripts run.
+//! The commands on files: `init`, `check`, `sim` and `loop`.
 
 use crate::meters::Meter;
 use boot_file::create;
@@ -18,7 +18,7 @@ pub(crate) fn create_boot_file<R: Files<File = File> + AllocGlobal>(
     create(rt, path).map_err(|fault| Fault::boot_file(rt.alloc(), path, fault))
 }
 
-/// Checks settings, or compares them with others.
+/// Checks settings, or compares them with others, and returns the exit status.
 pub(crate) fn check<R: Files<File = File> + AllocGlobal, O: Write, E: Write>(
     rt: &R,
     words: &CheckWords,
@@ -40,7 +40,7 @@ pub(crate) fn check<R: Files<File = File> + AllocGlobal, O: Write, E: Write>(
     checks::check(rt, text.as_str(), &options, output)
 }
 
-/// Runs a script, and says on a terminal how far it is.
+/// Runs a script, writes to a terminal how much of it is done, and returns the exit status.
 pub(crate) fn run_sim<R: Files<File = File> + Clock + AllocGlobal, O: Write, E: Write>(
     rt: &R,
     words: &RunWords,
@@ -61,7 +61,7 @@ pub(crate) fn run_sim<R: Files<File = File> + Clock + AllocGlobal, O: Write, E: 
     )
 }
 
-/// Runs a script through sockets on the loopback address.
+/// Runs a script through sockets on the loopback address, and returns the exit status.
 pub(crate) fn run_loop<R: Files<File = File> + Net + Clock + AllocGlobal, O: Write>(
     rt: &R,
     words: &RunWords,

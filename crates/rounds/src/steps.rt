@@ -13,7 +13,7 @@ use crate::rounds::RoundState;
 use crate::views::View;
 use gateway::{Event, Gateway, NoMemory, Out, Outcome};
 use journal::{EventLog, Journal, Origin};
-use reports::{Count, Counters};
+use reports::{Counter, Counters};
 use sockets::{Place, Wire};
 
 /// Takes what came at a place: counts it, steps the gateway where it is an event, and replies where it is a word.
@@ -29,7 +29,7 @@ pub(crate) fn take_message<W: Wire, L: Journal>(
     ensures taken { TakesReplied W.passes place bytes.now gateway.old wire.old
         gateway.new wire.new }
 {
-    state.counters.count(origin_at(place), Count::Received);
+    state.counters.count(origin_at(place), Counter::Received);
     let message = read_message(&View::of(gateway), place, bytes, track);
     let is_done = take_any(gateway, message.event, wire, state, log);
     reply(message.response, is_done, wire, state);
@@ -67,7 +67,9 @@ pub(crate) fn take_event<W: Wire, L: Journal>(
     send_all(wire, &state.out, &mut state.counters);
     let cause = cause_of(outcome);
     if let Some(cause) = cause {
-        state.counters.count(origin_of(&event), Count::Lost(cause));
+        state
+            .counters
+            .count(origin_of(&event), Counter::Lost(cause));
     }
     log_step(log, &event, cause, &before, &View::of(gateway));
     outcome.is_ok()
@@ -101,7 +103,7 @@ fn send<W: Wire>(wire: &mut W, to: Place, bytes: &[u8], counters: &mut Counters)
     ensures passes { W.passes wire.old (sent to bytes.now) wire.new }
 {
     if wire.send(to, bytes).is_ok() {
-        counters.count(origin_at(to), Count::Sent);
+        counters.count(origin_at(to), Counter::Sent);
     }
 }
 
