@@ -7,7 +7,7 @@ ghost use Rattle.spec_step.specs.Steps.{IsStepOn};
 ghost use Rattle.rounds.specs.Runs.{AreSent, Takes, TakesAny, TakesReplied, all_sent};
 
 use crate::changes::{cause_of, log_step, origin_of};
-use crate::messages::read_message;
+use crate::messages::{Message, read_message};
 use crate::replies::reply;
 use crate::rounds::RoundState;
 use crate::views::View;
@@ -30,9 +30,9 @@ pub(crate) fn take_message<W: Wire, L: Journal>(
         gateway.new wire.new }
 {
     state.counters.count(origin_at(place), Counter::Received);
-    let message = read_message(&View::of(gateway), place, bytes, track);
-    let is_done = take_any(gateway, message.event, wire, state, log);
-    reply(message.response, is_done, wire, state);
+    let Message { event, response } = read_message(&View::of(gateway), place, bytes, track);
+    let is_done = take_any(gateway, event, wire, state, log);
+    reply(response, is_done, wire, state);
 }
 
 /// Takes an event, if there is one. Returns false where the gateway was out of memory.
