@@ -3,16 +3,17 @@ once that is synced. No flow that had an answer is lost, and both boxes say one 
 
 import copy
 import json
-import tomllib
 
-from changes import FRESH, Changes
-from pair import FOLDER, HOSTS, ROUTER, SETTINGS, SIDES
+from changes import Changes
+from pair import HOSTS, ROUTER, SIDES
 from scene import scene
 
 # The outside router's second address.
 SECOND_ROUTER = "192.0.2.253"
 # What `check` says of a key in which files may differ.
 MAY = "may differ: "
+# The keys that must agree: all others have a row.
+MUST = {"ports.zero", "ports.one", *(f"{side}.{key}" for side in SIDES for key in ("virtual", "prefix", "vrid"))}
 
 
 def mac_of(space):
@@ -73,9 +74,12 @@ def text_of(settings):
     return "\n".join(lines) + "\n"
 
 
-def keys_of(change):
-    """The keys that `check` has to name for a change, in the order of a settings file."""
-    return {name if isinstance(section, list) else f"{name}.{key}" for name, section in change.items() for key in section}
+def values(settings):
+    """The values of settings, or of a change, by their keys as `check` names them."""
+    found = {}
+    for name, section in settings.items():
+        found |= {name: section} if isinstance(section, list) else {f"{name}.{key}": section[key] for key in section}
+    return found
 
 
 class KeyChanges(Changes):
@@ -84,7 +88,8 @@ class KeyChanges(Changes):
     def __init__(self, current, count):
         super().__init__(current, count)
         self.networks = current.networks
-        self.settings = [current.networks.settings, current.networks.settings]
+        self.first = copy.deepcopy(current.networks.settings)
+        self.settings = [self.first, self.first]
         self.files = 0
         self.digests = []
 
@@ -106,8 +111,8 @@ class KeyChanges(Changes):
         """`check` has to say that the files may differ in each key of a change, and in no other one must not."""
         said = self.current.boxes[0].natpair("check", str(self.current.boxes[0].settings), str(path)).splitlines()
         named = {line.removeprefix(MAY) for line in said[:-1] if line.startswith(MAY)}
-        if named != keys_of(change) or len(said) - 1 != len(named):
-            raise SystemExit(f"demo: check says {said}, and the change is of {sorted(keys_of(change))}")
+        if named != set(values(change)) or len(said) - 1 != len(named):
+            raise SystemExit(f"demo: check says {said}, and the change is of {sorted(values(change))}")
 
     def change(self, row, change):
         """A row: the Backup has the new file, and once it is synced, the other one."""
@@ -145,6 +150,13 @@ class KeyChanges(Changes):
         own, other = self.own(number), self.own(1 - number)
         return own["preempt"] and own["priority"] > other["priority"]
 
+    def expect_all(self):
+        """Each key but those that must agree has to have another value than it had at first."""
+        first, last = values(self.first), values(self.settings[0])
+        same = {key for key in last if last[key] == first.get(key)}
+        if same != MUST:
+            raise SystemExit(f"demo: of these keys there is a row too many, or none: {sorted(same ^ MUST)}")
+
     def digest(self, box):
         return json.loads(box.natpair("status", str(box.settings), "--id", str(box.number), "--json"))["digest"]
 
@@ -155,6 +167,7 @@ def change(options):
         changes = KeyChanges(current, options.flows)
         for row, change_of_row in rows(current.networks).items():
             changes.change(row, change_of_row)
+        changes.expect_all()
         alike = sum(len(each) == 1 for each in changes.digests)
         is_good = changes.show("change")
         print(f"both boxes say one digest after {alike} of {len(changes.digests)} turns", flush=True)
