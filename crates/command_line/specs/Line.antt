@@ -82,9 +82,10 @@ abbrev pub with_log : App → App
 with_log a =
     with_rule (with_rule (with_rule a (flag_rule (codes "no-track"))) (text_rule (codes "log"))) (flag_rule (codes "log-pairs"))
 
--- `[--capture FILE] [--notify descriptor:N]`
+-- `[--capture FILE] [--notify descriptor:N] [--stop-on descriptor:N]`
 abbrev pub with_watch : App → App
-with_watch a = with_rule (with_rule a (text_rule (codes "capture"))) (text_rule (codes "notify"))
+with_watch a =
+    with_rule (with_rule (with_rule a (text_rule (codes "capture"))) (text_rule (codes "notify"))) (text_rule (codes "stop-on"))
 
 -- `gate SETTINGS --id I`, and all of these
 abbrev pub gate_app : App
