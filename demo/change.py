@@ -4,7 +4,7 @@ once that is synced. No flow that had an answer is lost, and both boxes say one 
 import copy
 import json
 
-from changes import Changes
+from changes import SOON, Changes
 from pair import HOSTS, ROUTER, SIDES
 from scene import scene
 
@@ -158,7 +158,10 @@ class KeyChanges(Changes):
             raise SystemExit(f"demo: of these keys there is a row too many, or none: {sorted(same ^ MUST)}")
 
     def digest(self, box):
-        return json.loads(box.natpair("status", str(box.settings), "--id", str(box.number), "--json"))["digest"]
+        """The digest that a box says. Where the machine is busy it may answer later than a client waits."""
+        words = ("status", str(box.settings), "--id", str(box.number))
+        box.natpair(*words, "--until", "synced", "--seconds", str(SOON))
+        return json.loads(box.natpair(*words, "--json"))["digest"]
 
 
 def change(options):
