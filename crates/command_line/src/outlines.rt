@@ -167,6 +167,11 @@ static COMMANDS: [Outline<'static>; 10] = [
                 "Writes each record as key=value, for programs",
             ),
             Argument(
+                Form::Flag,
+                "log-mappings",
+                "Writes a record of each begin and each end of a mapping",
+            ),
+            Argument(
                 Form::Text,
                 "capture",
                 "A file for all that it takes and sends, in pcapng, as in --capture box0.pcapng",

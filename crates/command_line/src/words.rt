@@ -55,6 +55,8 @@ pub struct GateWords {
     pub log: Option<String>,
     /// It writes them as keys and values.
     pub pairs: bool,
+    /// It writes where each mapping begins and ends.
+    pub mappings: bool,
     /// What it takes and sends is captured in this file.
     pub capture: Option<String>,
     /// The service manager's descriptor, as it is written.

@@ -23,6 +23,8 @@ pub struct Start<'a> {
     /// The filter of its records; else the environment's.
     pub log: Option<&'a str>,
     pub format: Format,
+    /// Whether it logs mappings.
+    pub mappings: bool,
     /// The path of its capture.
     pub capture: Option<&'a str>,
     /// The descriptor of its service manager, as a way.

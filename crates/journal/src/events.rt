@@ -1,7 +1,7 @@
 //! The log of a box's events, in which a flood is two records a second.
 
 use crate::limiter::Limiter;
-use crate::{Cause, Entry, Journal, LeftOutPackets, Note, Origin};
+use crate::{Cause, Entry, Journal, LeftOutPackets, Mappings, Note, Origin};
 use log::{Level, Log, Metadata, Record};
 
 /// The log of a box's events. Of the events of a second that came to nothing, the first of each origin and cause is a record
@@ -11,19 +11,28 @@ use log::{Level, Log, Metadata, Record};
 pub struct EventLog<L> {
     log: L,
     limiter: Limiter,
+    /// The mappings that have begun, where mappings are logged.
+    mappings: Option<Mappings>,
 }
 
 impl<L: Journal> EventLog<L> {
-    pub fn new(log: L) -> EventLog<L> {
+    /// Returns a log in which no event stands. With `mappings`, in which none has begun, mappings are logged.
+    pub fn new(log: L, mappings: Option<Mappings>) -> EventLog<L> {
         EventLog {
             log,
             limiter: Limiter::new(0),
+            mappings,
         }
     }
 
     /// Writes what an operator watches for.
     pub fn write(&self, timestamp: u64, entry: Entry) {
-        let metadata = Metadata::new(entry.level(), entry.origin().target());
+        self.write_of(timestamp / 100, timestamp, entry);
+    }
+
+    /// Writes what happened in a second.
+    fn write_of(&self, second: u64, timestamp: u64, entry: Entry) {
+        let metadata = Metadata::new(entry.level(second), entry.origin().target());
         let note = Note { timestamp, entry };
         self.log.log(&Record::new(metadata, note, note, ()));
     }
@@ -33,6 +42,18 @@ impl<L: Journal> EventLog<L> {
         self.advance_to(timestamp);
         if self.limiter.count(origin, cause) {
             self.write(timestamp, Entry::First(origin, cause));
+        }
+    }
+
+    /// Writes each mapping that begins or ends by a gateway's notes, where mappings are logged.
+    pub fn write_mappings(&mut self, notes: &[nat_types::Note]) {
+        for note in notes {
+            let Some(mappings) = &mut self.mappings else {
+                return;
+            };
+            if let Some(entry) = mappings.entry_of(&note.what) {
+                self.write(note.at, entry);
+            }
         }
     }
 
@@ -72,7 +93,8 @@ impl<L: Journal> EventLog<L> {
             for cause in Cause::ALL {
                 let others = limiter.others(origin, cause);
                 if others > 0 {
-                    self.write(timestamp, Entry::Others(origin, cause, others));
+                    let entry = Entry::Others(origin, cause, others);
+                    self.write_of(limiter.second, timestamp, entry);
                 }
             }
         }

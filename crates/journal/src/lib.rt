@@ -6,11 +6,13 @@ mod events;
 mod filters;
 mod limiter;
 mod lines;
+mod mappings;
 mod records;
 mod sink;
 
-pub use entries::{Cause, Entry, Origin, Role, reason_name};
+pub use entries::{Cause, Entry, Origin, PeerState, Role, reason_name};
 pub use events::EventLog;
 pub use filters::{FilterFault, VARIABLE, environment_filter, filter};
+pub use mappings::{Mapping, Mappings};
 pub use records::{LeftOutPackets, Note};
 pub use sink::{Format, Journal, LineWriter, Sink, StandardError};

@@ -10,7 +10,7 @@ const KEYS: usize = 84;
 /// Counts the events of one second that came to nothing, by where they came from and why.
 #[derive(Drop)]
 pub(crate) struct Limiter {
-    second: u64,
+    pub(crate) second: u64,
     counts: [u64; KEYS],
 }
 

@@ -70,6 +70,7 @@ pub(crate) fn take_event<W: Wire, L: Journal>(
         state.counters.count(origin_of(&event), Count::Lost(cause));
     }
     log_step(log, &event, cause, &before, &View::of(gateway));
+    log.write_mappings(state.out.notes());
     outcome.is_ok()
 }
 
