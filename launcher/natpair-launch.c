@@ -31,6 +31,7 @@
 #include <string.h>
 #include <sys/ioctl.h>
 #include <sys/prctl.h>
+#include <sys/signalfd.h>
 #include <sys/socket.h>
 #include <sys/syscall.h>
 #include <sys/un.h>
@@ -51,8 +52,12 @@ enum { INSIDE, OUTSIDE, SIDES };
 
 static const char *const NAMES[SIDES] = {"inside", "outside"};
 
-// The gate's descriptors: 3 and 4 for the sides, 5 for the link, 6 for the service manager.
-enum { FIRST = 3, LINK = FIRST + SIDES, MANAGER, ABOVE = 10 };
+// The gate's descriptors: 3 and 4 for the sides, 5 for the link, 6 for the service manager, 7 for what ends it.
+enum { FIRST = 3, LINK = FIRST + SIDES, MANAGER, STOP, ABOVE = 10 };
+
+// The signals that end a box. Its gate resigns first.
+static const int ENDING[] = {SIGTERM, SIGINT};
+enum { ENDINGS = sizeof ENDING / sizeof ENDING[0] };
 
 // The longest packet of the two networks, behind its Ethernet header a frame of 1,514 bytes.
 enum { LONGEST_PACKET = 1500 };
@@ -345,6 +350,33 @@ static int open_manager(void)
     return sock;
 }
 
+// The signals that end a box, or those of them that whoever started it doesn't ignore.
+static sigset_t ending_signals(bool even_ignored)
+{
+    sigset_t found;
+    sigemptyset(&found);
+    for (int next = 0; next < ENDINGS; next++) {
+        struct sigaction action = {0};
+        sigaction(ENDING[next], NULL, &action);
+        if (even_ignored || action.sa_handler != SIG_IGN)
+            sigaddset(&found, ENDING[next]);
+    }
+    return found;
+}
+
+// A descriptor that can be read once a signal to end has come. The signals stay blocked when the gate begins, so that
+// they don't end it: it sees the descriptor, resigns and ends.
+static int open_stop(void)
+{
+    sigset_t ending = ending_signals(false);
+    if (sigprocmask(SIG_BLOCK, &ending, NULL) < 0)
+        refuse("signals: %s", strerror(errno));
+    int signals = signalfd(-1, &ending, SFD_CLOEXEC | SFD_NONBLOCK);
+    if (signals < 0)
+        refuse("signals: %s", strerror(errno));
+    return out_of_the_way(signals);
+}
+
 // Privileges
 
 static const struct passwd *user_of(const char *name)
@@ -572,6 +604,9 @@ static void leave_keeper(const struct options *options, const int *socks, struct
     prctl(PR_SET_PDEATHSIG, SIGKILL);
     prctl(PR_SET_NAME, "natpair-keeper");
     signal(SIGPIPE, SIG_IGN);
+    // Whoever started the launcher may have blocked them.
+    sigset_t ending = ending_signals(true);
+    sigprocmask(SIG_UNBLOCK, &ending, NULL);
     struct keeper keeper = keeper_of(options, socks, link, gate);
     close(STDIN_FILENO);
     close(STDOUT_FILENO);
@@ -659,12 +694,12 @@ static void check(const struct options *options)
         say("natpair-launch: without --boot-file the gate isn't told of its cables");
 }
 
-// The gate's words, and after them where its places are, and the service manager.
+// The gate's words, and after them where its places are, the service manager, and what ends it.
 static char **gate_words(char *const *gate, bool has_link, bool has_manager)
 {
-    static char *const ways[] = {
-        "--inside", "descriptor:3", "--outside", "descriptor:4", "--link", "descriptor:5", "--notify", "descriptor:6"};
-    enum { PLACES = 4, MOST = sizeof ways / sizeof ways[0] };
+    static char *const ways[] = {"--inside", "descriptor:3", "--outside", "descriptor:4", "--stop-on", "descriptor:7",
+        "--link", "descriptor:5", "--notify", "descriptor:6"};
+    enum { ALWAYS = 6, MOST = sizeof ways / sizeof ways[0] };
     int count = 0;
     while (gate[count] != NULL)
         count++;
@@ -673,7 +708,7 @@ static char **gate_words(char *const *gate, bool has_link, bool has_manager)
         refuse("no memory");
     memcpy(words, gate, count * sizeof *words);
     for (int next = 0; next < MOST; next++)
-        if (next < PLACES || (next < PLACES + 2 ? has_link : has_manager))
+        if (next < ALWAYS || (next < ALWAYS + 2 ? has_link : has_manager))
             words[count++] = ways[next];
     return words;
 }
@@ -697,12 +732,14 @@ int main(int count, char **words)
     int manager = open_manager();
     give_up_privileges(options.user);
     leave_keeper(&options, socks, link, manager);
+    int stop = open_stop();
     for (int number = 0; number < SIDES; number++)
         put_at(socks[number], FIRST + number);
     if (link.sock >= 0)
         put_at(link.sock, LINK);
     if (manager >= 0)
         put_at(manager, MANAGER);
+    put_at(stop, STOP);
     char **gate = gate_words(options.gate, link.sock >= 0, manager >= 0);
     execvp(gate[0], gate);
     say("natpair-launch: %s: %s", gate[0], strerror(errno));

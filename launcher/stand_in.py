@@ -5,8 +5,8 @@
 It prints its words, what /proc says of its privileges, whether NOTIFY_SOCKET is in its environment, and a line for each
 frame (`frame DESCRIPTOR HEX`) and each word of the control socket (`word HEX`). A frame of the experimental EtherType
 88b5 is written to the other side as it came, and a datagram that begins with `back` to the link. A service manager's
-descriptor (`--notify descriptor:N`) is told that it is ready. The word that it is to end ends it, but with `deaf` among
-its words. CONTROL is the folder of its control socket, or `-` for none.
+descriptor (`--notify descriptor:N`) is told that it is ready. The word that it is to end ends it, as does something to
+be read at the descriptor of `--stop-on descriptor:N`, which it says; but not with `deaf` among its words. CONTROL is the folder of its control socket, or `-` for none.
 """
 
 import os
@@ -26,7 +26,7 @@ def tell_status():
     with open("/proc/self/status", encoding="ascii") as file:
         for line in file:
             name, value = line.split(":", 1)
-            if name in ("Uid", "CapInh", "CapPrm", "CapEff", "CapBnd", "CapAmb", "NoNewPrivs"):
+            if name in ("Uid", "CapInh", "CapPrm", "CapEff", "CapBnd", "CapAmb", "NoNewPrivs", "SigBlk"):
                 say("status", name, *value.split())
 
 
@@ -54,6 +54,12 @@ def take_word(listener):
         sys.exit(0)
 
 
+def take_stop():
+    say("stop")
+    if "deaf" not in sys.argv:
+        sys.exit(0)
+
+
 def descriptors():
     """The descriptors that its words name, by the option before them."""
     words = sys.argv[2:]
@@ -67,6 +73,7 @@ def main():
     table = selectors.DefaultSelector()
     opened = descriptors()
     manager = opened.pop("--notify", None)
+    table.register(opened.pop("--stop-on"), selectors.EVENT_READ, take_stop)
     for number in opened.values():
         os.set_blocking(number, False)
         table.register(number, selectors.EVENT_READ, lambda number=number: take_frame(number))

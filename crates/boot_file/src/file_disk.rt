@@ -9,8 +9,7 @@ use std::io;
 /// The length of a boot file, in bytes.
 const LENGTH: usize = 32;
 
-/// An open boot file with its folder. It is an honest disk where the file is honest blocks. A call of the system that
-/// fails is counted.
+/// An open boot file with its folder. The disk is honest if the file's blocks are. System calls that fail are counted.
 #[derive(Drop)]
 pub struct FileDisk<F> {
     file: F,
@@ -19,7 +18,7 @@ pub struct FileDisk<F> {
 }
 
 impl<F: Drop> FileDisk<F> {
-    /// A file, and the folder that has its name.
+    /// Returns the disk of a file and of the folder that has the file's name.
     pub fn new(file: F, folder: F) -> Self {
         FileDisk {
             file,
@@ -28,6 +27,7 @@ impl<F: Drop> FileDisk<F> {
         }
     }
 
+    /// Gives up the disk, and returns its file.
     pub fn into_file(self) -> F {
         let FileDisk {
             file,
@@ -39,7 +39,7 @@ impl<F: Drop> FileDisk<F> {
 }
 
 impl<F: Blocks + Drop> FileDisk<F> {
-    /// Counts a call of the system that failed.
+    /// Counts a system call that failed.
     fn failed(&mut self) -> DeviceFault
         ensures file { self.new.file ≡ self.old.file }
         ensures failures { self.new.failures ≡ self.old.failures + 1 }
@@ -107,7 +107,7 @@ fn sync_both<F: Blocks>(file: &mut F, folder: &F) -> io::Result<()>
     Ok(())
 }
 
-/// Fills the buffer as far as the file goes, and says how far; nothing where a read fails.
+/// Reads the file's first bytes until the buffer is full or the file ends, and returns how many; `None` where a read fails.
 fn fill<F: Blocks>(file: &mut F, buffer: &mut [u8; 32]) -> Option<usize>
     ensures count { IfSome result (λ n. n ≤ 32) }
     ensures filled { F.honest file.old

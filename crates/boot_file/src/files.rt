@@ -6,10 +6,10 @@ use std::fs::{File, Files, OpenOptions, TryLockError};
 use std::io::{self, ErrorKind};
 use std::os::unix::fs::OpenOptionsExt;
 
-/// The mode of a boot file: its owner alone reads and writes it.
-const MODE: u32 = 0o600;
+/// The mode of a boot file: only its owner may read and write it.
+const OWNER_ONLY: u32 = 0o600;
 
-/// The folder that has a path's name.
+/// Returns the path of the folder that a path's file lies in.
 fn folder_of(path: &str) -> &str {
     match path.rsplit_once('/') {
         None => ".",
@@ -18,22 +18,24 @@ fn folder_of(path: &str) -> &str {
     }
 }
 
+/// Opens the folder that a path's file lies in.
 fn open_folder<R: Files<File = File>>(rt: &R, path: &str) -> Result<File, FileFault> {
     let mut options = OpenOptions::new();
     options.read(true);
     options.open(rt, folder_of(path)).map_err(not_opened)
 }
 
+/// Returns the fault of a file that can't be opened.
 fn not_opened(error: io::Error) -> FileFault {
     FileFault::NoFile(error.kind())
 }
 
-/// Opens a boot file, and locks it until the answer is dropped. Nothing of it is read or written before it is locked.
+/// Opens a boot file, and locks it until the disk is dropped. Nothing of the file is read or written before.
 ///
 /// # Errors
 ///
-/// `NoFile`; `InUse` where another process, or another opening in this one, has it locked; `NotLocked` where the system
-/// refuses the lock.
+/// `NoFile`; `InUse` where the file is locked already, by another process or by this one; `NotLocked` where the system can't
+/// lock it.
 pub fn open<R: Files<File = File>>(rt: &R, path: &str) -> Result<FileDisk<File>, FileFault> {
     let folder = open_folder(rt, path)?;
     let mut options = OpenOptions::new();
@@ -46,43 +48,45 @@ pub fn open<R: Files<File = File>>(rt: &R, path: &str) -> Result<FileDisk<File>,
     }
 }
 
-/// Makes a boot file of number 0, on which a gateway can be founded, whole or not at all: it is written, synced and read
-/// back under another name (its own with `.new` behind it), then linked to its own, and its folder is synced. What is
-/// there is left as it is. The file and its name outlast a crash from the answer on; where power is cut before, there is
-/// no file of that name, or the whole one.
+/// Makes a boot file of number 0, on which a gateway can be founded, whole or not at all.
+///
+/// The file is written, synced and read back under a temporary name (its own with `.new` behind it), then linked to its own
+/// name, and its folder is synced. A file of the temporary name, which an earlier call may have left, is removed; one of the
+/// own name is kept. After the call returns, the file and its name outlast a crash; where power is cut before, there is no
+/// file of that name, or the whole one.
 ///
 /// # Errors
 ///
 /// `NoFile` where the folder can't be opened or no file can be made there; `Exists`; `NotWritten`, also where other bytes
-/// are read back; `NoMemory`. After each of them nothing of that name was made.
+/// are read back; `NoMemory`. After each of them no file of that name was made.
 pub fn create<R: Files<File = File> + AllocGlobal>(rt: &R, path: &str) -> Result<(), FileFault> {
     let folder = open_folder(rt, path)?;
     if rt.symlink_metadata(path).is_ok() {
         return Err(FileFault::Exists);
     }
-    let Ok(other) = format!(in rt.alloc(); "{path}.new") else {
+    let Ok(temporary) = format!(in rt.alloc(); "{path}.new") else {
         return Err(FileFault::NoMemory);
     };
-    let made = make(rt, folder, other.as_str(), path);
-    let _is_gone = rt.remove_file(other.as_str());
+    let made = make(rt, folder, temporary.as_str(), path);
+    let _is_gone = rt.remove_file(temporary.as_str());
     made
 }
 
-/// Makes the file under its other name, and links it to its own.
+/// Makes the file under its temporary name, and links it to its own.
 fn make<R: Files<File = File>>(
     rt: &R,
     folder: File,
-    other: &str,
+    temporary: &str,
     path: &str,
 ) -> Result<(), FileFault> {
-    let _is_gone = rt.remove_file(other);
+    let _is_gone = rt.remove_file(temporary);
     let mut options = OpenOptions::new();
-    options.mode(MODE);
+    options.mode(OWNER_ONLY);
     options.read(true).write(true).create_new(true);
-    let file = options.open(rt, other).map_err(not_opened)?;
+    let file = options.open(rt, temporary).map_err(not_opened)?;
     let mut disk = FileDisk::new(file, folder);
     write_zero(&mut disk)?;
-    if let Err(error) = rt.hard_link(other, path) {
+    if let Err(error) = rt.hard_link(temporary, path) {
         return Err(match error.kind() {
             ErrorKind::AlreadyExists => FileFault::Exists,
             _ => FileFault::NotWritten,
@@ -95,7 +99,7 @@ fn make<R: Files<File = File>>(
     Ok(())
 }
 
-/// Writes the bytes of number 0, and reads them back.
+/// Writes the bytes of a boot file of number 0, and reads them back.
 fn write_zero<D: Disk>(disk: &mut D) -> Result<(), FileFault> {
     let Ok(()) = init(disk) else {
         return Err(FileFault::NotWritten);

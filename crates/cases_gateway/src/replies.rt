@@ -6,7 +6,7 @@ use control::Reply;
 use journal::{Cause, Origin};
 use nat_types::EntryState;
 use packet_rules::Reason;
-use reports::{Count, Counters, GatewayReport, Page, PairCounts, Report, SideReport};
+use reports::{Counter, Counters, GatewayReport, Page, PairCounts, Report, SideReport};
 use std::fmt::Display;
 
 /// Prints a reply: that the word is taken, or why it isn't; or the box's report, or a page of its pairs.
@@ -112,13 +112,13 @@ fn show_counts(report: &Report, case: &mut Case) {
 }
 
 fn show_count(name: &str, counters: &Counters, origin: Origin, case: &mut Case) {
-    let short = Count::Lost(Cause::Dropped(Reason::ShortFrame));
-    let bad = Count::Lost(Cause::Dropped(Reason::BadDatagram));
+    let short = Counter::Lost(Cause::Dropped(Reason::ShortFrame));
+    let bad = Counter::Lost(Cause::Dropped(Reason::BadDatagram));
     case.say("    ", name);
-    case.say(" in ", counters.of(origin, Count::Received));
-    case.say(" out ", counters.of(origin, Count::Sent));
-    case.say(" failed ", counters.of(origin, Count::SendFailed));
-    case.say(" long ", counters.of(origin, Count::TooLong));
+    case.say(" in ", counters.of(origin, Counter::Received));
+    case.say(" out ", counters.of(origin, Counter::Sent));
+    case.say(" failed ", counters.of(origin, Counter::SendFailed));
+    case.say(" long ", counters.of(origin, Counter::TooLong));
     case.say(" 1 ", counters.of(origin, short));
     case.say(" 16 ", counters.of(origin, bad));
     case.end();

@@ -6,8 +6,8 @@ use crate::replies::show_reply;
 use cases_words::Case;
 use control::Word;
 use nat_types::Side;
-use platform::Clock;
-use sockets::{LONGEST, Losses, Place, SendFault, Wire, WireFault};
+use platform::CentisecondClock;
+use sockets::{Losses, MAX_DATAGRAM, Place, SendFault, Wire, WireFault};
 use std::alloc::Global;
 use std::time::Duration;
 
@@ -91,7 +91,7 @@ impl MemoryWire {
     }
 
     /// Returns the next datagram that is to come, if there is one.
-    fn next(&mut self, buffer: &mut [u8; LONGEST]) -> Option<(Place, usize)>
+    fn next(&mut self, buffer: &mut [u8; MAX_DATAGRAM]) -> Option<(Place, usize)>
         ensures within { IfSome result (λ datagram. datagram.1 ≤ 4096) }
     {
         let datagram = self.coming.get(self.come)?;
@@ -176,7 +176,7 @@ impl Wire for MemoryWire {
     fn receive(
         &mut self,
         _limit: Duration,
-        buffer: &mut [u8; LONGEST],
+        buffer: &mut [u8; MAX_DATAGRAM],
     ) -> Result<Option<(Place, usize)>, WireFault> {
         if self.fails() {
             return Err(WireFault);
@@ -217,10 +217,10 @@ impl Wire for MemoryWire {
 }
 
 /// Copies bytes into the buffer, as far as it goes, and returns how many.
-fn copied(bytes: &[u8], buffer: &mut [u8; LONGEST]) -> usize
+fn copied(bytes: &[u8], buffer: &mut [u8; MAX_DATAGRAM]) -> usize
     ensures { result ≤ 4096 }
 {
-    let count = bytes.len().min(LONGEST);
+    let count = bytes.len().min(MAX_DATAGRAM);
     buffer[..count].copy_from_slice(&bytes[..count]);
     count
 }
@@ -232,7 +232,7 @@ pub(crate) struct StepClock {
     pub(crate) pace: u64,
 }
 
-impl Clock for StepClock {
+impl CentisecondClock for StepClock {
     fn now(&mut self) -> u64 {
         self.now = self.now.saturating_add(self.pace);
         self.now

@@ -3,7 +3,7 @@
 use cases_words::Case;
 use journal::{Cause, Origin};
 use nat_types::EntryState;
-use reports::Count;
+use reports::Counter;
 use vrrp_states::State;
 
 const ROLES: [(&str, State); 3] = [
@@ -41,26 +41,26 @@ pub(crate) fn state_of(case: &mut Case) -> EntryState {
 }
 
 /// Reads what is counted: by its name, or by the number of the reason of a drop.
-pub(crate) fn what(case: &mut Case) -> Count {
+pub(crate) fn what(case: &mut Case) -> Counter {
     let read = count_named(case.word());
-    case.or(read, Count::Received)
+    case.or(read, Counter::Received)
 }
 
-fn count_named(word: &str) -> Option<Count> {
+fn count_named(word: &str) -> Option<Counter> {
     match word {
-        "received" => Some(Count::Received),
-        "sent" => Some(Count::Sent),
-        "failed" => Some(Count::SendFailed),
-        "too-long" => Some(Count::TooLong),
-        "NoMemory" => Some(Count::Lost(Cause::NoMemory)),
+        "received" => Some(Counter::Received),
+        "sent" => Some(Counter::Sent),
+        "failed" => Some(Counter::SendFailed),
+        "too-long" => Some(Counter::TooLong),
+        "NoMemory" => Some(Counter::Lost(Cause::NoMemory)),
         word => reason_numbered(word.parse::<u8>().ok()?),
     }
 }
 
-fn reason_numbered(number: u8) -> Option<Count> {
+fn reason_numbered(number: u8) -> Option<Counter> {
     for cause in Cause::ALL {
         if cause.number() == number && cause != Cause::NoMemory {
-            return Some(Count::Lost(cause));
+            return Some(Counter::Lost(cause));
         }
     }
     None

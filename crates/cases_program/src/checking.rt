@@ -3,7 +3,7 @@ use crate::edits::edited;
 use crate::full::Full;
 use crate::rows::settled;
 use cases_words::{Actor, Case, unbuffered};
-use checks::{Request, check, compare};
+use checks::{CheckOptions, check, compare};
 use faults::{Fault, read_text, report_at};
 use nat_types::GatewayId;
 use std::io::Write;
@@ -25,13 +25,13 @@ fn option<'a>(options: &'a str, name: &str) -> Option<&'a str> {
     None
 }
 
-fn request(options: &str) -> Request<'_> {
+fn check_options(options: &str) -> CheckOptions<'_> {
     let id = match option(options, "id=") {
         Some("0") => Some(GatewayId::Zero),
         Some(_) => Some(GatewayId::One),
         None => None,
     };
-    Request {
+    CheckOptions {
         id,
         strict: option(options, "strict").is_some(),
         inside: option(options, "inside="),
@@ -67,7 +67,7 @@ fn say<O: Write>(
                 Ok(text) => text,
                 Err(fault) => return Ok(report_at(rt.alloc(), &fault, EDITED, errors)),
             };
-            check(rt, text.as_str(), &request(options), output)
+            check(rt, text.as_str(), &check_options(options), output)
         }
     }
 }

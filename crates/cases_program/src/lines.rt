@@ -6,7 +6,7 @@ use crate::rows::{settled, status_of};
 use anyhow::Result;
 use cases_words::{Actor, Case};
 use faults::Fault;
-use simulation::{Capture, looped, read_job};
+use simulation::{Capture, read_job, run_loop, run_loop_job};
 use std::alloc::Global;
 
 /// The cases of scripts through a channel.
@@ -62,7 +62,7 @@ fn run(rt: &HostRuntime, settings: &str, script: &str, memory: Option<Memory>, c
     let (mut output, mut errors) = (Vec::new(alloc), Vec::new(alloc));
     let status = match memory {
         Some(memory) => through(alloc, settings, script, memory, &mut output),
-        None => looped::run(rt, settings, script, None, &mut output),
+        None => run_loop(rt, settings, script, None, &mut output),
     };
     let status = settled(alloc, status, &mut errors);
     case.text(output.as_slice());
@@ -81,7 +81,7 @@ fn through(
     output: &mut Vec<u8>,
 ) -> std::result::Result<u8, Fault> {
     let job = read_job(alloc, settings, script)?;
-    looped::play(
+    run_loop_job(
         alloc,
         &job,
         &mut memory,

@@ -5,7 +5,7 @@ use crate::files::text_at;
 use crate::narrow::Narrow;
 use cases_words::{Actor, Case, unbuffered};
 use faults::{Fault, read_text, report};
-use simulation::{Progress, sim};
+use simulation::{Progress, run_sim};
 use std::alloc::{AllocError, Global};
 use std::io::Write;
 
@@ -94,7 +94,7 @@ pub(crate) fn status_of<O: Write>(
     output: &mut O,
     errors: &mut Vec<u8>,
 ) -> u8 {
-    let status = sim::run(rt, settings, script, None, &mut Nobody, output);
+    let status = run_sim(rt, settings, script, None, &mut Nobody, output);
     settled(rt.alloc(), status, errors)
 }
 

@@ -4,7 +4,7 @@
 use anyhow::{Context, Result};
 use cases_words::Case;
 use control::{Control, ControlPath};
-use sockets::{CONTROL, Ports, Sockets, Way, Ways};
+use sockets::{CONTROL_TOKEN, LoopbackPorts, Sockets, Way, Ways};
 use std::net::UdpSocket;
 use std::os::fd::AsRawFd;
 
@@ -16,23 +16,23 @@ const ON_LOOPBACK: Ways = Ways {
 };
 
 /// The ports of the boxes, in the order of their list. The hub's link leads nowhere.
-const PORTS: [Ports; 4] = [
-    Ports {
+const PORTS: [LoopbackPorts; 4] = [
+    LoopbackPorts {
         link: (27_001, 27_002),
         inside: (27_011, 27_101),
         outside: (27_021, 27_102),
     },
-    Ports {
+    LoopbackPorts {
         link: (27_002, 27_001),
         inside: (27_012, 27_101),
         outside: (27_022, 27_102),
     },
-    Ports {
+    LoopbackPorts {
         link: (27_003, 27_004),
         inside: (27_101, 27_011),
         outside: (27_102, 27_021),
     },
-    Ports {
+    LoopbackPorts {
         link: (27_005, 27_006),
         inside: (27_015, 27_016),
         outside: (27_025, 27_026),
@@ -70,7 +70,7 @@ impl Boxes {
     }
 
     fn add(&mut self, rt: &HostRuntime, ways: &Ways) -> Result<()> {
-        ways.inherit()?;
+        ways.check_descriptors()?;
         self.sockets.push(opened(rt, 3, "other", ways)?)?;
         Ok(())
     }
@@ -133,5 +133,5 @@ fn opened(rt: &HostRuntime, number: usize, control: &str, ways: &Ways) -> Result
 /// Opens the control socket of a box of this name.
 pub(crate) fn control_at(rt: &HostRuntime, name: &str) -> Result<Control> {
     let path = ControlPath::beside(rt.alloc(), name)?;
-    Ok(Control::open(rt, &path, CONTROL)?)
+    Ok(Control::open(rt, &path, CONTROL_TOKEN)?)
 }

@@ -1,8 +1,9 @@
 //! The words of a line about a box's records, and what they mean.
 
 use cases_words::Case;
-use journal::{Cause, Entry, Format, Mapping, Origin, PeerState, Role};
+use journal::{Cause, Entry, Format, Mapping, Origin, PeerState};
 use nat_types::NoteKind;
+use vrrp_states::State;
 
 const FORMATS: [(&str, Format); 2] = [("text", Format::Text), ("pairs", Format::Pairs)];
 
@@ -13,10 +14,10 @@ const ORIGINS: [(&str, Origin); 4] = [
     ("box", Origin::Own),
 ];
 
-const ROLES: [(&str, Role); 3] = [
-    ("Initialize", Role::Initialize),
-    ("Backup", Role::Backup),
-    ("Active", Role::Active),
+const ROLES: [(&str, State); 3] = [
+    ("Initialize", State::Initialize),
+    ("Backup", State::Backup),
+    ("Active", State::Active),
 ];
 
 const PEER_STATES: [(&str, PeerState); 3] = [
@@ -57,7 +58,7 @@ fn cause_of(word: &str) -> Option<Cause> {
 /// Returns the change of a box that the words say.
 pub(crate) fn entry_in(case: &mut Case) -> Entry {
     match case.word() {
-        "role" => Entry::Role(case.side(), case.pick(&ROLES, Role::Initialize)),
+        "role" => Entry::Role(case.side(), case.pick(&ROLES, State::Initialize)),
         "away" => Entry::Away,
         "back" => Entry::Back,
         "synced" => Entry::Synced,

@@ -1,7 +1,7 @@
 //! Rounds over a wire of which one call fails.
 
 use cases_words::Case;
-use sockets::{LONGEST, Place, Sockets, Wire};
+use sockets::{MAX_DATAGRAM, Place, Sockets, Wire};
 use std::time::Duration;
 
 /// Does 20 rounds, in each of which both boxes send a datagram on the link and gateway 0 receives
@@ -29,7 +29,7 @@ fn tell(case: &mut Case, came: usize, left: usize, sent: usize) {
 fn count_received(wire: &mut Sockets, number: u64, other: &mut Sockets) -> usize {
     let mut received = 0_usize;
     let mut left = number;
-    let mut buffer = [0; LONGEST];
+    let mut buffer = [0; MAX_DATAGRAM];
     for _ in 0..20 {
         let _ = other.send(Place::Link, b"one");
         if !fails(&mut left) {
@@ -53,7 +53,7 @@ fn fails(left: &mut u64) -> bool {
 
 /// Receives all datagrams that are there, and returns how many they were.
 fn drained(wire: &mut Sockets) -> usize {
-    let mut buffer = [0; LONGEST];
+    let mut buffer = [0; MAX_DATAGRAM];
     for count in 0..100 {
         let Ok(Some(_)) = wire.receive(Duration::ZERO, &mut buffer) else {
             return count;

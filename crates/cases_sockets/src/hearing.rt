@@ -3,7 +3,7 @@
 use crate::transports::{Datagram, Memory};
 use crate::words::tell_losses;
 use cases_words::{Actor, Case};
-use sockets::{End, LONGEST, Network, Peer, PlaceSocket, Sender};
+use sockets::{End, MAX_DATAGRAM, Network, Peer, PlaceSocket, Sender};
 use std::alloc::Global;
 
 /// The cases of a place over a transport in memory.
@@ -80,7 +80,7 @@ impl Hearing {
     }
 
     fn take(&mut self, case: &mut Case) {
-        let mut buffer = [0; LONGEST];
+        let mut buffer = [0; MAX_DATAGRAM];
         match self.place.receive(&mut buffer) {
             Ok(Some(count)) => tell_bytes(case, "  heard ", &buffer[..count]),
             Ok(None) => case.tell("nothing"),
@@ -112,7 +112,7 @@ impl Hearing {
     /// Sends a datagram and receives one, four times. Returns how many were sent, how many arrived, and how often
     /// either failed.
     fn counts(&mut self) -> [u32; 3] {
-        let mut buffer = [0; LONGEST];
+        let mut buffer = [0; MAX_DATAGRAM];
         let mut counts = [0_u32; 3];
         for _ in 0..4 {
             match self.place.send(b"abc") {

@@ -7,7 +7,7 @@ use crate::words::{place_in, tell_losses};
 use anyhow::Result;
 use cases_words::{Actor, Case};
 use control::{ControlPath, Word, ask, say};
-use sockets::{LONGEST, Place, Sockets, Wire, WireFault};
+use sockets::{MAX_DATAGRAM, Place, Sockets, Wire, WireFault};
 use std::alloc::Global;
 use std::fs;
 use std::io::Write;
@@ -141,7 +141,7 @@ fn repeated(case: &mut Case, count: usize) -> Vec<u8> {
 
 /// Receives the next datagram, and prints it.
 fn receive(sockets: &mut Sockets, limit: Duration, case: &mut Case) {
-    let mut buffer = [0; LONGEST];
+    let mut buffer = [0; MAX_DATAGRAM];
     match sockets.receive(limit, &mut buffer) {
         Ok(Some((place, count))) => {
             case.show("  ", place);
@@ -225,24 +225,23 @@ fn say_stop(rt: &HostRuntime, case: &mut Case) {
 
 fn said(rt: &HostRuntime, name: &str) -> Result<()> {
     let path = ControlPath::beside(rt.alloc(), name)?;
-    say(rt, &path, b"NO\0\0\0\0\0\0\0\x07")?;
+    let word = Word::PeerOff {
+        boot: Some(7),
+        forced: false,
+    };
+    say(rt, &path, word)?;
     Ok(())
 }
 
 fn ask_status(rt: &HostRuntime, case: &mut Case) {
-    match asked(rt, case.word()) {
-        Ok(count) => {
-            case.say("  ", count);
-            case.put(" bytes\n");
-        }
-        Err(fault) => case.tell(fault),
-    }
+    let asked = asked(rt, case.word());
+    case.done(asked, "replied");
 }
 
-fn asked(rt: &HostRuntime, name: &str) -> Result<usize> {
+fn asked(rt: &HostRuntime, name: &str) -> Result<()> {
     let path = ControlPath::beside(rt.alloc(), name)?;
-    let mut buffer = [0; LONGEST];
-    Ok(ask(rt, &path, Word::Status.bytes().as_slice(), &mut buffer)?)
+    ask(rt, &path, Word::Status, &mut [0; MAX_DATAGRAM])?;
+    Ok(())
 }
 
 fn mode(rt: &HostRuntime, case: &mut Case) {

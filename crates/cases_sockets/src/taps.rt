@@ -8,7 +8,7 @@ use crate::writers::{Printer, SetClock, WriterState};
 use captures::{LiveCapture, Tapped};
 use cases_words::{Actor, Case};
 use nat_types::GatewayId;
-use sockets::{LONGEST, Wire};
+use sockets::{MAX_DATAGRAM, Wire};
 use std::cell::{Cell, RefCell};
 use std::time::Duration;
 
@@ -166,7 +166,7 @@ fn coming_in(case: &mut Case) -> Coming {
 
 /// Asks the wire for a datagram, and prints what it answers.
 fn receive(wire: &mut TappedMemory<'_>, case: &mut Case) {
-    let mut buffer = [0; LONGEST];
+    let mut buffer = [0; MAX_DATAGRAM];
     match wire.receive(Duration::ZERO, &mut buffer) {
         Ok(Some((place, count))) => {
             case.say("  came ", name_of(place));

@@ -74,8 +74,8 @@ fn tell_end(case: &mut Case, text: &str, end: End) {
 }
 
 fn inherit(case: &mut Case) {
-    let inherited = ways_in(case, None).inherit();
-    case.done(inherited, "inherited");
+    let checked = ways_in(case, None).check_descriptors();
+    case.done(checked, "inherited");
 }
 
 /// Returns a name of this many bytes, or the text itself.

@@ -1,7 +1,7 @@
 //! A transport in memory, one call of which may fail.
 ghost use Rattle.std.specs.Prelude.{◌≤◌};
 
-use sockets::{Arrived, LONGEST, SendFault, Sender, Transport, WireFault};
+use sockets::{Arrived, MAX_DATAGRAM, SendFault, Sender, Transport, WireFault};
 use std::alloc::Global;
 
 /// A datagram that is to arrive.
@@ -37,7 +37,7 @@ impl Memory {
             sent: Vec::new(alloc),
             left: 0,
             is_stuck: false,
-            longest: LONGEST,
+            longest: MAX_DATAGRAM,
         }
     }
 
@@ -55,18 +55,18 @@ impl Memory {
 }
 
 impl Transport for Memory {
-    fn send(&mut self, buffer: &[u8; LONGEST], count: usize) -> Result<(), SendFault> {
+    fn send(&mut self, datagram: &[u8]) -> Result<(), SendFault> {
         if self.fails() {
             return Err(SendFault::Failed);
         }
-        if count > self.longest {
+        if datagram.len() > self.longest {
             return Err(SendFault::TooLong);
         }
-        let bytes = Vec::from_slice(self.alloc, &buffer[..count]).map_err(|_| SendFault::Failed)?;
+        let bytes = Vec::from_slice(self.alloc, datagram).map_err(|_| SendFault::Failed)?;
         self.sent.push(bytes).map_err(|_| SendFault::Failed)
     }
 
-    fn receive(&mut self, buffer: &mut [u8; LONGEST]) -> Result<Option<Arrived>, WireFault> {
+    fn receive(&mut self, buffer: &mut [u8; MAX_DATAGRAM]) -> Result<Option<Arrived>, WireFault> {
         if self.fails() {
             return Err(WireFault);
         }
@@ -82,10 +82,10 @@ impl Transport for Memory {
 }
 
 /// Copies bytes into a buffer as far as they fit, and returns how many were copied.
-pub(crate) fn copied(bytes: &[u8], buffer: &mut [u8; LONGEST]) -> usize
-    ensures { result ≤ LONGEST }
+pub(crate) fn copied(bytes: &[u8], buffer: &mut [u8; MAX_DATAGRAM]) -> usize
+    ensures { result ≤ MAX_DATAGRAM }
 {
-    let count = bytes.len().min(LONGEST);
+    let count = bytes.len().min(MAX_DATAGRAM);
     buffer[..count].copy_from_slice(&bytes[..count]);
     count
 }

@@ -4,7 +4,7 @@ ghost use Rattle.sockets.specs.Wires.{AnyWay};
 
 use crate::transports::copied;
 use crate::words::{name_of, shown};
-use sockets::{LONGEST, Losses, Place, Wire, WireFault};
+use sockets::{Losses, MAX_DATAGRAM, Place, Wire, WireFault};
 use std::cell::RefCell;
 use std::io;
 use std::time::Duration;
@@ -30,8 +30,8 @@ impl<'a> MemoryWire<'a> {
         MemoryWire { rt, coming }
     }
 
-    fn next(&self, buffer: &mut [u8; LONGEST]) -> Result<Option<(Place, usize)>, WireFault>
-        ensures { IfOk result (λ found. IfSome found (λ one. one.1 ≤ LONGEST)) }
+    fn next(&self, buffer: &mut [u8; MAX_DATAGRAM]) -> Result<Option<(Place, usize)>, WireFault>
+        ensures { IfOk result (λ found. IfSome found (λ one. one.1 ≤ MAX_DATAGRAM)) }
     {
         let Ok(coming) = self.coming.try_borrow() else {
             return Err(WireFault);
@@ -62,7 +62,7 @@ impl Wire for MemoryWire<'_> {
     fn receive(
         &mut self,
         _limit: Duration,
-        buffer: &mut [u8; LONGEST],
+        buffer: &mut [u8; MAX_DATAGRAM],
     ) -> Result<Option<(Place, usize)>, WireFault> {
         self.next(buffer)
     }

@@ -3,7 +3,7 @@
 use crate::words::shown;
 use captures::NonBlockingWriter;
 use journal::LineWriter;
-use platform::Clock;
+use platform::CentisecondClock;
 use std::cell::Cell;
 use std::fmt::Display;
 use std::io::{self, ErrorKind};
@@ -70,7 +70,7 @@ impl<'a> SetClock<'a> {
     }
 }
 
-impl Clock for SetClock<'_> {
+impl CentisecondClock for SetClock<'_> {
     fn now(&mut self) -> u64 {
         self.time.get()
     }

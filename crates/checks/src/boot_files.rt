@@ -1,4 +1,4 @@
-//! What is found of a box's boot file.
+//! The findings on a box's boot file.
 
 use crate::findings::Findings;
 use boot_store::slot_number;
@@ -10,18 +10,21 @@ use std::fs::{self, File, Files, OpenFile, TryLockError};
 use std::io::{self, Read};
 use std::os::unix::fs::PermissionsExt;
 
-/// What a boot file was like when it was looked at.
+/// The size of a slot of a boot file, in bytes. A boot file has two slots.
+const SLOT: usize = 16;
+
+/// The state of a boot file.
 #[derive(Clone, Copy)]
 struct BootFile {
-    /// The number of the last start; none where both slots are invalid.
+    /// The number of the last start, or None where both slots are invalid.
     number: Option<u64>,
-    /// Who may use it, where that is known.
+    /// The mode bits, or None where they are unknown.
     mode: Option<u32>,
-    /// A box runs on it.
+    /// Whether a box runs on the file.
     is_used: bool,
 }
 
-/// What is found of the boot file of a box. It is a fault where there is none, or it is no regular file.
+/// Reports the state of a box's boot file. A file that is missing or no regular one is a fault.
 pub(crate) fn report_boot_file<R: Files<File = File>>(
     rt: &R,
     settings: &Settings,
@@ -33,7 +36,7 @@ pub(crate) fn report_boot_file<R: Files<File = File>>(
         GatewayId::One => Section::GatewayOne,
     };
     let key = Key::new(section, Name::BootFile);
-    match look_at(rt, settings.gateway(id).boot_file.as_str()) {
+    match inspect(rt, settings.gateway(id).boot_file.as_str()) {
         Err(_) => findings.fault(format_args!("file 1 NoFile {key}")),
         Ok(None) => report_number(None, key, findings),
         Ok(Some(found)) => {
@@ -43,8 +46,9 @@ pub(crate) fn report_boot_file<R: Files<File = File>>(
     }
 }
 
-/// Looks at a boot file; none where it is no regular file, which isn't opened: to open a named pipe would wait.
-fn look_at<R: Files<File = File>>(rt: &R, path: &str) -> io::Result<Option<BootFile>> {
+/// Reads the state of a boot file. Returns None where the path is no regular file: that isn't opened, since the open of
+/// a named pipe would wait.
+fn inspect<R: Files<File = File>>(rt: &R, path: &str) -> io::Result<Option<BootFile>> {
     if !fs::metadata(rt, path)?.is_file() {
         return Ok(None);
     }
@@ -54,23 +58,23 @@ fn look_at<R: Files<File = File>>(rt: &R, path: &str) -> io::Result<Option<BootF
         Err(_) => None,
     };
     Ok(Some(BootFile {
-        number: number_in(&mut file),
+        number: read_number(&mut file),
         mode,
         is_used: matches!(file.try_lock(), Err(TryLockError::WouldBlock)),
     }))
 }
 
-/// The greater number of a file's valid slots.
-fn number_in(file: &mut File) -> Option<u64> {
-    let mut bytes = [0; 32];
+/// Reads the greater number of a file's valid slots.
+fn read_number(file: &mut File) -> Option<u64> {
+    let mut bytes = [0; 2 * SLOT];
     file.read_exact(&mut bytes).ok()?;
-    match (slot_number(&bytes[..16]), slot_number(&bytes[16..])) {
+    match (slot_number(&bytes[..SLOT]), slot_number(&bytes[SLOT..])) {
         (None, number) | (number, None) => number,
         (Some(one), Some(other)) => Some(one.max(other)),
     }
 }
 
-/// What its number says. It is a fault where no box starts with it.
+/// Reports the number of the last start. A number with which no box starts is a fault.
 fn report_number(number: Option<u64>, key: Key, findings: &mut Findings) -> Result<(), AllocError> {
     match number {
         None => findings.fault(format_args!("boot 2 Damaged {key}")),
@@ -80,10 +84,10 @@ fn report_number(number: Option<u64>, key: Key, findings: &mut Findings) -> Resu
     }
 }
 
-/// Who else may use it, and whether a box runs on it.
+/// Reports whether others than its owner may use a boot file, and whether a box runs on it.
 fn report_use(found: BootFile, key: Key, findings: &mut Findings) -> Result<(), AllocError> {
     if let Some(mode) = found.mode {
-        // The last six bits are those of others than its owner.
+        // The last six bits are those of others than the owner.
         if mode % 0o100 != 0 {
             let mode = mode % 0o1000;
             findings.warning(format_args!(

@@ -1,4 +1,4 @@
-//! Compares the settings of two files.
+//! The comparison of the settings of two files.
 
 use crate::{differing_keys, may_differ};
 use faults::{Fault, read_text, report_at};
@@ -7,9 +7,9 @@ use std::alloc::Global;
 use std::fs::Files;
 use std::io::Write;
 
-/// Says on `output` each key in which the settings of the files at two paths differ, and whether it may, and at the end how
-/// many they are. A file without settings is told of on `errors`. The answer is the exit status: 1 where there is one, or a
-/// key differs that must not, else 0.
+/// Writes each key in which the settings of the files at two paths differ, whether the key may differ, and last how
+/// many keys do. A file without settings is reported on `errors`. Returns the exit status: 1 where a file has no
+/// settings or a key differs that must not, else 0.
 ///
 /// # Errors
 ///
@@ -34,7 +34,7 @@ pub fn compare<R: Files + AllocGlobal, W: Write, E: Write>(
     }
 }
 
-/// The text of a file.
+/// Reads the text of a file, or reports why there is none.
 fn text_at<R: Files + AllocGlobal, E: Write>(rt: &R, path: &str, errors: &mut E) -> Option<String> {
     match read_text(rt, path) {
         Ok(text) => Some(text),
@@ -45,7 +45,7 @@ fn text_at<R: Files + AllocGlobal, E: Write>(rt: &R, path: &str, errors: &mut E)
     }
 }
 
-/// The settings in the text of a file.
+/// Reads the settings in the text of the file at a path, or reports why there are none.
 fn settings_in<E: Write>(
     alloc: Global,
     text: &str,
@@ -61,7 +61,7 @@ fn settings_in<E: Write>(
     }
 }
 
-/// Writes the keys in which two settings differ.
+/// Writes the keys in which two settings differ, and returns the exit status.
 fn write_differences<W: Write>(
     alloc: Global,
     one: &Settings,

@@ -1,20 +1,12 @@
-//! In what two settings differ.
+//! The keys in which the settings of two boxes differ, and those in which they may.
 
 use crate::warnings::same_host;
 use settings::{GatewaySettings, Neighbour, PortRange, Settings};
-use settings_file::{Key, Name, Section, add_bad};
+use settings_file::{Key, Name, Section, add_failing};
 use std::alloc::{AllocError, Global};
 
 fn same_range(one: PortRange, other: PortRange) -> bool {
-    one.lowest.0 == other.lowest.0 && one.highest.0 == other.highest.0
-}
-
-fn same_limit(one: Option<u16>, other: Option<u16>) -> bool {
-    match (one, other) {
-        (None, None) => true,
-        (Some(one), Some(other)) => one == other,
-        (None, Some(_)) | (Some(_), None) => false,
-    }
+    one.lowest == other.lowest && one.highest == other.highest
 }
 
 fn same_neighbour(one: &Neighbour, other: &Neighbour) -> bool {
@@ -22,33 +14,31 @@ fn same_neighbour(one: &Neighbour, other: &Neighbour) -> bool {
 }
 
 fn same_neighbours(one: &[Neighbour], other: &[Neighbour]) -> bool {
-    let mut rest = other;
-    for neighbour in one {
-        let [first, behind @ ..] = rest else {
-            return false;
-        };
-        if !same_neighbour(neighbour, first) {
+    if one.len() != other.len() {
+        return false;
+    }
+    for (one, other) in one.iter().zip(other) {
+        if !same_neighbour(one, other) {
             return false;
         }
-        rest = behind;
     }
-    rest.is_empty()
+    true
 }
 
-/// The ports, and the inside network.
-fn same_front(one: &Settings, other: &Settings) -> [(Key, bool); 8] {
+/// Returns the keys of `[ports]` and `[inside]`, each with whether its values are the same.
+fn ports_and_inside_rows(one: &Settings, other: &Settings) -> [(Key, bool); 8] {
     let (ports, inside) = (Section::Ports, Section::Inside);
     let same_zero = same_range(one.ports.zero, other.ports.zero);
     let same_one = same_range(one.ports.one, other.ports.one);
-    let limits = same_limit(one.ports.host_limit, other.ports.host_limit);
+    let same_limit = one.ports.host_limit == other.ports.host_limit;
     let (one, other) = (&one.inside, &other.inside);
-    let same_virtual = one.virtual_ip.0 == other.virtual_ip.0;
+    let same_virtual = one.virtual_ip == other.virtual_ip;
     let same_prefix = one.prefix_length == other.prefix_length;
     let same_number = one.virtual_router == other.virtual_router;
     [
         (Key::new(ports, Name::Zero), same_zero),
         (Key::new(ports, Name::One), same_one),
-        (Key::new(ports, Name::HostLimit), limits),
+        (Key::new(ports, Name::HostLimit), same_limit),
         (Key::new(inside, Name::Virtual), same_virtual),
         (Key::new(inside, Name::Prefix), same_prefix),
         (Key::new(inside, Name::Vrid), same_number),
@@ -57,14 +47,14 @@ fn same_front(one: &Settings, other: &Settings) -> [(Key, bool); 8] {
     ]
 }
 
-/// The outside network, the router, and what is said by ICMP.
-fn same_behind(one: &Settings, other: &Settings) -> [(Key, bool); 8] {
+/// Returns the keys of `[outside]` and `[icmp]`, each with whether its values are the same.
+fn outside_and_icmp_rows(one: &Settings, other: &Settings) -> [(Key, bool); 8] {
     let (outside, icmp) = (Section::Outside, Section::Icmp);
-    let same_router = one.router.0 == other.router.0;
+    let same_router = one.router == other.router;
     let same_echo = one.icmp.echo == other.icmp.echo;
     let same_errors = one.icmp.errors == other.icmp.errors;
     let (one, other) = (&one.outside, &other.outside);
-    let same_virtual = one.virtual_ip.0 == other.virtual_ip.0;
+    let same_virtual = one.virtual_ip == other.virtual_ip;
     let same_prefix = one.prefix_length == other.prefix_length;
     let same_number = one.virtual_router == other.virtual_router;
     [
@@ -79,15 +69,15 @@ fn same_behind(one: &Settings, other: &Settings) -> [(Key, bool); 8] {
     ]
 }
 
-/// What stands in a gateway's section.
-fn same_gateway(
+/// Returns the keys of a gateway, each with whether its values are the same.
+fn gateway_rows(
     section: Section,
     one: &GatewaySettings,
     other: &GatewaySettings,
 ) -> [(Key, bool); 11] {
-    let same_inside_ip = one.inside_ip.0 == other.inside_ip.0;
+    let same_inside_ip = one.inside_ip == other.inside_ip;
     let same_inside_mac = one.inside_mac == other.inside_mac;
-    let same_outside_ip = one.outside_ip.0 == other.outside_ip.0;
+    let same_outside_ip = one.outside_ip == other.outside_ip;
     let same_outside_mac = one.outside_mac == other.outside_mac;
     let same_priority = one.priority == other.priority;
     let same_interval = one.interval == other.interval;
@@ -110,31 +100,32 @@ fn same_gateway(
     ]
 }
 
-fn same_list(one: &Settings, other: &Settings) -> [(Key, bool); 1] {
-    let whole = Key::whole(Section::Neighbour);
-    let same = same_neighbours(one.neighbours.as_slice(), other.neighbours.as_slice());
-    [(whole, same)]
-}
-
-/// The keys in which two settings differ, in the order of the text.
+/// Returns the keys in which two settings differ, in the order of the text. The lists of neighbours are one key.
+///
+/// # Errors
+///
+/// Out of memory.
 pub fn differing_keys(
     alloc: Global,
     one: &Settings,
     other: &Settings,
 ) -> Result<Vec<Key>, AllocError> {
     let mut found = Vec::new(alloc);
-    add_bad(&same_front(one, other), &mut found)?;
-    add_bad(&same_behind(one, other), &mut found)?;
-    let rows = same_gateway(Section::GatewayZero, &one.zero, &other.zero);
-    add_bad(&rows, &mut found)?;
-    let rows = same_gateway(Section::GatewayOne, &one.one, &other.one);
-    add_bad(&rows, &mut found)?;
-    add_bad(&same_list(one, other), &mut found)?;
+    add_failing(&ports_and_inside_rows(one, other), &mut found)?;
+    add_failing(&outside_and_icmp_rows(one, other), &mut found)?;
+    let rows = gateway_rows(Section::GatewayZero, &one.zero, &other.zero);
+    add_failing(&rows, &mut found)?;
+    let rows = gateway_rows(Section::GatewayOne, &one.one, &other.one);
+    add_failing(&rows, &mut found)?;
+    if !same_neighbours(one.neighbours.as_slice(), other.neighbours.as_slice()) {
+        found.push(Key::whole(Section::Neighbour))?;
+    }
     Ok(found)
 }
 
-/// Whether the settings of the two boxes may differ there: one box alone reads it, or it is of the machine that a box
-/// runs on.
+/// Whether the two boxes may have different values at a key: only one of them reads it, or the value is one of the
+/// machine on which a box runs. The values at all other keys must be the same on both boxes; those are exactly the keys
+/// in the digest of `gate/src/digests.rt`.
 pub fn may_differ(key: Key) -> bool {
     match key.name {
         Some(

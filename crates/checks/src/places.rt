@@ -1,6 +1,6 @@
-//! What is found of a box's places: its interfaces, and its address on the link.
+//! The findings on a box's interfaces and its address on the link.
 
-use crate::Request;
+use crate::CheckOptions;
 use crate::findings::Findings;
 use addresses::Ip;
 use faults::{Fault, read_text};
@@ -10,25 +10,25 @@ use std::alloc::AllocError;
 use std::fs::Files;
 use std::net::Ipv4Addr;
 
-/// The least MTU with which an interface takes each frame of a box: 1,514 bytes with the Ethernet header.
-const LEAST_MTU: u32 = 1500;
+/// The least MTU with which an interface takes each frame of a box: 1,514 bytes, less the 14 of the Ethernet header.
+const MIN_MTU: u32 = 1500;
 
-/// What is wrong with the places that a request names.
+/// Reports what is wrong with the interfaces and the address of the options.
 pub(crate) fn report_places<R: Files + AllocGlobal>(
     rt: &R,
     settings: &Settings,
-    request: &Request<'_>,
+    options: &CheckOptions<'_>,
     findings: &mut Findings,
 ) -> Result<(), AllocError> {
-    report_interface(rt, Side::Inside, request.inside, findings)?;
-    report_interface(rt, Side::Outside, request.outside, findings)?;
-    match request.link {
+    report_interface(rt, Side::Inside, options.inside, findings)?;
+    report_interface(rt, Side::Outside, options.outside, findings)?;
+    match options.link {
         Some(text) => report_link(settings, text, findings),
         None => Ok(()),
     }
 }
 
-/// What is wrong with the interface of a side, if one is named.
+/// Reports what is wrong with the interface of a side, where one is named.
 fn report_interface<R: Files + AllocGlobal>(
     rt: &R,
     side: Side,
@@ -39,7 +39,7 @@ fn report_interface<R: Files + AllocGlobal>(
         return Ok(());
     };
     match mtu_of(rt, name)? {
-        Some(mtu) if mtu >= LEAST_MTU => Ok(()),
+        Some(mtu) if mtu >= MIN_MTU => Ok(()),
         Some(mtu) => findings.warning(format_args!(
             "{side} {name}: its MTU is {mtu}, and frames need 1500"
         )),
@@ -47,7 +47,7 @@ fn report_interface<R: Files + AllocGlobal>(
     }
 }
 
-/// The MTU of the interface of a name, if there is one.
+/// Returns the MTU of the interface of this name, or None where there is none.
 fn mtu_of<R: Files + AllocGlobal>(rt: &R, name: &str) -> Result<Option<u32>, AllocError> {
     let path = format!(in rt.alloc(); "/sys/class/net/{name}/mtu")?;
     match read_text(rt, path.as_str()) {
@@ -57,7 +57,7 @@ fn mtu_of<R: Files + AllocGlobal>(rt: &R, name: &str) -> Result<Option<u32>, All
     }
 }
 
-/// What is wrong with the address on the link that a text is to be.
+/// Reports what is wrong with a text as the box's address on the link.
 fn report_link(settings: &Settings, text: &str, findings: &mut Findings) -> Result<(), AllocError> {
     let Ok(address) = text.parse::<Ipv4Addr>() else {
         return findings.fault(format_args!("link {text}: no IPv4 address"));

@@ -1,174 +1,178 @@
 //! The warnings of settings.
 
-use crate::{Doubt, Warning};
+use crate::{Warning, WarningKind};
 use addresses::Ip;
-use nat_types::Side;
 use settings::{GatewaySettings, Neighbour, PortRange, Settings};
 use settings_file::{Key, Name, Section, add_port_clashes, is_network_address};
 use std::alloc::{AllocError, Global};
 
-/// The longest path of a boot file beside which the control socket's has room, in bytes.
-const LONGEST_PATH: usize = 92;
+/// The longest path of a boot file beside which the control socket's path isn't too long, in bytes: the 107 of a
+/// socket's path, less the end of its name.
+const MAX_BOOT_FILE_PATH: usize = 107 - ".control/socket".len();
 
-/// A key, what is likely not meant there, and whether it is so.
-type Row = (Section, Name, Doubt, bool);
-
-/// All warnings of settings.
+/// Returns all warnings of settings: those of the networks, of each gateway, of both gateways and of the neighbours,
+/// then the ports that two keys have.
 ///
 /// # Errors
 ///
-/// Where there is no memory for them.
+/// Out of memory.
 pub fn warnings_of(alloc: Global, settings: &Settings) -> Result<Vec<Warning>, AllocError> {
+    let Settings { zero, one, .. } = settings;
     let mut found = Vec::new(alloc);
-    add_rows(&network_rows(settings), &mut found)?;
-    add_rows(
-        &gateway_rows(Section::GatewayZero, &settings.zero),
-        &mut found,
-    )?;
-    add_rows(
-        &gateway_rows(Section::GatewayOne, &settings.one),
-        &mut found,
-    )?;
-    add_rows(&pair_rows(&settings.zero, &settings.one), &mut found)?;
+    add_warnings(&network_warnings(settings), &mut found)?;
+    add_warnings(&gateway_warnings(Section::GatewayZero, zero), &mut found)?;
+    add_warnings(&gateway_warnings(Section::GatewayOne, one), &mut found)?;
+    add_warnings(&pair_warnings(zero, one), &mut found)?;
     add_neighbours(settings.neighbours.as_slice(), &mut found)?;
     let mut clashes = Vec::new(alloc);
     add_port_clashes(settings, &mut clashes)?;
     for key in clashes.as_slice() {
-        let doubt = Doubt::SamePort;
-        found.push(Warning { key: *key, doubt })?;
+        let kind = WarningKind::SamePort;
+        found.push(Warning { key: *key, kind })?;
     }
     Ok(found)
 }
 
-fn add_rows(rows: &[Row], found: &mut Vec<Warning>) -> Result<(), AllocError> {
-    for (section, name, doubt, holds) in rows {
-        if *holds {
-            let key = Key::new(*section, *name);
-            found.push(Warning { key, doubt: *doubt })?;
+/// Adds the warnings that aren't None.
+fn add_warnings(warnings: &[Option<Warning>], found: &mut Vec<Warning>) -> Result<(), AllocError> {
+    for warning in warnings {
+        if let Some(warning) = warning {
+            found.push(*warning)?;
         }
     }
     Ok(())
 }
 
-fn network_rows(settings: &Settings) -> [Row; 6] {
-    let (ports, router) = (&settings.ports, settings.router);
-    let (inside, outside) = (&settings.inside, &settings.outside);
+/// Returns a warning where its condition holds.
+fn warn_if(condition: bool, section: Section, name: Name, kind: WarningKind) -> Option<Warning> {
+    if condition {
+        let key = Key::new(section, name);
+        Some(Warning { key, kind })
+    } else {
+        None
+    }
+}
+
+fn network_warnings(settings: &Settings) -> [Option<Warning>; 6] {
+    let Settings {
+        ports,
+        inside,
+        outside,
+        router,
+        ..
+    } = settings;
+    let one_zero = has_one_port(ports.zero);
+    let one_one = has_one_port(ports.one);
+    let martian_inside = is_martian(inside.virtual_ip);
+    let martian_outside = is_martian(outside.virtual_ip);
     let same_number = inside.virtual_router == outside.virtual_router;
-    let is_network = is_network_address(router, outside.prefix_length);
+    let is_network = is_network_address(*router, outside.prefix_length);
     [
-        (
-            Section::Ports,
-            Name::Zero,
-            Doubt::OnePort,
-            has_one_port(ports.zero),
-        ),
-        (
-            Section::Ports,
-            Name::One,
-            Doubt::OnePort,
-            has_one_port(ports.one),
-        ),
-        (
+        warn_if(one_zero, Section::Ports, Name::Zero, WarningKind::OnePort),
+        warn_if(one_one, Section::Ports, Name::One, WarningKind::OnePort),
+        warn_if(
+            martian_inside,
             Section::Inside,
             Name::Virtual,
-            Doubt::Martian,
-            is_martian(inside.virtual_ip),
+            WarningKind::Martian,
         ),
-        (
+        warn_if(
+            martian_outside,
             Section::Outside,
             Name::Virtual,
-            Doubt::Martian,
-            is_martian(outside.virtual_ip),
+            WarningKind::Martian,
         ),
-        (Section::Outside, Name::Vrid, Doubt::SameNumber, same_number),
-        (
+        warn_if(
+            same_number,
+            Section::Outside,
+            Name::Vrid,
+            WarningKind::SameNumber,
+        ),
+        warn_if(
+            is_network,
             Section::Outside,
             Name::Router,
-            Doubt::NetworkAddress,
-            is_network,
+            WarningKind::NetworkAddress,
         ),
     ]
 }
 
-fn gateway_rows(section: Section, gateway: &GatewaySettings) -> [Row; 4] {
+fn gateway_warnings(section: Section, gateway: &GatewaySettings) -> [Option<Warning>; 4] {
     let path = gateway.boot_file.len();
     let same_mac = gateway.inside_mac == gateway.outside_mac;
+    let is_short = gateway.interval == 1;
+    let (is_empty, is_long) = (path == 0, path > MAX_BOOT_FILE_PATH);
     [
-        (section, Name::OutsideMac, Doubt::SameMac, same_mac),
-        (
+        warn_if(same_mac, section, Name::OutsideMac, WarningKind::SameMac),
+        warn_if(
+            is_short,
             section,
             Name::Interval,
-            Doubt::ShortInterval,
-            gateway.interval == 1,
+            WarningKind::ShortInterval,
         ),
-        (section, Name::BootFile, Doubt::EmptyPath, path == 0),
-        (
-            section,
-            Name::BootFile,
-            Doubt::LongPath,
-            path > LONGEST_PATH,
-        ),
+        warn_if(is_empty, section, Name::BootFile, WarningKind::EmptyPath),
+        warn_if(is_long, section, Name::BootFile, WarningKind::LongPath),
     ]
 }
 
-fn pair_rows(zero: &GatewaySettings, one: &GatewaySettings) -> [Row; 4] {
+/// Returns the warnings of the two gateways together, at the keys of gateway 1.
+fn pair_warnings(zero: &GatewaySettings, one: &GatewaySettings) -> [Option<Warning>; 4] {
     let section = Section::GatewayOne;
+    let same_priority = zero.priority == one.priority;
+    let other_interval = zero.interval != one.interval;
+    let other_preempt = zero.preempt != one.preempt;
     let same_path = zero.boot_file.as_str() == one.boot_file.as_str();
     [
-        (
+        warn_if(
+            same_priority,
             section,
             Name::Priority,
-            Doubt::SamePriority,
-            zero.priority == one.priority,
+            WarningKind::SamePriority,
         ),
-        (
+        warn_if(
+            other_interval,
             section,
             Name::Interval,
-            Doubt::OtherInterval,
-            zero.interval != one.interval,
+            WarningKind::OtherInterval,
         ),
-        (
+        warn_if(
+            other_preempt,
             section,
             Name::Preempt,
-            Doubt::OtherPreempt,
-            zero.preempt != one.preempt,
+            WarningKind::OtherPreempt,
         ),
-        (section, Name::BootFile, Doubt::SamePath, same_path),
+        warn_if(same_path, section, Name::BootFile, WarningKind::SamePath),
     ]
 }
 
-/// Each neighbour that stands in the list before.
+/// Adds a warning for each neighbour that is in the list before.
 fn add_neighbours(neighbours: &[Neighbour], found: &mut Vec<Warning>) -> Result<(), AllocError> {
     for (index, neighbour) in neighbours.iter().enumerate() {
-        if stands_in(&neighbours[..index], neighbour) {
+        if has_host(&neighbours[..index], neighbour) {
             let key = Key::new(Section::Neighbour, Name::Ip);
-            let doubt = Doubt::Twice;
-            found.push(Warning { key, doubt })?;
+            let kind = WarningKind::Twice;
+            found.push(Warning { key, kind })?;
         }
     }
     Ok(())
 }
 
-fn stands_in(before: &[Neighbour], neighbour: &Neighbour) -> bool {
-    before.iter().any(|earlier| same_host(earlier, neighbour))
+/// Whether some neighbours have the host of another one.
+fn has_host(earlier: &[Neighbour], neighbour: &Neighbour) -> bool {
+    earlier.iter().any(|other| same_host(other, neighbour))
 }
 
+/// Whether two neighbours have the same address on the same side.
 pub(crate) fn same_host(one: &Neighbour, other: &Neighbour) -> bool {
-    same_side(one.side, other.side) && one.ip.0 == other.ip.0
+    one.side == other.side && one.ip == other.ip
 }
 
-fn same_side(one: Side, other: Side) -> bool {
-    matches!(
-        (one, other),
-        (Side::Inside, Side::Inside) | (Side::Outside, Side::Outside)
-    )
-}
-
+/// Whether an address is in 0/8, 127/8, 224/4 or 240/4.
 fn is_martian(address: Ip) -> bool {
     let first = address.0 >> 24;
     first == 0 || first == 127 || first >= 224
 }
 
 fn has_one_port(range: PortRange) -> bool {
-    range.lowest.0 == range.highest.0
+    range.lowest == range.highest
 }

@@ -16,7 +16,7 @@ each_more : (a : App) (os : List Outline) (o : Outline) → with_each a (os ++ o
 each_more a [] o = refl
 each_more a (p ∷ ps) o = each_more (with_subcommand a (app_in p).top) ps o
 
--- one argument more is told
+-- one argument more is added
 pub one_told : (c : Command) (a : App) (xs : List Argument) (i : ℕ) (x : Argument) → i < length xs
     → TakesSo c (with_rule (with_all a (take i xs)) (rule_for (get_or xs i x))) → TakesSo c (with_all a (take (i + 1) xs))
 one_told c a xs i x within told =

@@ -1,4 +1,4 @@
--- The arguments of a command, and the commands of a program, as clap is told of them.
+-- The arguments of a command, and the commands of a program, as clap takes them.
 use Rattle.std.specs.Prelude.{◌≡◌, Bool, true, false, List, [], ◌∷◌}
 use Rattle.clap.specs.Words.{App, Rule, Text, app_of, new_app, with_rule, with_subcommand}
 use Rattle.clap.specs.declared.builder.action.ArgAction.{ArgAction}
@@ -7,33 +7,33 @@ use Rattle.clap.specs.declared.builder.command.Command.{Command}
 use Rattle.clap.specs.declared.builder.command.Command.TheViews.{out-Command as fields_of}
 use Rattle.command_line.specs.Line.{file_rule, flag_rule, parsed_rule, text_rule, way_rule, word_rule}
 use Rattle.command_line.specs.declared.options.Argument.{Argument}
-use Rattle.command_line.specs.declared.options.Form.{Form}
-use Rattle.command_line.specs.declared.options.Form.TheVariants as form
+use Rattle.command_line.specs.declared.options.ArgumentKind.{ArgumentKind}
+use Rattle.command_line.specs.declared.options.ArgumentKind.TheVariants as kinds
 use Rattle.command_line.specs.declared.outlines.Outline.{Outline}
 
 -- one that has to be there
-abbrev pub is_needed : Form → Bool
-is_needed form.File = true
-is_needed (form.Needed parser) = true
+abbrev pub is_needed : ArgumentKind → Bool
+is_needed kinds.Positional = true
+is_needed (kinds.RequiredNumber parser) = true
 is_needed _ = false
 
 -- what clap does where it meets one
-abbrev pub action_for : Form → ArgAction
-action_for form.Flag = SetTrue
+abbrev pub action_for : ArgumentKind → ArgAction
+action_for kinds.Flag = SetTrue
 action_for _ = Set
 
 -- of a name, by how it is given
-abbrev pub rule_by : Form → Text → Rule
-rule_by form.File name = file_rule name
-rule_by form.Word name = word_rule name
-rule_by form.Text name = text_rule name
-rule_by form.Way name = way_rule name
-rule_by form.Flag name = flag_rule name
-rule_by (form.Number parser) name = parsed_rule name parser
-rule_by (form.Needed parser) name = record (parsed_rule name parser) { required = true }
+abbrev pub rule_by : ArgumentKind → Text → Rule
+rule_by kinds.Positional name = file_rule name
+rule_by kinds.OptionalPositional name = word_rule name
+rule_by kinds.Text name = text_rule name
+rule_by kinds.Way name = way_rule name
+rule_by kinds.Flag name = flag_rule name
+rule_by (kinds.Number parser) name = parsed_rule name parser
+rule_by (kinds.RequiredNumber parser) name = record (parsed_rule name parser) { required = true }
 
 abbrev pub rule_for : Argument → Rule
-rule_for argument = rule_by argument.0 argument.1.now
+rule_for argument = rule_by argument.kind argument.name.now
 
 -- a command with these arguments, in order
 abbrev pub with_all : App → List Argument → App

@@ -6,7 +6,7 @@ use Rattle.clap.specs.declared.error.kind.ErrorKind.TheVariants.{OutOfMemory}
 use Rattle.command_line.specs.declared.faults.LineFault.{LineFault}
 use Rattle.command_line.specs.declared.faults.LineFault.TheVariants.{Refused, Values, NoMemory}
 
--- the fault of an error of clap's: the error as it is, or memory just where it is of that kind
+-- the fault of an error of clap's: the error as it is, or memory exactly where it is of that kind
 abbrev pub IsOfClap : Error → LineFault → Type 0
 IsOfClap error (Refused told) = (told ≡ error) × (kind_of error ≢ OutOfMemory)
 IsOfClap error (Values why) = ⊥

@@ -12,19 +12,19 @@ use Rattle.addresses.specs.declared.transport.Protocol.TheVariants.{Icmp, Tcp, U
 use Rattle.nat_types.specs.declared.pairs.EntryState.{EntryState}
 use Rattle.nat_types.specs.declared.pairs.EntryState.TheVariants.{Pending, Doomed, Live, Closing, Held}
 use Rattle.command_line.specs.Values.{IsReadIf, flag_of}
-use Rattle.command_line.specs.declared.words.Form.{Form}
-use Rattle.command_line.specs.declared.words.Form.TheVariants.{Plain, Json, Prometheus}
+use Rattle.command_line.specs.declared.words.StatusFormat.{StatusFormat}
+use Rattle.command_line.specs.declared.words.StatusFormat.TheVariants.{Plain, Json, Prometheus}
 
 -- ---- a state
 
 -- the form that two flags say, if it is one
-abbrev pub form_of : Bool → Bool → Option Form
+abbrev pub form_of : Bool → Bool → Option StatusFormat
 form_of false false = Some Plain
 form_of true false = Some Json
 form_of false true = Some Prometheus
 form_of true true = None
 
-abbrev pub form_in : List Row → Option Form
+abbrev pub form_in : List Row → Option StatusFormat
 form_in rows = form_of (flag_of (codes "json") rows) (flag_of (codes "prometheus") rows)
 
 -- whether it is waited for, by the word at `--until`: only `synced` can be

@@ -113,11 +113,6 @@ is_named name = list_any (bytes_eq name)
     (codes "init" ∷ codes "check" ∷ codes "gate" ∷ codes "status" ∷ codes "pairs" ∷ codes "stop" ∷ codes "peer-off" ∷ codes "side"
     ∷ codes "sim" ∷ codes "loop" ∷ [])
 
--- one of those whose values always go together
-abbrev pub is_plain : Text → Bool
-is_plain name = list_any (bytes_eq name)
-    (codes "init" ∷ codes "check" ∷ codes "stop" ∷ codes "peer-off" ∷ codes "sim" ∷ codes "loop" ∷ [])
-
 -- one of the commands was entered
 abbrev pub Enters : Option (Text × List Row) → Type 0
 Enters None = ⊥

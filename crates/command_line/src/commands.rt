@@ -1,4 +1,4 @@
-//! The command line, as `clap` is told of it.
+//! The command line as a `clap` command.
 ghost use Rattle.std.specs.Prelude.{IfOk};
 ghost use Rattle.clap.specs.Words.{App, with_rule, with_subcommand};
 ghost use Rattle.command_line.specs.Arguments.{TakesSo, app_in, rule_for};
@@ -10,7 +10,7 @@ use crate::outlines::{Outline, outlines};
 use clap::Command;
 use std::alloc::{AllocError, Global};
 
-/// A command that takes an argument more.
+/// Adds an argument to a command.
 fn with_argument<'a>(
     command: Command<'a>,
     alloc: Global,
@@ -22,7 +22,7 @@ fn with_argument<'a>(
     command.arg(argument.arg(alloc))
 }
 
-/// A program that has a command more.
+/// Adds a command to the program.
 fn with_command<'a>(program: Command<'a>, command: Command<'a>) -> Result<Command<'a>, AllocError>
     ensures { IfOk result (λ c. (a b : App) → TakesSo program.entry a → TakesSo command.entry b
         → TakesSo c (with_subcommand a b.top)) }
@@ -30,14 +30,18 @@ fn with_command<'a>(program: Command<'a>, command: Command<'a>) -> Result<Comman
     program.subcommand(command)
 }
 
-/// A command whose help has these texts.
-fn with_texts<'a>(command: Command<'a>, about: &'static str, below: &'static str) -> Command<'a>
+/// Sets the texts above and below the options in a command's help.
+fn with_texts<'a>(
+    command: Command<'a>,
+    about: &'static str,
+    after_help: &'static str,
+) -> Command<'a>
     ensures { (a : App) → TakesSo command.entry a → TakesSo result a }
 {
-    command.about(about).after_help(below)
+    command.about(about).after_help(after_help)
 }
 
-/// A command that wants one of those below it, and has a version.
+/// Requires one of the program's commands, and gives the program a version.
 fn wanting_command<'a>(command: Command<'a>) -> Command<'a>
     ensures { (a : App) → TakesSo command.entry a → TakesSo result (wanting_command a) }
 {
@@ -47,7 +51,7 @@ fn wanting_command<'a>(command: Command<'a>) -> Command<'a>
         .subcommand_required(true)
 }
 
-/// The command of an outline.
+/// Returns the command of an outline.
 fn command<'a>(alloc: Global, outline: &Outline<'static>) -> Result<Command<'a>, AllocError>
     ensures { IfOk result (λ c. TakesSo c (app_in outline.now)) }
 {
@@ -55,10 +59,10 @@ fn command<'a>(alloc: Global, outline: &Outline<'static>) -> Result<Command<'a>,
     for argument in outline.arguments {
         command = with_argument(command, alloc, argument)?;
     }
-    Ok(with_texts(command, outline.about, outline.below))
+    Ok(with_texts(command, outline.about, outline.after_help))
 }
 
-/// The command line: the program with all its commands, what its help says, and its version.
+/// Returns the program's command line: its commands, its help and its version.
 pub(crate) fn line<'a>(alloc: Global) -> Result<Command<'a>, AllocError>
     ensures { IfOk result (λ c. TakesSo c line_app) }
 {

@@ -1,42 +1,43 @@
-//! Why words are no command line.
+//! The faults of a command line.
 
 use clap::error::ErrorKind;
 use std::alloc::{AllocError, Global};
 use std::io::Write;
 use thiserror::Error;
 
-/// What is wrong with the values of a command, each of which `clap` takes.
+/// A fault of a command's values, each of which `clap` accepts.
 #[derive(Clone, Copy, Debug, Error)]
 pub enum ValueFault {
-    /// `--found` stands beside `--id 1`: only gateway 0 founds the pair.
+    /// `gate` has `--found` beside `--id 1`: only gateway 0 founds the pair.
     #[error("found needs id 0")]
     FoundNeedsIdZero,
-    /// The words of `side` name no side, or don't say whether its cable is in or out.
+    /// `side` has a word for no side, or neither `up` nor `down`.
     #[error("side needs inside or outside, and up or down")]
     NoSide,
-    /// `status` is to be written in two forms, or waited for until something else than `synced`.
+    /// `status` has two formats, or a word other than `synced` at `--until`.
     #[error("status takes json or prometheus, and until synced")]
     NoStatus,
-    /// The words of `pairs` are no protocol, no address or no state.
+    /// `pairs` has a word for no protocol, no address or no state.
     #[error("pairs takes icmp, tcp or udp, an IPv4 address, and a state as in --state held")]
     NoFilter,
 }
 
-/// Why words are no command line of the program.
+/// The reason for which words are no command line of the program.
 #[derive(Debug, Drop, Error)]
 pub enum LineFault {
-    /// `clap` refuses the words, or they ask for help: its text is what the user is shown.
+    /// `clap` refuses the words, or they ask for help: its text is for the user.
     #[error("{0}")]
     Refused(clap::Error),
-    /// `clap` takes them, but a command's values don't go together.
+    /// `clap` accepts the words, and the values of their command don't go together.
     #[error("{0}")]
     Values(ValueFault),
+    /// Out of memory.
     #[error("memory 1 NoMemory")]
     NoMemory,
 }
 
 impl LineFault {
-    /// The status that the program ends with.
+    /// Returns the exit status of the program.
     pub fn status(&self) -> u8 {
         match self {
             LineFault::NoMemory => 1,
@@ -44,8 +45,9 @@ impl LineFault {
         }
     }
 
-    /// Writes `clap`'s text as it is, else a line behind `natpair: `, by one write, and gives the status that the program ends
-    /// with. Where there is no memory for the text, a line that says so stands in its place.
+    /// Writes `clap`'s text unchanged, or a line that begins with `natpair: `, in one write, and returns the exit
+    /// status of the program. Out of memory for the text, it writes the line for
+    /// `NoMemory` instead.
     pub fn report<E: Write>(&self, alloc: Global, errors: &mut E) -> u8 {
         let text = match self {
             LineFault::Refused(error) => format!(in alloc; "{error}"),
@@ -75,7 +77,7 @@ impl From<clap::Error> for LineFault {
 
     ghost from_gives = { λ error fault. IsOfClap error fault };
 
-    /// What `clap` refuses is told as it does; want of memory as the program's own.
+    /// Returns `NoMemory` where `clap` was out of memory, or else `Refused` with its error.
     fn from(error: clap::Error) -> LineFault {
         match error.kind() {
             ErrorKind::OutOfMemory => LineFault::NoMemory,

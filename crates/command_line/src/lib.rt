@@ -1,4 +1,4 @@
-//! The command line of `natpair`: its commands, their options, and the task that words ask for.
+//! The command line of `natpair`: its commands, their options, and the task that the words ask for.
 #![tactic(auto)]
 
 mod commands;
@@ -15,5 +15,5 @@ pub use faults::{LineFault, ValueFault};
 pub use tasks::{Task, command};
 pub use versions::VERSION;
 pub use words::{
-    CheckWords, Form, GateWords, PairsWords, PeerOffWords, RunWords, StatusWords, WayWords,
+    CheckWords, GateWords, PairsWords, PeerOffWords, RunWords, StatusFormat, StatusWords, WayWords,
 };

@@ -1,9 +1,9 @@
-//! The task that words ask for.
+//! The task that the words of a command line ask for.
 ghost use Rattle.std.specs.Prelude.{◌≡◌, codes, string_bytes, map, option_map, true, IfOk, IfErr, OnOk};
 ghost use Rattle.clap.specs.Words.{found_of, rows_of, subcommand_rows_of};
 ghost use Rattle.command_line.specs.Line.{Takes, entered_by};
 ghost use Rattle.command_line.specs.Values.{HasId, IsId};
-ghost use Rattle.command_line.specs.Tasks.{AreFiles, AreWays, AreWrong, Asks, Enters, HasNumbers, IsCheck, IsEntered, IsEnteredFaulty, IsFaulty, IsGate, IsPeerOff, IsTask, Numbered, Refuses, RefusesAs, RefusesEntered, RefusesValues, RefusesWords, is_named, is_plain, wants_id};
+ghost use Rattle.command_line.specs.Tasks.{AreFiles, AreWays, AreWrong, Asks, Enters, HasNumbers, IsCheck, IsEntered, IsEnteredFaulty, IsFaulty, IsGate, IsPeerOff, IsTask, Numbered, Refuses, RefusesAs, RefusesEntered, RefusesValues, RefusesWords, is_named, wants_id};
 ghost use Rattle.command_line.specs.declared.faults.ValueFault.{ValueFault as Why};
 ghost use Rattle.command_line.specs.declared.faults.ValueFault.TheVariants.{FoundNeedsIdZero, NoFilter, NoSide, NoStatus};
 
@@ -17,65 +17,141 @@ use clap::error::ErrorKind;
 use nat_types::{GatewayId, Side};
 use std::alloc::{AllocError, Global};
 
-/// What a command line asks for. Files are paths.
+/// A task of the program, by its command. Files are paths.
 #[derive(Debug, Drop)]
 pub enum Task {
     /// Create a boot file.
     Init(String),
-    /// Say what is wrong with settings.
+    /// Check settings, or compare them with others.
     Check(CheckWords),
-    /// Run one gateway with settings.
+    /// Run one gateway.
     Gate(GateWords),
-    /// Write what a running gateway says of itself.
+    /// Write the report of a running gateway.
     Status(StatusWords),
     /// List the pairs of a running gateway.
     Pairs(PairsWords),
-    /// Tell a running gateway to end.
+    /// Stop a running gateway.
     Stop(String, GatewayId),
-    /// Tell a running gateway that a boot of its peer has ended for good.
+    /// Say to a running gateway that a boot of its peer has ended for good.
     PeerOff(PeerOffWords),
-    /// Tell a running gateway that a side is up, or that it is down.
+    /// Say to a running gateway that a side is up, or down.
     Side {
         settings: String,
         id: GatewayId,
         side: Side,
         up: bool,
     },
-    /// Run a script with settings and print it.
+    /// Run a script, and print its steps.
     Sim(RunWords),
-    /// The same, with frames and datagrams sent through loopback sockets.
+    /// Run a script with each frame and datagram sent through a loopback socket, and print its steps.
     Loop(RunWords),
-    /// Say the program's version.
+    /// Print the version of the program.
     Version,
 }
 
-/// What is to be looked at of settings.
+/// Returns the task of a command line's words, of which the first is the program's name.
+///
+/// # Errors
+///
+/// `Refused` where `clap` refuses the words or they ask for help: a number that is missing or beyond its limits, too.
+/// Words that ask for the version are a task. `Values` where the values of the command don't go together; `NoMemory`.
+pub fn command(alloc: Global, words: &[String]) -> Result<Task, LineFault>
+    ensures ok { IfOk result (Asks (map string_bytes words.now)) }
+    ensures err { IfErr result (Refuses (map string_bytes words.now)) }
+{
+    match parse(alloc, words) {
+        Ok(matches) => entered_task(alloc, &matches),
+        Err(LineFault::Refused(error)) if error.kind() == ErrorKind::DisplayVersion => {
+            Ok(Task::Version)
+        }
+        Err(fault) => Err(fault),
+    }
+}
+
+/// Returns the matches of `clap` for the words.
+fn parse<'a>(alloc: Global, words: &'a [String]) -> Result<ArgMatches<'a>, LineFault>
+    ensures taken { IfOk result (λ _. Takes (map string_bytes words.now)) }
+    ensures values { IfOk result (λ m. subcommand_rows_of m
+        ≡ entered_by (map string_bytes words.now)) }
+    ensures one { IfOk result (λ m. Enters (subcommand_rows_of m)) }
+    ensures numbers { IfOk result (λ m. Numbered (subcommand_rows_of m)) }
+    ensures err { IfErr result (RefusesWords (map string_bytes words.now)) }
+{
+    let line = commands::line(alloc)?;
+    match line.try_get_matches_from(words) {
+        Ok(matches) => Ok(matches),
+        Err(error) => Err(LineFault::from(error)),
+    }
+}
+
+/// Returns the task of the command that the words enter.
+fn entered_task(alloc: Global, matches: &ArgMatches<'_>) -> Result<Task, LineFault>
+    requires one { Enters (subcommand_rows_of matches.now) }
+    requires numbers { Numbered (subcommand_rows_of matches.now) }
+    ensures ok { IfOk result (IsEntered (subcommand_rows_of matches.now)) }
+    ensures sound { OnOk result ((why : Why)
+        → ¬ (IsEnteredFaulty (subcommand_rows_of matches.now) why)) }
+    ensures err { IfErr result (RefusesEntered (subcommand_rows_of matches.now)) }
+{
+    match entered(matches) {
+        Some((name, values)) => task_of(alloc, name, values),
+        None => unreachable!(),
+    }
+}
+
+/// Returns the name of the command that the words enter, and its matches.
+fn entered<'m, 'a>(matches: &'m ArgMatches<'a>) -> Option<(&'a str, &'m ArgMatches<'a>)>
+    ensures { option_map (λ p. (p.0.now, rows_of (found_of p.1.now))) result
+        ≡ subcommand_rows_of matches.now }
+{
+    matches.subcommand()
+}
+
+/// Returns the task of the command of this name.
+fn task_of(alloc: Global, name: &str, matches: &ArgMatches<'_>) -> Result<Task, LineFault>
+    requires named { is_named name.now ≡ true }
+    requires numbers { HasNumbers (rows_of (found_of matches.now)) }
+    requires id { wants_id name.now ≡ true → HasId (rows_of (found_of matches.now)) }
+    ensures ok { IfOk result (IsTask name.now (rows_of (found_of matches.now))) }
+    ensures sound { OnOk result ((why : Why)
+        → ¬ (IsFaulty name.now (rows_of (found_of matches.now)) why)) }
+    ensures err { IfErr result (RefusesValues name.now (rows_of (found_of matches.now))) }
+{
+    match name {
+        "init" => Ok(Task::Init(values::word(alloc, matches, "FILE")?)),
+        "check" => Ok(Task::Check(check(alloc, matches)?)),
+        "gate" => gate(alloc, matches),
+        "status" => status(alloc, matches),
+        "pairs" => pairs(alloc, matches),
+        "stop" => {
+            let settings = values::word(alloc, matches, "SETTINGS")?;
+            Ok(Task::Stop(settings, values::required_id(matches)))
+        }
+        "peer-off" => Ok(Task::PeerOff(peer_off(alloc, matches)?)),
+        "side" => side(alloc, matches),
+        "sim" => Ok(Task::Sim(run_words(alloc, matches)?)),
+        "loop" => Ok(Task::Loop(run_words(alloc, matches)?)),
+        _ => unreachable!(),
+    }
+}
+
+/// Returns the values of `check`.
 fn check(alloc: Global, matches: &ArgMatches<'_>) -> Result<CheckWords, AllocError>
     requires { HasNumbers (rows_of (found_of matches.now)) }
     ensures words { IfOk result (IsCheck (rows_of (found_of matches.now))) }
 {
     Ok(CheckWords {
         settings: values::word(alloc, matches, "SETTINGS")?,
-        other: values::word_if(alloc, matches, "OTHER")?,
-        inside: values::word_if(alloc, matches, "inside")?,
-        outside: values::word_if(alloc, matches, "outside")?,
-        link: values::word_if(alloc, matches, "link")?,
-        id: values::id_if(matches),
+        other: values::optional_word(alloc, matches, "OTHER")?,
+        inside: values::optional_word(alloc, matches, "inside")?,
+        outside: values::optional_word(alloc, matches, "outside")?,
+        link: values::optional_word(alloc, matches, "link")?,
+        id: values::optional_id(matches),
         strict: values::flag(matches, "strict"),
     })
 }
 
-fn ways(alloc: Global, matches: &ArgMatches<'_>) -> Result<WayWords, AllocError>
-    ensures words { IfOk result (AreWays (rows_of (found_of matches.now))) }
-{
-    Ok(WayWords {
-        inside: values::word(alloc, matches, "inside")?,
-        outside: values::word(alloc, matches, "outside")?,
-        link: values::word(alloc, matches, "link")?,
-    })
-}
-
-/// The gateway to run: only gateway 0 founds the pair.
+/// Returns the task of `gate`. Only gateway 0 founds the pair.
 fn gate(alloc: Global, matches: &ArgMatches<'_>) -> Result<Task, LineFault>
     requires numbers { HasNumbers (rows_of (found_of matches.now)) }
     requires id { HasId (rows_of (found_of matches.now)) }
@@ -83,7 +159,7 @@ fn gate(alloc: Global, matches: &ArgMatches<'_>) -> Result<Task, LineFault>
     ensures sound { OnOk result (¬ (AreWrong (rows_of (found_of matches.now)) FoundNeedsIdZero)) }
     ensures err { IfErr result (RefusesAs FoundNeedsIdZero (rows_of (found_of matches.now))) }
 {
-    let id = values::gateway(matches);
+    let id = values::required_id(matches);
     let found = values::flag(matches, "found");
     if found && id == GatewayId::One {
         return Err(LineFault::Values(ValueFault::FoundNeedsIdZero));
@@ -92,7 +168,7 @@ fn gate(alloc: Global, matches: &ArgMatches<'_>) -> Result<Task, LineFault>
     Ok(Task::Gate(gate))
 }
 
-/// What the words say of the gateway to run.
+/// Returns the values of `gate` for this gateway.
 fn gate_words(
     alloc: Global,
     matches: &ArgMatches<'_>,
@@ -106,11 +182,11 @@ fn gate_words(
     Ok(GateWords {
         ways: ways(alloc, matches)?,
         settings: values::word(alloc, matches, "SETTINGS")?,
-        log: values::word_if(alloc, matches, "log")?,
-        capture: values::word_if(alloc, matches, "capture")?,
-        notify: values::word_if(alloc, matches, "notify")?,
+        log: values::optional_word(alloc, matches, "log")?,
+        capture: values::optional_word(alloc, matches, "capture")?,
+        notify: values::optional_word(alloc, matches, "notify")?,
         id,
-        rounds: values::short_if(matches, "rounds"),
+        rounds: values::optional_u32(matches, "rounds"),
         until_eof: values::flag(matches, "until-eof"),
         found: values::flag(matches, "found"),
         track: !values::flag(matches, "no-track"),
@@ -119,7 +195,18 @@ fn gate_words(
     })
 }
 
-/// What is asked of a gateway's state: in one form, and until nothing but `synced`.
+/// Returns the ways of `gate`.
+fn ways(alloc: Global, matches: &ArgMatches<'_>) -> Result<WayWords, AllocError>
+    ensures words { IfOk result (AreWays (rows_of (found_of matches.now))) }
+{
+    Ok(WayWords {
+        inside: values::word(alloc, matches, "inside")?,
+        outside: values::word(alloc, matches, "outside")?,
+        link: values::word(alloc, matches, "link")?,
+    })
+}
+
+/// Returns the task of `status`. The words ask for at most one format, and wait for nothing but `synced`.
 fn status(alloc: Global, matches: &ArgMatches<'_>) -> Result<Task, LineFault>
     requires numbers { HasNumbers (rows_of (found_of matches.now)) }
     requires id { HasId (rows_of (found_of matches.now)) }
@@ -127,8 +214,8 @@ fn status(alloc: Global, matches: &ArgMatches<'_>) -> Result<Task, LineFault>
     ensures sound { OnOk result (¬ (AreWrong (rows_of (found_of matches.now)) NoStatus)) }
     ensures err { IfErr result (RefusesAs NoStatus (rows_of (found_of matches.now))) }
 {
-    let id = values::gateway(matches);
-    let Some(form) = filters::form(matches) else {
+    let id = values::required_id(matches);
+    let Some(form) = filters::status_format(matches) else {
         return Err(LineFault::Values(ValueFault::NoStatus));
     };
     let Some(until_synced) = filters::until_synced(matches) else {
@@ -140,11 +227,11 @@ fn status(alloc: Global, matches: &ArgMatches<'_>) -> Result<Task, LineFault>
         id,
         form,
         until_synced,
-        seconds: values::short_if(matches, "seconds"),
+        seconds: values::optional_u32(matches, "seconds"),
     }))
 }
 
-/// Which pairs are listed.
+/// Returns the task of `pairs`. The word at each filter names a protocol, an address or a state.
 fn pairs(alloc: Global, matches: &ArgMatches<'_>) -> Result<Task, LineFault>
     requires numbers { HasNumbers (rows_of (found_of matches.now)) }
     requires id { HasId (rows_of (found_of matches.now)) }
@@ -152,7 +239,7 @@ fn pairs(alloc: Global, matches: &ArgMatches<'_>) -> Result<Task, LineFault>
     ensures sound { OnOk result (¬ (AreWrong (rows_of (found_of matches.now)) NoFilter)) }
     ensures err { IfErr result (RefusesAs NoFilter (rows_of (found_of matches.now))) }
 {
-    let id = values::gateway(matches);
+    let id = values::required_id(matches);
     let Some(protocol) = filters::protocol(matches) else {
         return Err(LineFault::Values(ValueFault::NoFilter));
     };
@@ -173,17 +260,7 @@ fn pairs(alloc: Global, matches: &ArgMatches<'_>) -> Result<Task, LineFault>
     }))
 }
 
-/// The gateway that is to end.
-fn stop(alloc: Global, matches: &ArgMatches<'_>) -> Result<Task, AllocError>
-    requires { HasId (rows_of (found_of matches.now)) }
-    ensures task { IfOk result (IsTask (codes "stop") (rows_of (found_of matches.now))) }
-{
-    let id = values::gateway(matches);
-    let settings = values::word(alloc, matches, "SETTINGS")?;
-    Ok(Task::Stop(settings, id))
-}
-
-/// What the gateway is told of its peer.
+/// Returns the values of `peer-off`.
 fn peer_off(alloc: Global, matches: &ArgMatches<'_>) -> Result<PeerOffWords, AllocError>
     requires numbers { HasNumbers (rows_of (found_of matches.now)) }
     requires id { HasId (rows_of (found_of matches.now)) }
@@ -191,23 +268,24 @@ fn peer_off(alloc: Global, matches: &ArgMatches<'_>) -> Result<PeerOffWords, All
 {
     Ok(PeerOffWords {
         settings: values::word(alloc, matches, "SETTINGS")?,
-        id: values::gateway(matches),
-        boot: values::long_if(matches, "boot"),
+        id: values::required_id(matches),
+        boot: values::optional_u64(matches, "boot"),
         force: values::flag(matches, "force"),
     })
 }
 
+/// Returns the task of `side`. The words name a side, and whether it is up.
 fn side(alloc: Global, matches: &ArgMatches<'_>) -> Result<Task, LineFault>
     requires { HasId (rows_of (found_of matches.now)) }
     ensures ok { IfOk result (IsTask (codes "side") (rows_of (found_of matches.now))) }
     ensures sound { OnOk result (¬ (AreWrong (rows_of (found_of matches.now)) NoSide)) }
     ensures err { IfErr result (RefusesAs NoSide (rows_of (found_of matches.now))) }
 {
-    let id = values::gateway(matches);
+    let id = values::required_id(matches);
     let Some(side) = values::side(matches) else {
         return Err(LineFault::Values(ValueFault::NoSide));
     };
-    let Some(up) = values::state(matches) else {
+    let Some(up) = values::is_up(matches) else {
         return Err(LineFault::Values(ValueFault::NoSide));
     };
     let settings = values::word(alloc, matches, "SETTINGS")?;
@@ -219,106 +297,13 @@ fn side(alloc: Global, matches: &ArgMatches<'_>) -> Result<Task, LineFault>
     })
 }
 
-fn files(alloc: Global, matches: &ArgMatches<'_>) -> Result<RunWords, AllocError>
+/// Returns the files of `sim` and `loop`.
+fn run_words(alloc: Global, matches: &ArgMatches<'_>) -> Result<RunWords, AllocError>
     ensures words { IfOk result (AreFiles (rows_of (found_of matches.now))) }
 {
     Ok(RunWords {
         settings: values::word(alloc, matches, "SETTINGS")?,
         script: values::word(alloc, matches, "SCRIPT")?,
-        capture: values::word_if(alloc, matches, "capture")?,
+        capture: values::optional_word(alloc, matches, "capture")?,
     })
-}
-
-/// The command that a line entered, and its values.
-fn entered<'m, 'a>(matches: &'m ArgMatches<'a>) -> Option<(&'a str, &'m ArgMatches<'a>)>
-    ensures { option_map (λ p. (p.0.now, rows_of (found_of p.1.now))) result
-        ≡ subcommand_rows_of matches.now }
-{
-    matches.subcommand()
-}
-
-/// The task of a command whose values always go together.
-fn plain(alloc: Global, name: &str, matches: &ArgMatches<'_>) -> Result<Task, AllocError>
-    requires plain { is_plain name.now ≡ true }
-    requires numbers { HasNumbers (rows_of (found_of matches.now)) }
-    requires id { wants_id name.now ≡ true → HasId (rows_of (found_of matches.now)) }
-    ensures task { IfOk result (IsTask name.now (rows_of (found_of matches.now))) }
-{
-    match name {
-        "init" => Ok(Task::Init(values::word(alloc, matches, "FILE")?)),
-        "check" => Ok(Task::Check(check(alloc, matches)?)),
-        "stop" => stop(alloc, matches),
-        "peer-off" => Ok(Task::PeerOff(peer_off(alloc, matches)?)),
-        "sim" => Ok(Task::Sim(files(alloc, matches)?)),
-        "loop" => Ok(Task::Loop(files(alloc, matches)?)),
-        _ => unreachable!(),
-    }
-}
-
-fn named(alloc: Global, name: &str, matches: &ArgMatches<'_>) -> Result<Task, LineFault>
-    requires named { is_named name.now ≡ true }
-    requires numbers { HasNumbers (rows_of (found_of matches.now)) }
-    requires id { wants_id name.now ≡ true → HasId (rows_of (found_of matches.now)) }
-    ensures ok { IfOk result (IsTask name.now (rows_of (found_of matches.now))) }
-    ensures sound { OnOk result ((why : Why)
-        → ¬ (IsFaulty name.now (rows_of (found_of matches.now)) why)) }
-    ensures err { IfErr result (RefusesValues name.now (rows_of (found_of matches.now))) }
-{
-    match name {
-        "gate" => gate(alloc, matches),
-        "status" => status(alloc, matches),
-        "pairs" => pairs(alloc, matches),
-        "side" => side(alloc, matches),
-        _ => Ok(plain(alloc, name, matches)?),
-    }
-}
-
-fn of_matches(alloc: Global, matches: &ArgMatches<'_>) -> Result<Task, LineFault>
-    requires one { Enters (subcommand_rows_of matches.now) }
-    requires numbers { Numbered (subcommand_rows_of matches.now) }
-    ensures ok { IfOk result (IsEntered (subcommand_rows_of matches.now)) }
-    ensures sound { OnOk result ((why : Why)
-        → ¬ (IsEnteredFaulty (subcommand_rows_of matches.now) why)) }
-    ensures err { IfErr result (RefusesEntered (subcommand_rows_of matches.now)) }
-{
-    match entered(matches) {
-        Some((name, values)) => named(alloc, name, values),
-        None => unreachable!(),
-    }
-}
-
-/// The matches of all commands.
-fn parse<'a>(alloc: Global, words: &'a [String]) -> Result<ArgMatches<'a>, LineFault>
-    ensures taken { IfOk result (λ _. Takes (map string_bytes words.now)) }
-    ensures values { IfOk result (λ m. subcommand_rows_of m
-        ≡ entered_by (map string_bytes words.now)) }
-    ensures one { IfOk result (λ m. Enters (subcommand_rows_of m)) }
-    ensures numbers { IfOk result (λ m. Numbered (subcommand_rows_of m)) }
-    ensures err { IfErr result (RefusesWords (map string_bytes words.now)) }
-{
-    let line = commands::line(alloc)?;
-    match line.try_get_matches_from(words) {
-        Ok(matches) => Ok(matches),
-        Err(error) => Err(LineFault::from(error)),
-    }
-}
-
-/// The task that the words of a command line ask for, the program's name first.
-///
-/// # Errors
-///
-/// What `clap` refuses, a request for help too, is `Refused` with its text; only where it would tell the version that is the
-/// task. Of what it takes, values that don't go together are `Values`. A number that is missing or beyond its limits `clap`
-/// refuses.
-pub fn command(alloc: Global, words: &[String]) -> Result<Task, LineFault>
-    ensures ok { IfOk result (Asks (map string_bytes words.now)) }
-    ensures err { IfErr result (Refuses (map string_bytes words.now)) }
-{
-    match parse(alloc, words) {
-        Ok(matches) => of_matches(alloc, &matches),
-        Err(LineFault::Refused(error)) if error.kind() == ErrorKind::DisplayVersion => {
-            Ok(Task::Version)
-        }
-        Err(fault) => Err(fault),
-    }
 }

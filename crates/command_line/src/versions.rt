@@ -1,4 +1,4 @@
-//! What the program is.
+//! The version of the program.
 
-/// Its version.
+/// The version that `natpair --version` prints.
 pub const VERSION: &str = "0.1.0";

@@ -1,34 +1,35 @@
-//! What the words of each command say.
+//! The values of each command. Files are paths.
 use addresses::{Ip, Port, Protocol};
 use nat_types::{EntryState, GatewayId};
 
-/// The files of a run. Files are paths.
+/// The files of `sim` and `loop`.
 #[derive(Debug, Drop)]
 pub struct RunWords {
     pub settings: String,
     pub script: String,
-    /// The run is captured in this file.
+    /// The file for a capture of the run, or None for no capture.
     pub capture: Option<String>,
 }
 
-/// What is to be looked at of settings. Files are paths.
+/// The settings that `check` checks, and what is checked beside them.
 #[derive(Debug, Drop)]
 pub struct CheckWords {
     pub settings: String,
-    /// They are compared with these.
+    /// The settings to compare with, or None where nothing is compared.
     pub other: Option<String>,
-    /// The boot file and the ports of this gateway are looked at, too.
+    /// The gateway whose boot file is checked too, or None.
     pub id: Option<GatewayId>,
-    /// A warning counts as a fault.
+    /// Whether a warning makes the exit status 1, as a fault does.
     pub strict: bool,
-    /// The interfaces of the two sides, by their names.
+    /// The inside interface to check, as `eth1`, or None.
     pub inside: Option<String>,
+    /// The outside interface to check, as `eth2`, or None.
     pub outside: Option<String>,
-    /// The box's address on the link.
+    /// The box's own address on the link to check, as `10.0.0.1`, or None.
     pub link: Option<String>,
 }
 
-/// The ways of a gateway's places, as they are written.
+/// The ways of a gateway's places, as written in the command line: `loopback` where one is left out.
 #[derive(Debug, Drop)]
 pub struct WayWords {
     pub inside: String,
@@ -36,56 +37,56 @@ pub struct WayWords {
     pub link: String,
 }
 
-/// How a gateway is to be run. Files are paths.
+/// How `gate` runs a gateway.
 #[derive(Debug, Drop)]
 pub struct GateWords {
     pub settings: String,
     pub id: GatewayId,
-    /// For so many rounds; or until it is told to end.
+    /// The number of rounds, or None to run until the gateway is stopped.
     pub rounds: Option<u32>,
-    /// The end of its standard input tells it to end.
+    /// Whether the end of the standard input stops the gateway.
     pub until_eof: bool,
-    /// It founds the pair.
+    /// Whether the gateway founds the pair.
     pub found: bool,
-    /// Its places are reached by these.
     pub ways: WayWords,
-    /// It gives way by the carrier of its interfaces.
+    /// Whether a side counts as down while its interface has no carrier.
     pub track: bool,
-    /// Which records it writes, as a filter's text.
+    /// The filter of the log records, as written, or None for that of the environment.
     pub log: Option<String>,
-    /// It writes them as keys and values.
+    /// Whether the log records are written as key=value pairs.
     pub pairs: bool,
-    /// It writes where each mapping begins and ends.
+    /// Whether the begin and the end of each mapping are log records.
     pub mappings: bool,
-    /// What it takes and sends is captured in this file.
+    /// The file for a capture of all that the gateway receives and sends, or None.
     pub capture: Option<String>,
-    /// The service manager's descriptor, as it is written.
+    /// The service manager's socket, as written, or None.
     pub notify: Option<String>,
 }
 
-/// How a state is written.
+/// The format in which `status` writes a report.
 #[derive(Clone, Copy, Debug, PartialEq, Eq)]
-pub enum Form {
+pub enum StatusFormat {
     /// Lines for people.
     Plain,
+    /// One JSON object.
     Json,
-    /// Metrics for Prometheus.
+    /// Metrics in Prometheus' text format.
     Prometheus,
 }
 
-/// What is asked of a running gateway's state.
+/// The running gateway that `status` asks, and how.
 #[derive(Debug, Drop)]
 pub struct StatusWords {
     pub settings: String,
     pub id: GatewayId,
-    pub form: Form,
-    /// It is asked until the gateway is synced, and nothing is written.
+    pub form: StatusFormat,
+    /// Whether `status` asks until the gateway is synced, and writes nothing.
     pub until_synced: bool,
-    /// For so many seconds.
+    /// How long `until_synced` asks, in seconds, or None for the default.
     pub seconds: Option<u32>,
 }
 
-/// Which pairs of a running gateway are listed: those that are so in all that is given.
+/// The pairs that `pairs` lists: those that have each value that isn't None.
 #[derive(Debug, Drop)]
 pub struct PairsWords {
     pub settings: String,
@@ -98,13 +99,13 @@ pub struct PairsWords {
     pub state: Option<EntryState>,
 }
 
-/// What a running gateway is told of its peer.
+/// What `peer-off` says to a running gateway of its peer.
 #[derive(Debug, Drop)]
 pub struct PeerOffWords {
     pub settings: String,
     pub id: GatewayId,
-    /// The boot that has ended; or the one that the gateway knows.
+    /// The boot of the peer that has ended, or None for the one that the gateway knows.
     pub boot: Option<u64>,
-    /// It may be above the one that the gateway knows.
+    /// Whether `boot` may be above the one that the gateway knows.
     pub force: bool,
 }

@@ -1,4 +1,4 @@
-//! The commands.
+//! The command that the words of the command line ask for.
 
 use crate::asking::{pairs, status};
 use crate::files::{check, create_boot_file, run_loop, run_sim};
@@ -14,14 +14,16 @@ use std::net::Net;
 use std::random::RandomSource;
 use std::rt::{Clock, Env};
 
-/// Does what the program's words ask for, its name first, and gives the status that it ends with. Where `errors` is a terminal,
-/// a long script of `sim` says there every few seconds how far it is.
+/// Carries out the command that the program's words ask for, of which the first is its name, and returns the exit status.
+///
+/// `errors` is the standard error. Where it is a terminal (`is_terminal`), `sim` writes there every few seconds how much of a
+/// long script is done.
 ///
 /// | Status | |
 /// |---|---|
-/// | 0 | done |
-/// | 1 | a fault, whose line stands on `errors` as `natpair: AREA NUMBER NAME` |
-/// | 2 | the words are refused: why stands on `errors` |
+/// | 0 | the command is done |
+/// | 1 | a fault: `errors` has its line, `natpair: AREA NUMBER NAME` |
+/// | 2 | the words are no command: `errors` says why |
 /// | 3 | an event of the script was refused |
 pub fn act<
     R: Files<File = File> + Net + Clock + RandomSource + Eprint + Env + Input + AllocGlobal,
@@ -38,6 +40,7 @@ pub fn act<
     }
 }
 
+/// Carries out a task, and returns the exit status.
 fn carry_out<
     R: Files<File = File> + Net + Clock + RandomSource + Eprint + Env + Input + AllocGlobal,
     O: Write,
@@ -64,6 +67,7 @@ fn carry_out<
     Ok(0)
 }
 
+/// Returns what the words of `gate` set for the run of a box.
 fn start_of(words: &GateWords) -> Start<'_> {
     let WayWords {
         inside,

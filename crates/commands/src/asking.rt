@@ -1,7 +1,7 @@
-//! What an operator asks of a running box.
+//! The commands that ask a running box: `status` and `pairs`.
 
-use crate::words::{LONGEST, ask, control_path};
-use command_line::{Form, PairsWords, StatusWords};
+use crate::words::{MAX_REPLY, ask, control_path};
+use command_line::{PairsWords, StatusFormat, StatusWords};
 use control::{ControlPath, Reply, Word};
 use faults::Fault;
 use nat_types::Key;
@@ -13,13 +13,13 @@ use std::rt::Clock;
 use std::thread;
 use std::time::{Duration, Instant};
 
-/// How long a box is waited for where the words don't say, in seconds.
-const SECONDS: u32 = 60;
+/// How long `--until` waits for a box without `--seconds`, in seconds.
+const DEFAULT_SECONDS: u32 = 60;
 
-/// How long it rests until it is asked again, in milliseconds.
-const REST: u64 = 100;
+/// How long `--until` waits before it asks a box again, in milliseconds.
+const POLL_INTERVAL_MS: u64 = 100;
 
-/// Writes the report of a box; or waits until it is synced.
+/// Writes the report of a box, or, with `--until synced`, waits until the box is synced.
 pub(crate) fn status<R: Files + Net + Clock + AllocGlobal, O: Write>(
     rt: &R,
     words: &StatusWords,
@@ -27,23 +27,23 @@ pub(crate) fn status<R: Files + Net + Clock + AllocGlobal, O: Write>(
 ) -> Result<(), Fault> {
     let path = control_path(rt, words.settings.as_str(), words.id)?;
     if words.until_synced {
-        return await_synced(rt, &path, words.seconds.unwrap_or(SECONDS));
+        return await_synced(rt, &path, words.seconds.unwrap_or(DEFAULT_SECONDS));
     }
     let report = ask_report(rt, &path)?;
     match words.form {
-        Form::Plain => write!(output, "{}", PlainText(&report))?,
-        Form::Json => write!(output, "{}", JsonText(&report))?,
-        Form::Prometheus => write!(output, "{}", MetricsText(&report))?,
+        StatusFormat::Plain => write!(output, "{}", PlainText(&report))?,
+        StatusFormat::Json => write!(output, "{}", JsonText(&report))?,
+        StatusFormat::Prometheus => write!(output, "{}", MetricsText(&report))?,
     }
     output.flush()?;
     Ok(())
 }
 
-/// Asks a box until it is synced. After so many seconds, or where the clock can't be read, it is asked once more.
+/// Asks a box again and again until it is synced, for so many seconds; once if the clock can't be read.
 ///
 /// # Errors
 ///
-/// The last fault, `NotSynced` where it isn't.
+/// The fault of the last time: `NotSynced`, or why the box couldn't be asked.
 fn await_synced<R: Net + Clock + AllocGlobal>(
     rt: &R,
     path: &ControlPath,
@@ -51,18 +51,20 @@ fn await_synced<R: Net + Clock + AllocGlobal>(
 ) -> Result<(), Fault> {
     let start = Instant::now(rt).ok();
     let limit = Duration::from_secs(u64::from(seconds));
+    // A loop without an end that is proved to end.
     for _ in 0..u64::MAX {
         let passed = start.and_then(|start| start.elapsed(rt).ok());
         let is_last = passed.is_none_or(|passed| limit <= passed);
         match check_synced(rt, path) {
             Ok(()) => return Ok(()),
             Err(fault) if is_last => return Err(fault),
-            Err(_) => thread::sleep(rt, Duration::from_millis(REST)),
+            Err(_) => thread::sleep(rt, Duration::from_millis(POLL_INTERVAL_MS)),
         }
     }
     check_synced(rt, path)
 }
 
+/// Checks that a box is synced.
 fn check_synced<R: Net + AllocGlobal>(rt: &R, path: &ControlPath) -> Result<(), Fault> {
     if ask_report(rt, path)?.gateway.synced {
         Ok(())
@@ -71,14 +73,15 @@ fn check_synced<R: Net + AllocGlobal>(rt: &R, path: &ControlPath) -> Result<(), 
     }
 }
 
+/// Asks a box for its report.
 fn ask_report<R: Net + AllocGlobal>(rt: &R, path: &ControlPath) -> Result<Report, Fault> {
-    match ask(rt, path, Word::Status, &mut [0; LONGEST])? {
+    match ask(rt, path, Word::Status, &mut [0; MAX_REPLY])? {
         Reply::Report(bytes) => Ok(Report::read(bytes)?),
         _ => Err(Fault::no_control(rt.alloc(), path)),
     }
 }
 
-/// Lists the pairs of a box that pass a filter, page after page, in the order of its table.
+/// Writes the pairs of a box that pass a filter, page after page, in the order of its table.
 pub(crate) fn pairs<R: Files + Net + AllocGlobal, O: Write>(
     rt: &R,
     words: &PairsWords,
@@ -104,13 +107,13 @@ pub(crate) fn pairs<R: Files + Net + AllocGlobal, O: Write>(
     Ok(())
 }
 
-/// The page of pairs behind a key, or the first one.
+/// Asks a box for a page of its pairs: the one that follows a key, or the first one.
 fn ask_page<R: Net + AllocGlobal>(
     rt: &R,
     path: &ControlPath,
     after: Option<Key>,
 ) -> Result<Page, Fault> {
-    match ask(rt, path, Word::Pairs(after), &mut [0; LONGEST])? {
+    match ask(rt, path, Word::Pairs(after), &mut [0; MAX_REPLY])? {
         Reply::Page(bytes) => Ok(Page::read(bytes)?),
         _ => Err(Fault::no_control(rt.alloc(), path)),
     }

@@ -1,11 +1,10 @@
-//! What is done with files: boot files are made, settings are checked, and scripts run.
+//! The commands on files: `init`, `check`, `sim` and `loop`.
 
 use crate::meters::Meter;
 use boot_file::create;
-use checks::{Request, compare};
+use checks::{CheckOptions, compare};
 use command_line::{CheckWords, RunWords};
 use faults::{Fault, read_text};
-use simulation::{looped, sim};
 use std::fs::{File, Files};
 use std::io::Write;
 use std::net::Net;
@@ -19,7 +18,7 @@ pub(crate) fn create_boot_file<R: Files<File = File> + AllocGlobal>(
     create(rt, path).map_err(|fault| Fault::boot_file(rt.alloc(), path, fault))
 }
 
-/// Checks settings, or compares them with others.
+/// Checks settings, or compares them with others, and returns the exit status.
 pub(crate) fn check<R: Files<File = File> + AllocGlobal, O: Write, E: Write>(
     rt: &R,
     words: &CheckWords,
@@ -31,17 +30,17 @@ pub(crate) fn check<R: Files<File = File> + AllocGlobal, O: Write, E: Write>(
         return compare(rt, settings, other.as_str(), output, errors);
     }
     let text = read_text(rt, settings)?;
-    let request = Request {
+    let options = CheckOptions {
         id: words.id,
         strict: words.strict,
         inside: words.inside.as_deref(),
         outside: words.outside.as_deref(),
         link: words.link.as_deref(),
     };
-    checks::check(rt, text.as_str(), &request, output)
+    checks::check(rt, text.as_str(), &options, output)
 }
 
-/// Runs a script, and says on a terminal how far it is.
+/// Runs a script, writes to a terminal how much of it is done, and returns the exit status.
 pub(crate) fn run_sim<R: Files<File = File> + Clock + AllocGlobal, O: Write, E: Write>(
     rt: &R,
     words: &RunWords,
@@ -52,7 +51,7 @@ pub(crate) fn run_sim<R: Files<File = File> + Clock + AllocGlobal, O: Write, E: 
     let settings = read_text(rt, words.settings.as_str())?;
     let script = read_text(rt, words.script.as_str())?;
     let mut meter = Meter::start(rt, errors, is_terminal);
-    sim::run(
+    simulation::run_sim(
         rt,
         settings.as_str(),
         script.as_str(),
@@ -62,7 +61,7 @@ pub(crate) fn run_sim<R: Files<File = File> + Clock + AllocGlobal, O: Write, E: 
     )
 }
 
-/// Runs a script through sockets on the loopback address.
+/// Runs a script through sockets on the loopback address, and returns the exit status.
 pub(crate) fn run_loop<R: Files<File = File> + Net + Clock + AllocGlobal, O: Write>(
     rt: &R,
     words: &RunWords,
@@ -70,7 +69,7 @@ pub(crate) fn run_loop<R: Files<File = File> + Net + Clock + AllocGlobal, O: Wri
 ) -> Result<u8, Fault> {
     let settings = read_text(rt, words.settings.as_str())?;
     let script = read_text(rt, words.script.as_str())?;
-    looped::run(
+    simulation::run_loop(
         rt,
         settings.as_str(),
         script.as_str(),

@@ -1,4 +1,4 @@
-//! What `natpair` does for the words of its command line.
+//! The commands of `natpair`.
 #![tactic(auto)]
 
 mod acting;

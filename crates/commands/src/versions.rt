@@ -1,14 +1,15 @@
-//! What the program is.
+//! The version of the program.
 
+use command_line::VERSION;
 use faults::Fault;
 use std::io::Write;
 
-/// Its version, and the kit that it is built with.
-const LINE: &str = "natpair 0.1.0 (rattle-kit-13 logic dac8208d650f15bf)\n";
+/// The kit that the program is built with.
+const KIT: &str = "rattle-kit-13 logic dac8208d650f15bf";
 
-/// Writes that line.
+/// Writes the version of the program, and its kit.
 pub(crate) fn write_version<O: Write>(output: &mut O) -> Result<(), Fault> {
-    output.write_all(LINE.as_bytes())?;
+    writeln!(output, "natpair {VERSION} ({KIT})")?;
     output.flush()?;
     Ok(())
 }

@@ -1,4 +1,4 @@
-//! What an operator tells a running box.
+//! The commands that say a word to a running box: `peer-off`, `stop` and `side`.
 
 use command_line::PeerOffWords;
 use control::{ControlPath, Reply, Word};
@@ -7,10 +7,10 @@ use nat_types::{GatewayId, Side};
 use std::fs::Files;
 use std::net::Net;
 
-/// The bytes of the longest reply that is read.
-pub(crate) const LONGEST: usize = 4_096;
+/// How many bytes of a reply are read at most. The longest reply is a page of pairs with 1,285 bytes.
+pub(crate) const MAX_REPLY: usize = 4_096;
 
-/// Where the control socket of a box lies, by the settings at a path.
+/// Returns the path of a box's control socket, by the settings at a path.
 pub(crate) fn control_path<R: Files + AllocGlobal>(
     rt: &R,
     settings: &str,
@@ -21,20 +21,22 @@ pub(crate) fn control_path<R: Files + AllocGlobal>(
     Ok(ControlPath::beside(alloc, settings.gateway(id).boot_file.as_str())?)
 }
 
-/// What a box replies to a word; `NoControl` where it replies nothing, or nothing known.
+/// Says a word to a box, and reads its reply.
+///
+/// # Errors
+///
+/// `NoControl` where the box replies nothing, or nothing that is a reply; `NoMemory`.
 pub(crate) fn ask<'b, R: Net + AllocGlobal>(
     rt: &R,
     path: &ControlPath,
     word: Word,
-    buffer: &'b mut [u8; LONGEST],
+    buffer: &'b mut [u8; MAX_REPLY],
 ) -> Result<Reply<'b>, Fault> {
-    match control::ask(rt, path, word.bytes().as_slice(), buffer) {
-        Ok(count) => Reply::read(&buffer[..count]).ok_or(Fault::no_control(rt.alloc(), path)),
-        Err(_) => Err(Fault::no_control(rt.alloc(), path)),
-    }
+    control::ask(rt, path, word, buffer).map_err(|_| Fault::no_control(rt.alloc(), path))
 }
 
-/// Tells a box that the other one's boot is off: this one, or the one that it knows. Only a boot that is named can be forced.
+/// Says to a box that a boot of the other one is off: the boot of a number, or the one that the box knows. Only a boot with a
+/// number can be forced.
 pub(crate) fn peer_off<R: Files + Net + AllocGlobal>(
     rt: &R,
     words: &PeerOffWords,
@@ -44,14 +46,14 @@ pub(crate) fn peer_off<R: Files + Net + AllocGlobal>(
         boot: words.boot,
         forced: words.force && words.boot.is_some(),
     };
-    match ask(rt, &path, word, &mut [0; LONGEST])? {
+    match ask(rt, &path, word, &mut [0; MAX_REPLY])? {
         Reply::Heard => Ok(()),
         Reply::Refused(refusal) => Err(Fault::PeerOff(refusal)),
         _ => Err(Fault::no_control(rt.alloc(), &path)),
     }
 }
 
-/// Tells a box to end, which it does with its next tick.
+/// Says to a box that it is to end, which it does after its next tick.
 pub(crate) fn stop<R: Files + Net + AllocGlobal>(
     rt: &R,
     settings: &str,
@@ -60,7 +62,7 @@ pub(crate) fn stop<R: Files + Net + AllocGlobal>(
     say(rt, settings, id, Word::Stop)
 }
 
-/// Tells a box that a side can be used, or can't, whether or not it heeds its carriers.
+/// Says to a box that the cable of a side is in or out. The box takes that also with `--no-track`.
 pub(crate) fn side<R: Files + Net + AllocGlobal>(
     rt: &R,
     settings: &str,
@@ -76,7 +78,7 @@ pub(crate) fn side<R: Files + Net + AllocGlobal>(
     say(rt, settings, id, word)
 }
 
-/// Says a word to a box that hears it.
+/// Says a word to a box, and waits until the box has taken the word.
 fn say<R: Files + Net + AllocGlobal>(
     rt: &R,
     settings: &str,
@@ -84,8 +86,5 @@ fn say<R: Files + Net + AllocGlobal>(
     word: Word,
 ) -> Result<(), Fault> {
     let path = control_path(rt, settings, id)?;
-    control::say(rt, &path, word.bytes().as_slice()).map_err(|_| Fault::no_control(
-        rt.alloc(),
-        &path,
-    ))
+    control::say(rt, &path, word).map_err(|_| Fault::no_control(rt.alloc(), &path))
 }

@@ -1,4 +1,4 @@
-//! A box's control socket: the words that it is told, what it replies, and both ends of the socket.
+//! A box's control socket: the words that an operator says, what the box replies, and both ends of the socket.
 #![tactic(auto)]
 
 mod client;
@@ -8,7 +8,7 @@ mod server;
 mod words;
 
 pub use client::{NoSocket, ask, say};
-pub use paths::{ControlPath, LONGEST_PATH, PathFault};
+pub use paths::{ControlPath, MAX_PATH_LENGTH, PathFault};
 pub use replies::{HEARD, PAGE, PeerOffRefusal, REPORT, Reply, refusal_bytes};
 pub use server::Control;
 pub use words::{Word, WordBytes};

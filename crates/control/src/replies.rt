@@ -1,14 +1,14 @@
-//! What a box replies to a word.
+//! The replies of a box, and their bytes.
 
 use thiserror::Error;
 
-/// Why a box doesn't take the word that the peer is off.
+/// Why a box refuses the word that the peer is off. The refusals are numbered from 1.
 #[derive(Clone, Copy, Debug, PartialEq, Eq, Error)]
 pub enum PeerOffRefusal {
-    /// Its own table isn't loaded yet.
+    /// The box's own table isn't loaded yet.
     #[error("peer-off 1 NotSynced")]
     NotSynced,
-    /// It knows no boot of the peer.
+    /// The box knows no boot of the peer.
     #[error("peer-off 2 NoPeer")]
     NoPeer,
     /// The boot is below the known one.
@@ -22,7 +22,7 @@ pub enum PeerOffRefusal {
     PeerHeard,
 }
 
-/// The reply that a word is taken.
+/// The bytes of the reply that a word is taken.
 pub const HEARD: &[u8] = b"heard";
 
 /// The first bytes of a report.
@@ -31,25 +31,25 @@ pub const REPORT: [u8; 2] = *b"NI";
 /// The first bytes of a page of pairs.
 pub const PAGE: [u8; 2] = *b"NL";
 
-/// The reply that the peer isn't taken to be off: `NR`, and the refusal's number from 1 to 5.
+/// Returns the bytes of a refusal: `NR`, and its number from 1 to 5.
 pub fn refusal_bytes(refusal: PeerOffRefusal) -> [u8; 3] {
     [b'N', b'R', refusal as u8 + 1]
 }
 
-/// What a box replies.
+/// What a box replies to a word.
 #[derive(Clone, Copy, Debug)]
 pub enum Reply<'a> {
     /// The word is taken.
     Heard,
     Refused(PeerOffRefusal),
-    /// The bytes of a report, behind [`REPORT`].
+    /// The bytes of a report, which follow [`REPORT`].
     Report(&'a [u8]),
-    /// The bytes of a page of pairs, behind [`PAGE`].
+    /// The bytes of a page of pairs, which follow [`PAGE`].
     Page(&'a [u8]),
 }
 
 impl<'a> Reply<'a> {
-    /// Reads a reply. Bytes that are none give `None`.
+    /// Reads a reply. Returns `None` where the bytes are no reply.
     pub fn read(bytes: &'a [u8]) -> Option<Reply<'a>> {
         match bytes {
             b"heard" => Some(Reply::Heard),

@@ -1,4 +1,4 @@
-//! The server's end of a control socket. No call waits.
+//! The server's end of a control socket. No function here waits.
 ghost use Rattle.std.specs.Prelude.{◌≤◌, IfSome, length};
 
 use crate::{ControlPath, NoSocket, Word};
@@ -10,25 +10,26 @@ use std::io::{self, ErrorKind, Read, Write};
 use std::net::Net;
 use std::os::unix::fs::PermissionsExt;
 
-/// How many clients are kept that haven't said their word yet. One more takes the place of the one that was kept
-/// longest.
-const CLIENTS: usize = 8;
+/// How many clients that haven't said their word yet are kept at most. A further one takes the place of the oldest.
+const MAX_CLIENTS: usize = 8;
 
 /// The mode of the socket's folder: only its owner may enter it.
 const OWNER_ONLY: u32 = 0o700;
 
-/// A control socket and its clients. One word at a time is handed on, and its client is answered before the next
-/// one.
+/// A control socket and its clients. A client says one word; the word of the next client is taken once this one is
+/// answered.
 #[derive(Drop)]
 pub struct Control {
     listener: UnixListener,
-    /// Those that haven't said their word yet.
+    /// The clients that haven't said their word yet, the oldest first.
     clients: Vec<UnixStream>,
-    /// The one whose word was handed on and isn't answered yet.
-    client: Option<UnixStream>,
+    /// The client whose word is taken and isn't answered yet.
+    awaiting: Option<UnixStream>,
     token: Token,
-    /// Something may have come since the last look.
+    /// Whether a client may have connected or said a word since the last `take` that found nothing.
     is_ready: bool,
+    /// Whether the last `accept` failed for a reason that may last, as that the process has no free descriptor.
+    has_failed: bool,
     refused: u64,
     unanswered: u64,
 }
@@ -40,19 +41,19 @@ impl From<AllocError> for NoSocket {
 }
 
 impl Control {
-    /// Listens at a path. The folder is made if it isn't there, and a socket that a crashed box left there is
-    /// removed: the caller holds the lock of the boot file beside it, so no other box listens at it. Events come
-    /// under this token.
+    /// Listens at a path. Makes the folder if it isn't there, and removes a socket that a crashed box left there: the
+    /// caller holds the lock of the boot file beside the folder, so no other box listens. A poll reports the socket and its
+    /// clients under this token.
     ///
     /// # Errors
     ///
-    /// Where the folder can't be closed to others, the socket can't be bound, or memory is refused.
+    /// Where the folder can't be closed to other users, the socket can't be bound, or memory runs out.
     pub fn open<R: Files + Net + AllocGlobal>(
         rt: &R,
         path: &ControlPath,
         token: Token,
     ) -> Result<Control, NoSocket> {
-        let clients = Vec::with_capacity(rt.alloc(), CLIENTS)?;
+        let clients = Vec::with_capacity(rt.alloc(), MAX_CLIENTS)?;
         let (folder, socket) = (path.folder.as_str(), path.socket.as_str());
         let _is_there = rt.create_dir_with_mode(folder, OWNER_ONLY);
         rt.set_permissions(folder, Permissions::from_mode(OWNER_ONLY))?;
@@ -60,15 +61,16 @@ impl Control {
         Ok(Control {
             listener: UnixListener::bind(rt, socket)?,
             clients,
-            client: None,
+            awaiting: None,
             token,
             is_ready: true,
+            has_failed: false,
             refused: 0,
             unanswered: 0,
         })
     }
 
-    /// Has a poll report new clients, under the socket's token.
+    /// Registers the socket with a poll, which then reports new clients.
     ///
     /// # Errors
     ///
@@ -77,28 +79,37 @@ impl Control {
         registry.register(&mut self.listener, self.token, Interest::READABLE)
     }
 
-    /// A poll has reported the socket's token.
+    /// Says that a poll has reported the socket's token.
     pub fn wake(&mut self) {
         self.is_ready = true;
     }
 
-    /// Whether there may be a word. There is none while a client awaits its reply.
-    pub fn is_ready(&self) -> bool {
-        self.is_ready && self.client.is_none()
+    /// Says that a poll has ended: an `accept` that failed is tried again.
+    ///
+    /// A poll reports a client once, when the client connects. Where the system then has no descriptor for the client
+    /// (`EMFILE`), the client stays in the socket's queue and isn't reported again. So `accept` is tried again after each
+    /// poll: the client is kept, and the box waits in its polls meanwhile.
+    pub fn retry(&mut self) {
+        self.is_ready = self.is_ready || self.has_failed;
     }
 
-    /// How many clients said what is no word, or had gone, or gave way to others.
+    /// Whether `take` may find a word. While a client awaits its reply, there is none.
+    pub fn is_ready(&self) -> bool {
+        self.is_ready && self.awaiting.is_none()
+    }
+
+    /// Returns how many clients said what is no word, or closed before their word, or gave way to others.
     pub fn refused(&self) -> u64 {
         self.refused
     }
 
-    /// How many clients had gone when they were answered, or hadn't the buffer for the whole reply.
+    /// Returns how many clients couldn't be written their whole reply at once.
     pub fn unanswered(&self) -> u64 {
         self.unanswered
     }
 
-    /// The next word: so many bytes of the buffer. Where no client has said one, one new client is accepted, if
-    /// there is one.
+    /// Reads the next word into the buffer, and returns how many bytes it has. Where no client has said one, accepts one
+    /// new client, if there is one.
     pub fn take(&mut self, registry: &Registry, buffer: &mut [u8]) -> Option<usize>
         ensures { IfSome result (λ count. count ≤ length buffer.new) }
     {
@@ -112,9 +123,9 @@ impl Control {
         None
     }
 
-    /// Answers the client whose word was handed on last, by one write, and closes its connection.
+    /// Answers the client whose word was taken last, by one write, and closes its connection.
     pub fn answer(&mut self, bytes: &[u8]) {
-        if let Some(mut client) = self.client.take() {
+        if let Some(mut client) = self.awaiting.take() {
             let is_whole = matches!(client.write(bytes), Ok(count) if count == bytes.len());
             if !is_whole {
                 self.unanswered = self.unanswered.saturating_add(1);
@@ -122,7 +133,8 @@ impl Control {
         }
     }
 
-    /// The first word of a client. Who says something else, or has gone, is refused.
+    /// Reads the word of the oldest client that has said one. Refuses each client before it that said something else or
+    /// closed.
     fn next_word(&mut self, buffer: &mut [u8]) -> Option<usize>
         ensures { IfSome result (λ count. count ≤ length buffer.new) }
     {
@@ -131,7 +143,7 @@ impl Control {
             let client = self.clients.get_mut(at)?;
             match client.read(buffer) {
                 Ok(count) if Word::read(&buffer[..count]).is_some() => {
-                    self.client = Some(self.clients.remove(at));
+                    self.awaiting = Some(self.clients.remove(at));
                     return Some(count);
                 }
                 Err(error) if error.kind() == ErrorKind::WouldBlock => at += 1,
@@ -141,27 +153,38 @@ impl Control {
         None
     }
 
-    /// Accepts the next client, and says whether there may be more. A poll reports the listener once for all who
-    /// connect, so only a call that would block says that there are none.
+    /// Accepts the next client, and returns whether there may be more now. A poll reports the listener once for all who
+    /// connect, so only an `accept` that would block says that there are none.
     fn accept_client(&mut self, registry: &Registry) -> bool {
+        self.has_failed = false;
         match self.listener.accept() {
-            Ok((mut client, _)) => {
-                if self.clients.len() >= CLIENTS {
-                    self.refuse(0);
-                }
-                if registry
-                    .register(&mut client, self.token, Interest::READABLE)
-                    .is_ok()
-                {
-                    let _has_capacity = self.clients.push(client);
-                }
+            Ok((client, _)) => {
+                self.keep(client, registry);
                 true
             }
-            Err(error) => error.kind() != ErrorKind::WouldBlock,
+            Err(error) => match error.kind() {
+                ErrorKind::WouldBlock => false,
+                ErrorKind::Interrupted | ErrorKind::ConnectionAborted => true,
+                _ => {
+                    self.has_failed = true;
+                    false
+                }
+            },
         }
     }
 
-    /// Closes the connection of a client that has said no word.
+    /// Keeps a new client until it says its word. A client that no poll can report is dropped.
+    fn keep(&mut self, mut client: UnixStream, registry: &Registry) {
+        if self.clients.len() >= MAX_CLIENTS {
+            self.refuse(0);
+        }
+        let registered = registry.register(&mut client, self.token, Interest::READABLE);
+        if registered.is_ok() {
+            let _has_capacity = self.clients.push(client);
+        }
+    }
+
+    /// Closes the connection of the client at this index, and counts it as refused.
     fn refuse(&mut self, at: usize) {
         if at < self.clients.len() {
             self.clients.remove(at);

@@ -1,73 +1,73 @@
-//! The words that a box is told. Numbers are big-endian.
+//! The words that an operator says to a box, and their bytes. Numbers are big-endian.
 
 use addresses::{Port, Protocol};
 use arrayvec::ArrayVec;
 use byteorder::{BigEndian, ByteOrder};
 use nat_types::{Key, Side};
 
-/// What a box is told, or asked.
+/// What an operator says to a box, or asks it.
 #[derive(Clone, Copy, Debug, PartialEq, Eq)]
 pub enum Word {
-    /// A boot of the peer is off: the one of this number, or the one that the box knows. `NO`, or `NF` where it is
-    /// forced, and the number in 8 bytes.
+    /// A boot of the peer is off: the one of this number, or the one that the box knows. The bytes are `NO`, or `NF` if the
+    /// word is forced, and then the number, if there is one, in 8 bytes.
     PeerOff {
         boot: Option<u64>,
-        /// It counts for a boot above the known one, too.
+        /// Whether the box takes the word for a boot above the known one, too.
         forced: bool,
     },
-    /// The box is to end: `NE`.
+    /// The box is to end. The bytes are `NE`.
     Stop,
-    /// The cable of a side is in or out: `NS`, 0 for the inside or 1 for the outside, and 1 or 0 for each of the
-    /// flags.
+    /// The cable of a side is in or out. The bytes are `NS`, 0 for the inside or 1 for the outside, and 1 or 0 for each
+    /// of the flags.
     Side {
         side: Side,
         up: bool,
-        /// Its carrier tells it; else an operator does.
+        /// Whether the carrier of an interface says so; else an operator does.
         carrier: bool,
     },
-    /// How does the box stand? `NI`.
+    /// The box is to reply its report. The bytes are `NI`.
     Status,
-    /// Which pairs has it, the first, or those behind this key? `NL`, and of a key its protocol's number and its
-    /// port in 2 bytes.
+    /// The box is to reply a page of its pairs: the first page, or the one that follows this key. The bytes are `NL`, and
+    /// then of the key, if there is one, the protocol's number and the port in 2 bytes.
     Pairs(Option<Key>),
 }
 
-/// A word as it is sent: at most 10 bytes.
+/// The bytes of a word: at most 10, those of `PeerOff` with its 2 letters and a number of 8 bytes.
 pub type WordBytes = ArrayVec<u8, 10>;
 
 impl Word {
-    /// The bytes that it is sent as.
+    /// Returns the bytes of the word.
     pub fn bytes(self) -> WordBytes {
         let mut bytes = ArrayVec::new();
         match self {
             Word::PeerOff { boot, forced } => {
-                put(&mut bytes, if forced { b"NF" } else { b"NO" });
+                append(&mut bytes, if forced { b"NF" } else { b"NO" });
                 if let Some(boot) = boot {
-                    put(&mut bytes, &boot.to_be_bytes());
+                    append(&mut bytes, &boot.to_be_bytes());
                 }
             }
-            Word::Stop => put(&mut bytes, b"NE"),
+            Word::Stop => append(&mut bytes, b"NE"),
             Word::Side { side, up, carrier } => {
-                put(&mut bytes, b"NS");
+                append(&mut bytes, b"NS");
                 let number = match side {
                     Side::Inside => 0,
                     Side::Outside => 1,
                 };
-                put(&mut bytes, &[number, u8::from(up), u8::from(carrier)]);
+                append(&mut bytes, &[number, u8::from(up), u8::from(carrier)]);
             }
-            Word::Status => put(&mut bytes, b"NI"),
+            Word::Status => append(&mut bytes, b"NI"),
             Word::Pairs(after) => {
-                put(&mut bytes, b"NL");
+                append(&mut bytes, b"NL");
                 if let Some(Key { protocol, port }) = after {
-                    put(&mut bytes, &[protocol.number()]);
-                    put(&mut bytes, &port.0.to_be_bytes());
+                    append(&mut bytes, &[protocol.number()]);
+                    append(&mut bytes, &port.0.to_be_bytes());
                 }
             }
         }
         bytes
     }
 
-    /// Reads a word. Bytes that are none give `None`.
+    /// Reads a word. Returns `None` where the bytes are no word.
     pub fn read(bytes: &[u8]) -> Option<Word> {
         match bytes {
             [b'N', b'O', boot @ ..] => peer_off(boot, false),
@@ -85,8 +85,8 @@ impl Word {
     }
 }
 
-/// Puts more bytes behind those of a word. No word has more than there is capacity for.
-fn put(bytes: &mut WordBytes, more: &[u8]) {
+/// Appends bytes to those of a word. There is capacity for each word.
+fn append(bytes: &mut WordBytes, more: &[u8]) {
     let _fits = bytes.try_extend_from_slice(more);
 }
 

@@ -1,4 +1,4 @@
-//! What becomes a fault.
+//! Conversions of other crates' errors to faults.
 
 use crate::Fault;
 use control::PathFault;
@@ -26,7 +26,7 @@ impl From<NoMemory> for Fault {
     }
 }
 
-/// Of the output.
+/// An error of the output: commands turn no other `io::Error` into a fault by `?`.
 impl From<io::Error> for Fault {
     fn from(_: io::Error) -> Fault {
         Fault::NotWritten
@@ -52,7 +52,7 @@ impl From<PathFault> for Fault {
 }
 
 impl Fault {
-    /// Of a text that is no filter.
+    /// Returns the fault of a filter that can't be read; `NoMemory` where there is no memory for its text.
     pub fn filter(alloc: Global, fault: FilterFault<'_>) -> Fault {
         match fault {
             FilterFault::NoFilter(part) => match String::from_str(alloc, part) {

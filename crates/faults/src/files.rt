@@ -1,4 +1,4 @@
-//! Files, and why they aren't had.
+//! Text files, and the faults of files.
 
 use crate::{Fault, FileRefusal};
 use boot_file::FileFault;
@@ -8,11 +8,11 @@ use std::alloc::Global;
 use std::fs::{self, Files};
 use std::io::{self, ErrorKind};
 
-/// The text of the file at a path.
+/// Reads the text of the file at a path.
 ///
 /// # Errors
 ///
-/// `File` where it can't be read, `NotText`, `NoMemory`.
+/// `File` where the file can't be read; `NotText`; `NoMemory`.
 pub fn read_text<R: Files + AllocGlobal>(rt: &R, path: &str) -> Result<String, Fault> {
     match fs::read(rt, path) {
         Ok(bytes) => String::from_utf8(bytes).map_err(|_| Fault::NotText),
@@ -24,7 +24,7 @@ pub fn read_text<R: Files + AllocGlobal>(rt: &R, path: &str) -> Result<String, F
 }
 
 impl Fault {
-    /// Of the file at a path; `NoMemory` where the path can't be kept.
+    /// Returns the fault of the file at a path; `NoMemory` where there is no memory for the path.
     pub fn file(
         alloc: Global,
         refusal: FileRefusal,
@@ -41,7 +41,7 @@ impl Fault {
         }
     }
 
-    /// Of a capture that can't be begun or written in the file at a path.
+    /// Returns the fault of a capture that can't be started or written in the file at a path.
     pub fn capture(alloc: Global, path: &str, error: &io::Error) -> Fault {
         match error.kind() {
             ErrorKind::OutOfMemory => Fault::NoMemory,
@@ -50,7 +50,7 @@ impl Fault {
         }
     }
 
-    /// Of the boot file at a path.
+    /// Returns the fault of the boot file at a path.
     pub fn boot_file(alloc: Global, path: &str, fault: FileFault) -> Fault {
         match fault {
             FileFault::NoFile(cause) => Fault::file(alloc, FileRefusal::NoFile, path, Some(cause)),
@@ -62,7 +62,7 @@ impl Fault {
         }
     }
 
-    /// No box answers at a control socket, or it can't be had.
+    /// Returns the fault of a control socket that can't be opened, or where no box replies.
     pub fn no_control(alloc: Global, path: &ControlPath) -> Fault {
         match String::from_str(alloc, path.socket.as_str()) {
             Ok(socket) => Fault::NoControl(socket),

@@ -1,17 +1,18 @@
-//! The line that tells of a fault.
+//! The line of a fault on the standard error.
 
 use crate::Fault;
 use std::alloc::{AllocError, Global};
 use std::io::Write;
 
-/// Writes a fault's line behind `natpair: `, by one write, and gives the status that the program ends with. A line that can't
-/// be written is left out.
+/// Writes the line `natpair: FAULT` by one write, and returns the exit status of the program. An error of that write is
+/// ignored.
 pub fn report<E: Write>(alloc: Global, fault: &Fault, errors: &mut E) -> u8 {
     write_line(format!(in alloc; "natpair: {fault}\n"), errors);
     fault.status()
 }
 
-/// The same of a fault of the file at a path, which stands behind it, unless its text has it.
+/// Writes the line `natpair: FAULT (PATH)` by one write, or `natpair: FAULT` where the fault's text has the path, and returns
+/// the exit status of the program. An error of that write is ignored.
 pub fn report_at<E: Write>(alloc: Global, fault: &Fault, path: &str, errors: &mut E) -> u8 {
     match fault {
         Fault::File { .. } => report(alloc, fault, errors),
@@ -22,7 +23,7 @@ pub fn report_at<E: Write>(alloc: Global, fault: &Fault, path: &str, errors: &mu
     }
 }
 
-/// Writes a line; where there is no memory for it, one that says so.
+/// Writes a line, or that of `NoMemory` where there was no memory for the line.
 fn write_line<E: Write>(line: Result<String, AllocError>, errors: &mut E) {
     let _unwritten = match line {
         Ok(line) => errors.write_all(line.as_bytes()),

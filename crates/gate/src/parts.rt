@@ -1,4 +1,4 @@
-//! All that a box needs before it takes a boot number.
+//! All that a box opens before it takes a boot number.
 
 use crate::{ServiceManager, Start};
 use boot_file::FileDisk;
@@ -10,49 +10,49 @@ use log::filter::{Filter, FilteredLog};
 use nat_types::GatewayId;
 use settings::Settings;
 use settings_file::{OnLoopback, SettingFault, port_clash};
-use sockets::{CONTROL, Ports, SocketFault, Sockets, Way, Ways, first_unbound};
+use sockets::{CONTROL_TOKEN, LoopbackPorts, SocketFault, Sockets, Way, Ways, first_unbound};
 use std::fs::{File, Files};
 use std::net::{Net, SocketAddr};
 use std::rt::Env;
 
-/// A box's records, on the standard error.
+/// A box's log, on the standard error.
 pub(crate) type BoxLog<'a, R> = EventLog<FilteredLog<Sink<StandardError<&'a R>>>>;
 
-/// All that a box needs before it takes a boot number.
+/// All that a box opens before it takes a boot number.
 #[derive(Drop)]
 pub(crate) struct Parts<'a, R> {
     pub(crate) settings: Settings,
     pub(crate) manager: Option<ServiceManager>,
-    /// The boot file, which is locked.
+    /// The boot file, locked.
     pub(crate) disk: FileDisk<File>,
     pub(crate) wire: Sockets,
     pub(crate) log: BoxLog<'a, R>,
-    /// The path of a capture, and its file, which has what it had.
+    /// The path of a capture, and its file, which still has its old content.
     pub(crate) capture: Option<(&'a str, CaptureFile<File>)>,
 }
 
 impl<'a, R: Files<File = File> + Net + Eprint + Env + AllocGlobal> Parts<'a, R> {
-    /// Opens them, in an order that keeps a start which is refused from harm: inherited descriptors are taken before anything is
-    /// opened that could be taken for one; no socket of a box that runs is touched, since its boot file is locked; and no
-    /// boot number is taken.
+    /// Opens all parts, in an order in which a start that fails does no harm. Inherited descriptors are checked before anything
+    /// is opened that could be taken for one. The boot file is locked before any socket is opened, so that the sockets of a
+    /// running box aren't touched. No boot number is taken.
     ///
     /// # Errors
     ///
-    /// The first that can't be had, as they stand here.
+    /// The first fault, in the order of these lines.
     pub(crate) fn open(rt: &'a R, start: &Start<'a>) -> Result<Parts<'a, R>, Fault> {
         let alloc = rt.alloc();
         let settings = settings_file::read(alloc, read_text(rt, start.settings)?.as_str())?;
         let ways = start.ways.read()?;
-        ways.inherit()?;
+        ways.check_descriptors()?;
         let manager = start.notify.map(ServiceManager::read).transpose()?;
         check_ports(&settings, start.id, &ways)?;
         let file = settings.gateway(start.id).boot_file.as_str();
         let path = ControlPath::beside(alloc, file)?;
         let disk = boot_file::open(rt, file).map_err(|why| Fault::boot_file(alloc, file, why))?;
-        let Ok(control) = Control::open(rt, &path, CONTROL) else {
+        let Ok(control) = Control::open(rt, &path, CONTROL_TOKEN) else {
             return Err(Fault::no_control(alloc, &path));
         };
-        let wire = open_sockets(rt, &ways, Ports::of(&settings, start.id), control)?;
+        let wire = open_sockets(rt, &ways, LoopbackPorts::of(&settings, start.id), control)?;
         let sink = Sink::new(StandardError(rt), start.format);
         let filtered = FilteredLog::new(sink, read_filter(rt, start.log)?);
         let mappings = start.mappings.then(|| Mappings::new(alloc)).transpose()?;
@@ -72,7 +72,11 @@ impl<'a, R: Files<File = File> + Net + Eprint + Env + AllocGlobal> Parts<'a, R> 
     }
 }
 
-/// No two of the ports that a box has on the loopback address are the same.
+/// Checks that no two of the ports that a box has on the loopback address are the same.
+///
+/// # Errors
+///
+/// The setting with a port that an earlier one has, too.
 fn check_ports(settings: &Settings, id: GatewayId, ways: &Ways) -> Result<(), Fault> {
     let on = OnLoopback {
         inside: ways.inside == Way::Loopback,
@@ -85,11 +89,11 @@ fn check_ports(settings: &Settings, id: GatewayId, ways: &Ways) -> Result<(), Fa
     }
 }
 
-/// The sockets of a box. Where they can't be had, the fault names the first that can't be had by itself, if there is one.
+/// Opens the sockets of a box. Where that fails, the fault names the first end that can't be bound alone, if there is one.
 fn open_sockets<R: Net + AllocGlobal>(
     rt: &R,
     ways: &Ways,
-    ports: Ports,
+    ports: LoopbackPorts,
     control: Control,
 ) -> Result<Sockets, Fault> {
     match Sockets::open(rt, ways, ports, control) {
@@ -102,7 +106,7 @@ fn open_sockets<R: Net + AllocGlobal>(
     }
 }
 
-/// The filter that an option says, or else the environment.
+/// Reads the filter of an option, or else of the environment.
 fn read_filter<R: Env + AllocGlobal>(rt: &R, option: Option<&str>) -> Result<Filter, Fault> {
     let alloc = rt.alloc();
     let environment = match option {
@@ -113,6 +117,7 @@ fn read_filter<R: Env + AllocGlobal>(rt: &R, option: Option<&str>) -> Result<Fil
     filter(alloc, text).map_err(|fault| Fault::filter(alloc, fault))
 }
 
+/// Opens the file of a capture, without waiting for the reader of a pipe.
 fn open_capture<'a, R: Files<File = File> + AllocGlobal>(
     rt: &R,
     path: &'a str,

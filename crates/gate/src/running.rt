@@ -1,4 +1,4 @@
-//! Runs a box from its start to its end.
+//! The run of a box, from its start to its end.
 
 use crate::begin::begin;
 use crate::parts::{BoxLog, Parts};
@@ -17,14 +17,15 @@ use std::net::Net;
 use std::random::RandomSource;
 use std::rt::{Clock, Env};
 
-/// Runs a box until it is told to end. Its boot number is printed first, and `end` last.
+/// Runs a box until its operator ends it, its standard input ends (`until_eof`), or all its rounds are done. Prints its boot
+/// number first, and `end` last.
 ///
 /// # Errors
 ///
-/// The first that can't be had of: the settings, the ways, their descriptors, the service manager, ports that don't clash, the
-/// path of the control socket, the boot file with its lock, the control socket, the sockets, the filter of the records, the
-/// file of the capture, random keys, the next boot number, memory for a gateway, the head of the capture. `NotWritten` where
-/// the output can't be written.
+/// The first fault of: the settings, the ways, their descriptors, the service manager, clashing ports, the path of the control
+/// socket, the boot file and its lock, the control socket, the other sockets, the filter of the log, the file of the capture,
+/// the random keys, the next boot number, memory for a gateway, printing the boot number, the head of the capture, printing
+/// the end.
 pub fn run<
     R: Files<File = File> + Net + Clock + RandomSource + Eprint + Env + Input + AllocGlobal,
     O: Write,
@@ -51,7 +52,7 @@ pub fn run<
     match capture {
         None => server.serve_on(&mut gateway, &mut wire),
         Some((path, file)) => {
-            let capture = begin_capture(rt.alloc(), path, file)?;
+            let capture = start_capture(rt.alloc(), path, file)?;
             let clock = Stopwatch::from_first_reading(rt);
             let mut tapped = Tapped::new(wire, start.id, clock, capture);
             server.serve_on(&mut gateway, &mut tapped);
@@ -64,7 +65,7 @@ pub fn run<
     Ok(())
 }
 
-/// What serves a gateway on a wire.
+/// All that serving a gateway needs beside the gateway and its wire.
 #[derive(Drop)]
 struct Server<'a, R> {
     rt: &'a R,
@@ -75,7 +76,7 @@ struct Server<'a, R> {
 }
 
 impl<R: Clock + Eprint + Input + AllocGlobal> Server<'_, R> {
-    /// Serves until the box is told to end.
+    /// Runs the rounds of the gateway on a wire, until the box ends.
     fn serve_on<W: Wire>(&mut self, gateway: &mut Gateway, wire: &mut W) {
         let (rt, start) = (self.rt, self.start);
         let options = Options {
@@ -83,7 +84,7 @@ impl<R: Clock + Eprint + Input + AllocGlobal> Server<'_, R> {
             rounds: start.rounds,
             track: start.track,
         };
-        let mut until = StdinEnd {
+        let mut end_signal = StdinEnd {
             rt,
             is_watched: start.until_eof,
         };
@@ -94,7 +95,7 @@ impl<R: Clock + Eprint + Input + AllocGlobal> Server<'_, R> {
             gateway,
             wire,
             &mut clock,
-            &mut until,
+            &mut end_signal,
             &mut self.manager,
             &mut self.log,
             &options,
@@ -102,8 +103,8 @@ impl<R: Clock + Eprint + Input + AllocGlobal> Server<'_, R> {
     }
 }
 
-/// Begins a capture in the file at a path, which loses what it has.
-fn begin_capture(
+/// Starts a capture in the file at a path, whose old content is removed.
+fn start_capture(
     alloc: Global,
     path: &str,
     mut file: CaptureFile<File>,
@@ -113,7 +114,7 @@ fn begin_capture(
     LiveCapture::start(alloc, file).map_err(failed)
 }
 
-/// The end of the standard input, if that is watched.
+/// The end signal of a box: the end of its standard input, if that is watched.
 #[derive(Drop)]
 struct StdinEnd<'a, R> {
     rt: &'a R,

@@ -1,37 +1,37 @@
-//! How a box is started.
+//! What an operator sets for the run of a box.
 
 use faults::Fault;
 use journal::Format;
 use nat_types::GatewayId;
 use sockets::{Way, Ways};
 
-/// What an operator says of the box to run.
+/// What an operator sets for the run of a box, by options of the command line.
 #[derive(Clone, Copy, Debug)]
 pub struct Start<'a> {
-    /// The path of its settings.
+    /// The path of the settings.
     pub settings: &'a str,
     pub id: GatewayId,
-    /// How many rounds it has at most; none: it runs until it is told to end.
+    /// How many rounds the box has at most (`--rounds`); without a number it runs until its operator ends it.
     pub rounds: Option<u32>,
-    /// Whether it founds the pair, as only gateway 0 does.
+    /// Whether the box founds the pair (`--found`). It counts for gateway 0 only.
     pub found: bool,
     pub ways: WayTexts<'a>,
-    /// Whether it counts what carriers tell of the sides.
+    /// Whether a side counts as down while its interface reports no carrier; false with `--no-track`.
     pub track: bool,
-    /// Whether it ends where its standard input does.
+    /// Whether the box ends at the end of its standard input (`--until-eof`).
     pub until_eof: bool,
-    /// The filter of its records; else the environment's.
+    /// The filter of the log (`--log`); without one that of the environment.
     pub log: Option<&'a str>,
     pub format: Format,
-    /// Whether it logs mappings.
+    /// Whether mappings are logged (`--log-mappings`).
     pub mappings: bool,
-    /// The path of its capture.
+    /// The path of the capture (`--capture`).
     pub capture: Option<&'a str>,
-    /// The descriptor of its service manager, as a way.
+    /// The descriptor of the service manager (`--notify`), as `descriptor:N`.
     pub notify: Option<&'a str>,
 }
 
-/// What an operator says of the ways of a box: the words behind `--inside`, `--outside` and `--link`.
+/// The texts of a box's ways: the values of `--inside`, `--outside` and `--link`.
 #[derive(Clone, Copy, Debug)]
 pub struct WayTexts<'a> {
     pub inside: &'a str,
@@ -40,11 +40,11 @@ pub struct WayTexts<'a> {
 }
 
 impl WayTexts<'_> {
-    /// The ways that they say.
+    /// Reads the ways.
     ///
     /// # Errors
     ///
-    /// `NoWay` of the first that says none.
+    /// `NoWay` for the first text that is no way.
     pub(crate) fn read(self) -> Result<Ways, Fault> {
         Ok(Ways {
             inside: Way::read(self.inside).ok_or(Fault::NoWay("inside"))?,

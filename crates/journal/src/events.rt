@@ -1,12 +1,13 @@
-//! The log of a box's events, in which a flood is two records a second.
+//! A box's log, in which a flood of events is two records a second.
 
 use crate::limiter::Limiter;
-use crate::{Cause, Entry, Journal, LeftOutPackets, Mappings, Note, Origin};
+use crate::{Cause, Entry, Journal, LeftOutPackets, Mappings, Origin, TimedEntry};
 use log::{Level, Log, Metadata, Record};
+use nat_types::Note;
 
-/// The log of a box's events. Of the events of a second that came to nothing, the first of each origin and cause is a record
-/// at once; how many others there were is one record, when the second has ended. So a flood is at most 168 records a second.
-/// Timestamps are in centiseconds since the box's start.
+/// The log of a box. Of the events of a second that had no effect, the first of each origin and cause is written at once; when
+/// the second has ended, one record says how many others there were. So these events are at most 168 records a second: two
+/// for each of 4 origins and 21 causes. Timestamps are in centiseconds since the box's start.
 #[derive(Drop)]
 pub struct EventLog<L> {
     log: L,
@@ -16,7 +17,7 @@ pub struct EventLog<L> {
 }
 
 impl<L: Journal> EventLog<L> {
-    /// Returns a log in which no event stands. With `mappings`, in which none has begun, mappings are logged.
+    /// Returns the log of a box that starts now, over another log. With `mappings`, none of which has begun, mappings are logged.
     pub fn new(log: L, mappings: Option<Mappings>) -> EventLog<L> {
         EventLog {
             log,
@@ -25,19 +26,19 @@ impl<L: Journal> EventLog<L> {
         }
     }
 
-    /// Writes what an operator watches for.
+    /// Writes a record of an entry.
     pub fn write(&self, timestamp: u64, entry: Entry) {
         self.write_of(timestamp / 100, timestamp, entry);
     }
 
-    /// Writes what happened in a second.
+    /// Writes a record of an entry that is about a second.
     fn write_of(&self, second: u64, timestamp: u64, entry: Entry) {
         let metadata = Metadata::new(entry.level(second), entry.origin().target());
-        let note = Note { timestamp, entry };
-        self.log.log(&Record::new(metadata, note, note, ()));
+        let entry = TimedEntry { timestamp, entry };
+        self.log.log(&Record::new(metadata, entry, entry, ()));
     }
 
-    /// Counts an event that came to nothing, and writes it if it is the first of its second there for that cause.
+    /// Counts an event that had no effect, and writes it if it is the first of its second, origin and cause.
     pub fn write_dropped(&mut self, timestamp: u64, origin: Origin, cause: Cause) {
         self.advance_to(timestamp);
         if self.limiter.count(origin, cause) {
@@ -45,8 +46,8 @@ impl<L: Journal> EventLog<L> {
         }
     }
 
-    /// Writes each mapping that begins or ends by a gateway's notes, where mappings are logged.
-    pub fn write_mappings(&mut self, notes: &[nat_types::Note]) {
+    /// Writes a record for each mapping that begins or ends by a gateway's notes, if mappings are logged.
+    pub fn write_mappings(&mut self, notes: &[Note]) {
         for note in notes {
             let Some(mappings) = &mut self.mappings else {
                 return;
@@ -57,37 +58,38 @@ impl<L: Journal> EventLog<L> {
         }
     }
 
-    /// Writes how many others there were in a second that has ended by this timestamp.
+    /// Moves on to the second of this timestamp. If that ends an earlier one, writes how many others it had.
     pub fn advance_to(&mut self, timestamp: u64) {
         if let Some(ended) = self.limiter.advance_to(timestamp) {
             self.write_others(timestamp, &ended);
         }
     }
 
-    /// Writes how many others there were in the second that hasn't ended.
+    /// Writes how many others the current second had, when the box ends before that second does.
     pub fn finish(&self, timestamp: u64) {
         self.write_others(timestamp, &self.limiter);
     }
 
-    /// Writes how many packets a capture has left out, if it has.
+    /// Writes how many packets a capture has left out, unless there are none.
     pub fn write_left_out(&self, packets: u64) {
         if packets > 0 {
             let metadata = Metadata::new(Level::Warn, "natpair::capture");
-            let note = LeftOutPackets { packets };
-            self.log.log(&Record::new(metadata, note, note, ()));
+            let left_out = LeftOutPackets { packets };
+            self.log.log(&Record::new(metadata, left_out, left_out, ()));
         }
     }
 
-    /// How many lines the log has left out.
+    /// Returns how many lines the log has left out since its start.
     pub fn lines_left_out(&self) -> u64 {
         self.log.lines_left_out()
     }
 
-    /// Writes how many lines the log has left out since it last said so, if any.
+    /// Writes how many lines the log has left out since the last line that said so, unless there are none.
     pub fn flush(&self) {
         self.log.flush();
     }
 
+    /// Writes a record for each origin and cause that had further events in a second.
     fn write_others(&self, timestamp: u64, limiter: &Limiter) {
         for origin in Origin::ALL {
             for cause in Cause::ALL {

@@ -1,4 +1,7 @@
-//! What a box writes for its operator: its records, how often they come, and a sink that never waits.
+//! A box's log for its operator: what its records say, how often they are written, and a sink that never waits.
+//!
+//! A *record* is a line of the log, as in the crate `log`, and an [`Entry`] is what a record says. An *event* is what comes to
+//! a box, as a frame or a tick: most events have no record.
 #![tactic(auto)]
 
 mod entries;
@@ -10,9 +13,9 @@ mod mappings;
 mod records;
 mod sink;
 
-pub use entries::{Cause, Entry, Origin, PeerState, Role, reason_name};
+pub use entries::{Cause, Entry, Origin, PeerState, reason_name, role_name};
 pub use events::EventLog;
-pub use filters::{FilterFault, VARIABLE, environment_filter, filter};
+pub use filters::{FILTER_VARIABLE, FilterFault, environment_filter, filter};
 pub use mappings::{Mapping, Mappings};
-pub use records::{LeftOutPackets, Note};
+pub use records::{LeftOutPackets, TimedEntry};
 pub use sink::{Format, Journal, LineWriter, Sink, StandardError};

@@ -1,42 +1,43 @@
-//! How many events of a second came to nothing.
+//! Counts of the events of a second that had no effect.
 ghost use Rattle.std.specs.Prelude.{◌<◌};
 
 use crate::{Cause, Origin};
 use std::mem;
 
-/// How many pairs of an origin and a cause there are.
-const KEYS: usize = 84;
+/// How many counts there are: one for each of 4 origins and 21 causes.
+const COUNTS: usize = 84;
 
-/// Counts the events of one second that came to nothing, by where they came from and why.
+/// The counts of the events of one second that had no effect, by origin and cause.
 #[derive(Drop)]
 pub(crate) struct Limiter {
+    /// Whole seconds since the box's start.
     pub(crate) second: u64,
-    counts: [u64; KEYS],
+    counts: [u64; COUNTS],
 }
 
 impl Limiter {
-    /// Nothing yet in the second of this timestamp, in centiseconds.
+    /// Returns counts of 0, for the second of this timestamp in centiseconds.
     pub(crate) fn new(timestamp: u64) -> Limiter {
         Limiter {
             second: timestamp / 100,
-            counts: [0; KEYS],
+            counts: [0; COUNTS],
         }
     }
 
-    /// Counts one more, and says whether it is the first of this second there for that cause.
+    /// Counts an event, and returns whether it is the first of its origin and cause.
     pub(crate) fn count(&mut self, origin: Origin, cause: Cause) -> bool {
-        let key = key_of(origin, cause);
-        let before = self.counts[key];
-        self.counts[key] = before.saturating_add(1);
+        let index = index_of(origin, cause);
+        let before = self.counts[index];
+        self.counts[index] = before.saturating_add(1);
         before == 0
     }
 
-    /// How many of this second came behind the first.
+    /// Returns how many events of an origin and cause came after the first.
     pub(crate) fn others(&self, origin: Origin, cause: Cause) -> u64 {
-        self.counts[key_of(origin, cause)].saturating_sub(1)
+        self.counts[index_of(origin, cause)].saturating_sub(1)
     }
 
-    /// Begins the second of a timestamp, if it is a later one, and gives the counts of the second that has ended.
+    /// Begins the second of a timestamp, if that is a later one, and returns the counts of the second that has ended.
     pub(crate) fn advance_to(&mut self, timestamp: u64) -> Option<Limiter> {
         if timestamp / 100 <= self.second {
             return None;
@@ -45,8 +46,8 @@ impl Limiter {
     }
 }
 
-/// The index of the count of an origin and a cause.
-fn key_of(origin: Origin, cause: Cause) -> usize
+/// Returns the index of the count of an origin and a cause. Each origin has 21 counts, one for each cause.
+fn index_of(origin: Origin, cause: Cause) -> usize
     ensures small { result < 84 }
 {
     21 * usize::from(origin as u8) + usize::from(cause.number())

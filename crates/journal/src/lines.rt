@@ -1,4 +1,4 @@
-//! The lines of the two formats that the crate `log` doesn't have.
+//! The lines that the crate `log` doesn't have: of the format [`Format::Pairs`], and of records that were left out.
 
 use crate::Format;
 use log::Record;
@@ -6,7 +6,7 @@ use log::kv::{Error, Source, Value, VisitSource};
 use log::span::Spans;
 use std::fmt::{self, Display, Formatter};
 
-/// How many lines were left out.
+/// The line that says how many lines were left out.
 #[derive(Clone, Copy, Debug)]
 pub(crate) struct LeftOutLine {
     pub(crate) format: Format,
@@ -23,7 +23,7 @@ impl Display for LeftOutLine {
     }
 }
 
-/// A record as `level=INFO target=natpair::box at=250 event=synced`.
+/// The line of a record in the format [`Format::Pairs`]: `level=INFO target=natpair::box at=250 event=synced`.
 #[derive_where(Clone, Copy)]
 pub(crate) struct PairsLine<'a, 'r, D, K, S>(pub(crate) &'a Record<'r, D, K, S>);
 
@@ -36,7 +36,7 @@ impl<'a, 'r, D: Display, K: Source, S: Spans> Display for PairsLine<'a, 'r, D, K
     }
 }
 
-/// Writes a space and `key=value` for each pair that it visits.
+/// A visitor that writes ` key=value` for each pair.
 struct Pairs<'f, W>(&'f mut Formatter<W>);
 
 impl<W> Drop for Pairs<'_, W> {

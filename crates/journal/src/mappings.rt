@@ -1,4 +1,4 @@
-//! Who has which port: where a mapping begins and where it ends.
+//! When a mapping begins and when it ends: who had which port.
 
 use crate::Entry;
 use addresses::{Ip, Port, Protocol};
@@ -20,6 +20,7 @@ pub struct Mapping {
 }
 
 impl Mapping {
+    /// Returns the mapping of a pair.
     pub fn of(pair: &Pair) -> Mapping {
         Mapping {
             protocol: pair.key.protocol,
@@ -30,7 +31,7 @@ impl Mapping {
     }
 }
 
-/// Prints `udp 20000 192.168.1.10 5000`: protocol, outside port, inside address, inside port.
+/// For people: `udp 20000 192.168.1.10 5000`, in the order of the fields.
 impl Display for Mapping {
     fn fmt<W: fmt::Write>(&self, f: &mut Formatter<W>) -> fmt::Result {
         let Mapping {
@@ -46,25 +47,25 @@ impl Display for Mapping {
     }
 }
 
-/// The mappings that have begun at a box and not ended: a byte for each port of each protocol, 192 KiB.
+/// The mappings that have begun at a box and haven't ended: a byte for each port of each protocol, 192 KiB.
 #[derive(Drop)]
 pub struct Mappings {
     have_begun: Vec<bool>,
 }
 
 impl Mappings {
-    /// No mapping has begun.
+    /// Returns the state in which no mapping has begun.
     ///
     /// # Errors
     ///
-    /// Where there is no memory for them.
+    /// Where there is no memory for it.
     pub fn new(alloc: Global) -> Result<Mappings, NoMemory> {
         let have_begun = vec![in alloc; false; 3 * PORTS]?;
         Ok(Mappings { have_begun })
     }
 
-    /// Returns what a gateway's note tells of a mapping, if anything: it begins with the first packet that is translated with it,
-    /// and ends with its release.
+    /// Returns the begin or the end of a mapping that a gateway's note tells, if any. A mapping begins with the first packet that
+    /// is translated with it, and ends with its release.
     pub(crate) fn entry_of(&mut self, what: &NoteKind) -> Option<Entry> {
         match what {
             NoteKind::Used(pair) => {
@@ -79,7 +80,7 @@ impl Mappings {
         }
     }
 
-    /// Sets whether the mapping of a key has begun, and returns whether it had.
+    /// Sets whether the mapping of a key has begun, and returns what was set before.
     fn replace(&mut self, key: Key, has_begun: bool) -> bool {
         let index = PORTS * usize::from(key.protocol as u8) + usize::from(key.port.0);
         match self.have_begun.get_mut(index) {

@@ -1,4 +1,4 @@
-//! A sink that never waits.
+//! A log that writes lines, and never waits for their reader.
 
 use crate::lines::{LeftOutLine, PairsLine};
 use log::filter::FilteredLog;
@@ -13,7 +13,7 @@ use std::fmt::Display;
 /// The descriptor of the standard error.
 const STDERR: i32 = 2;
 
-/// How a record is written.
+/// The form of a record's line.
 #[derive(Clone, Copy, Debug, PartialEq, Eq)]
 pub enum Format {
     /// For people: `[WARN  natpair::link] 250 dropped 16 BadDatagram`.
@@ -22,13 +22,13 @@ pub enum Format {
     Pairs,
 }
 
-/// What lines are written to.
+/// What a [`Sink`] writes its lines to.
 pub trait LineWriter {
-    /// Writes a line and its end, if that doesn't wait, and says whether it did.
+    /// Writes a line and its end, unless that would wait. Returns whether the whole line was written.
     fn try_write_line<D: Display + Drop>(&mut self, line: D) -> bool;
 }
 
-/// The standard error. A poll says before each line whether a write would wait; a line is one write.
+/// The standard error. Each line is polled for first, and then written by one write, so nothing is buffered.
 #[derive(Clone, Copy, Debug, Drop)]
 pub struct StandardError<R>(pub R);
 
@@ -38,14 +38,17 @@ impl<R: Eprint> LineWriter for StandardError<R> {
     }
 }
 
-/// A log that leaves out what it can't write at once, and counts it.
+/// A log that leaves out the lines that it can't write at once, and counts them.
 pub trait Journal: Log {
-    /// How many lines were left out since the start.
+    /// Returns how many lines were left out since the log's start.
     fn lines_left_out(&self) -> u64;
 }
 
-/// A log that never waits: it leaves out and counts a record that can't be written at once. The count is written as soon as
-/// a line can be: before the next record, or at a `flush`.
+/// A log that writes a line for each record, and never waits.
+///
+/// A record is left out where its line can't be written at once: it isn't kept for later, and only counted. The next record, or
+/// the next `flush`, first writes a line with how many were left out since the last such line. Where that line can't be written
+/// either, the record is left out too.
 #[derive(Drop)]
 pub struct Sink<W> {
     format: Format,
@@ -53,11 +56,12 @@ pub struct Sink<W> {
 }
 
 impl<W: LineWriter> Sink<W> {
+    /// Returns a sink that has left out nothing yet.
     pub fn new(writer: W, format: Format) -> Sink<W> {
         let output = Output {
             writer,
-            unreported: 0,
             left_out: 0,
+            unreported: 0,
         };
         Sink {
             format,
@@ -109,16 +113,18 @@ impl<L: Journal, A: Allocator> Journal for FilteredLog<L, A> {
     }
 }
 
-/// A writer, how many lines were left out there, and how many of them no line has reported yet.
+/// A writer, with counts of the lines that weren't written to it.
 #[derive(Drop)]
 struct Output<W> {
     writer: W,
-    unreported: u64,
+    /// How many lines were left out since the start.
     left_out: u64,
+    /// How many of them no line has reported yet.
+    unreported: u64,
 }
 
 impl<W: LineWriter> Output<W> {
-    /// Writes a line, or leaves it out.
+    /// Writes a record's line, after the line about those that were left out before; or leaves it out.
     fn write<D: Display + Drop>(&mut self, format: Format, line: D) {
         if !(self.report_left_out(format) && self.writer.try_write_line(line)) {
             self.unreported = self.unreported.saturating_add(1);
@@ -126,7 +132,7 @@ impl<W: LineWriter> Output<W> {
         }
     }
 
-    /// Writes how many lines were left out, if any were, and says whether all are reported.
+    /// Writes the line about the lines that were left out, unless all are reported. Returns whether all are now.
     fn report_left_out(&mut self, format: Format) -> bool {
         let lines = self.unreported;
         if lines > 0 && !self.writer.try_write_line(LeftOutLine { format, lines }) {

@@ -1,4 +1,4 @@
-//! A pair of NAT gateways: `natpair --help` tells its commands.
+//! A pair of NAT gateways: `natpair --help` lists the commands.
 #![tactic(auto)]
 
 use commands::act;
@@ -8,7 +8,7 @@ use std::io::{self, BufWriter, ErrorKind, IsTerminal, Write};
 use std::process::ExitCode;
 use std::rt::Env;
 
-/// Acts by the words that the program was started with, and gives the status that it ends with.
+/// Carries out the command of the program's words, and returns the exit status.
 fn start<E: Write + IsTerminal>(rt: &HostRuntime, errors: &mut E) -> io::Result<u8> {
     let words = env::args(rt)?.collect::<Vec<String>>(rt.alloc())?;
     let mut output = BufWriter::new(rt.alloc(), io::writer(rt))?;

@@ -1,19 +1,19 @@
-//! What a descriptor reports, by a poll that never waits.
+//! Polls of one descriptor, which never wait.
 
 use libc::types::pollfd;
 use std::os::fd::RawFd;
 
-/// Whether something is there to be read, or the other end is closed.
+/// Whether the descriptor has something to be read, is at its end, or has an error.
 pub fn is_readable(descriptor: RawFd) -> bool {
     reported(descriptor, libc::net::POLLIN) != 0
 }
 
-/// Whether a write wouldn't wait. A pipe takes 4,096 bytes at once then.
+/// Whether a write to the descriptor wouldn't wait. A pipe takes 4,096 bytes at once then.
 pub fn is_writable(descriptor: RawFd) -> bool {
     reported(descriptor, libc::net::POLLOUT) & libc::net::POLLOUT != 0
 }
 
-/// What is reported of these events, or of an error; 0 where nothing is.
+/// Returns which of these events a descriptor reports, with its errors; 0 where it reports nothing.
 fn reported(descriptor: RawFd, events: i16) -> i16 {
     let mut polled = [pollfd {
         fd: descriptor,

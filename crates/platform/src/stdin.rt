@@ -3,8 +3,8 @@
 use crate::poll::is_readable;
 use std::io::{ErrorKind, Read};
 
-/// Whether the standard input is at its end, or can't be read. What comes before its end is read and ignored, at most 512 bytes
-/// a call. It never waits.
+/// Whether the standard input is at its end, or can't be read. A call reads and ignores at most 512 bytes that come before
+/// the end, and never waits.
 pub fn stdin_has_ended<R: Input>(rt: &R) -> bool {
     if !is_readable(libc::STDIN_FILENO) {
         return false;

@@ -1,21 +1,23 @@
 //! Values as bytes: numbers of 8 bytes, big-endian; flags and small numbers of one.
 
+use crate::MAX_PAGE_ENTRIES;
 use arrayvec::ArrayVec;
 use std::fmt::{self, Display, Formatter};
 
-/// The version of the bytes, which stands first in them.
+/// The version of the bytes of reports and pages, which is their first byte.
 pub const VERSION: u8 = 2;
 
-/// How many bytes a report or a page has at most.
-pub const LONGEST: usize = 1283;
+/// How many bytes a report or a page has at most: those of a full page, which has 3 bytes before its entries, and 10 for
+/// each. A report has at most 1,058.
+pub const MAX_REPORT_BYTES: usize = 3 + 10 * MAX_PAGE_ENTRIES;
 
 /// The bytes of a report or a page.
-pub type ReportBytes = ArrayVec<u8, LONGEST>;
+pub type ReportBytes = ArrayVec<u8, MAX_REPORT_BYTES>;
 
 /// Why bytes are no report, and no page.
 #[derive(Clone, Copy, Debug, PartialEq, Eq)]
 pub enum ReadFault {
-    /// They are of this version, which isn't known.
+    /// The first byte is this version, which isn't known.
     OtherVersion(u8),
     /// No report or page has these bytes.
     BadBytes,
@@ -30,7 +32,7 @@ impl Display for ReadFault {
     }
 }
 
-/// Puts bytes behind those that are there. There is capacity for all that a report or a page has.
+/// Appends bytes. There is capacity for all bytes of a report or a page.
 pub(crate) fn put(out: &mut ReportBytes, bytes: &[u8]) {
     let _fits = out.try_extend_from_slice(bytes);
 }
@@ -53,49 +55,54 @@ pub(crate) fn put_numbers(out: &mut ReportBytes, numbers: &[u64]) {
     }
 }
 
-/// Bytes that are read from the front on. What isn't there, or is no such value, is `None`.
+/// A reader of values from bytes. Each method reads the next value, or gives `None` where there is no such value.
 #[derive(Drop)]
-pub(crate) struct Reader<'a> {
-    pub(crate) rest: &'a [u8],
+pub(crate) struct ByteReader<'a> {
+    rest: &'a [u8],
 }
 
-impl<'a> Reader<'a> {
-    /// What stands behind the version.
-    pub(crate) fn new(bytes: &'a [u8]) -> Result<Reader<'a>, ReadFault> {
+impl<'a> ByteReader<'a> {
+    /// Returns a reader of the bytes after the version.
+    ///
+    /// # Errors
+    ///
+    /// `OtherVersion`; `BadBytes` where there are no bytes.
+    pub(crate) fn new(bytes: &'a [u8]) -> Result<ByteReader<'a>, ReadFault> {
         match bytes {
             [] => Err(ReadFault::BadBytes),
-            [VERSION, rest @ ..] => Ok(Reader { rest }),
+            [VERSION, rest @ ..] => Ok(ByteReader { rest }),
             [version, ..] => Err(ReadFault::OtherVersion(*version)),
         }
     }
 
+    /// Reads so many bytes.
     fn take(&mut self, count: usize) -> Option<&'a [u8]> {
         let (front, rest) = self.rest.split_at_checked(count)?;
         self.rest = rest;
         Some(front)
     }
 
-    pub(crate) fn byte(&mut self) -> Option<u8> {
+    pub(crate) fn read_byte(&mut self) -> Option<u8> {
         let (byte, rest) = self.rest.split_first()?;
         self.rest = rest;
         Some(*byte)
     }
 
-    pub(crate) fn half(&mut self) -> Option<u16> {
+    pub(crate) fn read_u16(&mut self) -> Option<u16> {
         match self.take(2)? {
             [high, low] => Some(u16::from_be_bytes([*high, *low])),
             _ => None,
         }
     }
 
-    pub(crate) fn word(&mut self) -> Option<u32> {
+    pub(crate) fn read_u32(&mut self) -> Option<u32> {
         match self.take(4)? {
             [a, b, c, d] => Some(u32::from_be_bytes([*a, *b, *c, *d])),
             _ => None,
         }
     }
 
-    pub(crate) fn number(&mut self) -> Option<u64> {
+    pub(crate) fn read_number(&mut self) -> Option<u64> {
         match self.take(8)? {
             [a, b, c, d, e, f, g, h] => {
                 Some(u64::from_be_bytes([*a, *b, *c, *d, *e, *f, *g, *h]))
@@ -104,23 +111,23 @@ impl<'a> Reader<'a> {
         }
     }
 
-    pub(crate) fn numbers<const N: usize>(&mut self) -> Option<[u64; N]> {
+    pub(crate) fn read_numbers<const N: usize>(&mut self) -> Option<[u64; N]> {
         let mut numbers = [0; N];
         for i in 0..N {
-            numbers[i] = self.number()?;
+            numbers[i] = self.read_number()?;
         }
         Some(numbers)
     }
 
-    pub(crate) fn flag(&mut self) -> Option<bool> {
-        match self.byte()? {
+    pub(crate) fn read_flag(&mut self) -> Option<bool> {
+        match self.read_byte()? {
             0 => Some(false),
             1 => Some(true),
             _ => None,
         }
     }
 
-    /// Nothing is left.
+    /// Whether all bytes are read.
     pub(crate) fn is_done(&self) -> bool {
         self.rest.is_empty()
     }

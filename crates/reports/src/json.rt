@@ -1,10 +1,10 @@
-//! A report as JSON. No name and no value in it has a character that would want escaping.
+//! A report as JSON. No name and no value has a character that needs escaping.
 
-use crate::names::{PROTOCOLS, dropped, left_out, origin_name, role_name};
+use crate::names::{PROTOCOLS, dropped, left_out, origin_name};
 use crate::units::Seconds;
-use crate::{Count, Counters, GatewayReport, PairCounts, PeerReport, Report, SideReport};
+use crate::{Counter, Counters, GatewayReport, PairCounts, PeerReport, Report, SideReport};
 use addresses::Protocol;
-use journal::{Cause, Origin, reason_name};
+use journal::{Cause, Origin, reason_name, role_name};
 use nat_types::EntryState;
 use std::fmt::{self, Display, Formatter};
 
@@ -29,7 +29,7 @@ impl Display for JsonText<'_> {
     }
 }
 
-/// A member whose value is an object of numbers, behind a text: `,"waiting":{"pair":0,"next_hop":2}`.
+/// Writes the text `before`, and then a member whose value is an object of numbers: `"waiting":{"pair":0,"next_hop":2}`.
 fn write_numbers<W: fmt::Write>(
     f: &mut Formatter<W>,
     before: &str,
@@ -45,7 +45,7 @@ fn write_numbers<W: fmt::Write>(
     f.write_str("}")
 }
 
-/// Which box it is, and how it stands. The object stays open.
+/// Writes the start of the report's object: which box it is, and its state.
 fn write_box<W: fmt::Write>(f: &mut Formatter<W>, report: &Report) -> fmt::Result {
     let (id, boot, uptime) = (report.id, report.boot, Seconds(report.gateway.uptime));
     let (synced, away, digest) = (report.gateway.synced, report.gateway.away, report.digest);
@@ -87,7 +87,7 @@ fn write_pairs<W: fmt::Write>(f: &mut Formatter<W>, counts: &PairCounts) -> fmt:
     f.write_str("}")
 }
 
-/// How many entries of a protocol have each state.
+/// Writes how many entries of a protocol have each state.
 fn write_states<W: fmt::Write>(
     f: &mut Formatter<W>,
     before: &str,
@@ -142,7 +142,7 @@ fn write_traffic<W: fmt::Write>(f: &mut Formatter<W>, counters: &Counters) -> fm
     write_place(f, ",", "words", counters, Origin::Own)
 }
 
-/// What was received and sent at a place, and what wasn't sent.
+/// Writes what was received and sent at a place, and what couldn't be sent.
 fn write_place<W: fmt::Write>(
     f: &mut Formatter<W>,
     before: &str,
@@ -155,10 +155,10 @@ fn write_place<W: fmt::Write>(
         before,
         name,
         &[
-            ("in", counters.of(origin, Count::Received)),
-            ("out", counters.of(origin, Count::Sent)),
-            ("failed", counters.of(origin, Count::SendFailed)),
-            ("too_long", counters.of(origin, Count::TooLong)),
+            ("in", counters.of(origin, Counter::Received)),
+            ("out", counters.of(origin, Counter::Sent)),
+            ("failed", counters.of(origin, Counter::SendFailed)),
+            ("too_long", counters.of(origin, Counter::TooLong)),
         ],
     )
 }
@@ -173,7 +173,7 @@ fn write_dropped<W: fmt::Write>(f: &mut Formatter<W>, counters: &Counters) -> fm
     f.write_str("}")
 }
 
-/// An object of how many were dropped at a place for each reason.
+/// Writes an object of how many events of a place were dropped for each reason.
 fn write_reasons<W: fmt::Write>(
     f: &mut Formatter<W>,
     counters: &Counters,
@@ -190,7 +190,7 @@ fn write_reasons<W: fmt::Write>(
     f.write_str("}")
 }
 
-/// What was left out, and the end of the object and of its line.
+/// Writes what was left out, and the end of the report's object and of its line.
 fn write_left_out<W: fmt::Write>(f: &mut Formatter<W>, report: &Report) -> fmt::Result {
     let (events, lines) = (left_out(&report.counters), report.lines_left_out);
     writeln!(f, ",\"left_out\":{events},\"lines_left_out\":{lines}}}")

@@ -1,15 +1,15 @@
-//! A report as metrics in Prometheus' text format: of each family what it is, its kind, and its samples. No label has a
-//! character that would want escaping.
+//! A report as metrics in Prometheus' text format: of each family a help text, its kind, and its samples. No label has a
+//! character that needs escaping.
 
 use crate::names::{PROTOCOLS, STATES, dropped, left_out, origin_name, state_name};
 use crate::units::Seconds;
-use crate::{Count, Counters, GatewayReport, PairCounts, PeerReport, Report, Sides};
+use crate::{Counter, Counters, GatewayReport, PairCounts, PeerReport, Report, Sides};
 use addresses::Protocol;
 use journal::{Cause, Origin, reason_name};
 use std::fmt::{self, Display, Formatter};
 use vrrp_states::State;
 
-/// A report in Prometheus' text format. All reasons of all places are there, so that a rate has its first sample.
+/// A report in Prometheus' text format. All reasons of all places have a sample, also of 0, so that a rate has its first one.
 #[derive(Clone, Copy)]
 pub struct MetricsText<'a>(pub &'a Report);
 
@@ -30,7 +30,7 @@ impl Display for MetricsText<'_> {
     }
 }
 
-/// What a family is, and of which kind.
+/// Writes the head of a family: its help text, and its kind.
 fn write_head<W: fmt::Write>(
     f: &mut Formatter<W>,
     kind: &str,
@@ -41,7 +41,7 @@ fn write_head<W: fmt::Write>(
     writeln!(f, "# TYPE {name} {kind}")
 }
 
-/// The samples of a family: their labels, and their values.
+/// Writes the samples of a family, each with its labels and its value.
 fn write_samples<W: fmt::Write, V: Display>(
     f: &mut Formatter<W>,
     name: &str,
@@ -53,7 +53,7 @@ fn write_samples<W: fmt::Write, V: Display>(
     Ok(())
 }
 
-/// A family whose values go up and down.
+/// Writes a family whose values go up and down.
 fn write_gauge<W: fmt::Write, V: Display>(
     f: &mut Formatter<W>,
     name: &str,
@@ -64,7 +64,7 @@ fn write_gauge<W: fmt::Write, V: Display>(
     write_samples(f, name, samples)
 }
 
-/// A family whose values rise, from 0 at the box's start.
+/// Writes a family whose values only rise, from 0 at the box's start.
 fn write_counter<W: fmt::Write>(
     f: &mut Formatter<W>,
     name: &str,
@@ -75,7 +75,7 @@ fn write_counter<W: fmt::Write>(
     write_samples(f, name, samples)
 }
 
-/// Which box it is.
+/// Writes which box it is.
 fn write_info<W: fmt::Write>(f: &mut Formatter<W>, report: &Report) -> fmt::Result {
     let help = "Which box it is, and a digest of the settings that both boxes must have alike.";
     write_head(f, "gauge", "natpair_info", help)?;
@@ -83,7 +83,7 @@ fn write_info<W: fmt::Write>(f: &mut Formatter<W>, report: &Report) -> fmt::Resu
     writeln!(f, "natpair_info{{box=\"{id}\",digest=\"{digest:016x}\"}} 1")
 }
 
-/// How it stands.
+/// Writes the state of the box.
 fn write_box<W: fmt::Write>(f: &mut Formatter<W>, report: &Report) -> fmt::Result {
     let (uptime, boot) = (Seconds(report.gateway.uptime), report.boot);
     let synced = u64::from(report.gateway.synced);
@@ -98,7 +98,7 @@ fn write_box<W: fmt::Write>(f: &mut Formatter<W>, report: &Report) -> fmt::Resul
     write_gauge(f, "natpair_away", help, &[("", away)])
 }
 
-/// The labels of both sides.
+/// The labels of the sides' samples.
 const INSIDE: &str = "{side=\"inside\"}";
 
 const OUTSIDE: &str = "{side=\"outside\"}";
@@ -106,7 +106,7 @@ const OUTSIDE: &str = "{side=\"outside\"}";
 fn write_sides<W: fmt::Write>(f: &mut Formatter<W>, sides: &Sides, now: u64) -> fmt::Result {
     let (inside, outside) = (&sides.inside, &sides.outside);
     let is_active = |state: State| u64::from(state == State::Active);
-    let since = |moment: u64| Seconds(now.saturating_sub(moment));
+    let since = |timestamp: u64| Seconds(now.saturating_sub(timestamp));
     write_gauge(
         f,
         "natpair_active",
@@ -136,9 +136,12 @@ fn write_sides<W: fmt::Write>(f: &mut Formatter<W>, sides: &Sides, now: u64) -> 
     )
 }
 
-/// The other box; how long ago it was heard is left out, where it wasn't.
+/// How long ago the other box was heard at most, in centiseconds, to count as heard.
+const HEARD_WITHIN: u64 = 300;
+
+/// Writes the other box. How long ago it was heard is left out where it wasn't.
 fn write_peer<W: fmt::Write>(f: &mut Formatter<W>, peer: &PeerReport) -> fmt::Result {
-    let is_heard = u64::from(peer.heard.is_some_and(|ago| ago <= 300));
+    let is_heard = u64::from(peer.heard.is_some_and(|ago| ago <= HEARD_WITHIN));
     let help = "Number of the other box's start, or 0 where none is known.";
     write_gauge(f, "natpair_peer_boot", help, &[("", peer.boot)])?;
     let help = "Whether the other box was heard in the last 3 seconds.";
@@ -165,7 +168,7 @@ fn write_pairs<W: fmt::Write>(f: &mut Formatter<W>, counts: &PairCounts) -> fmt:
     Ok(())
 }
 
-/// How many entries of a protocol have each state.
+/// Writes how many entries of a protocol have each state.
 fn write_states<W: fmt::Write>(
     f: &mut Formatter<W>,
     counts: &PairCounts,
@@ -208,10 +211,10 @@ fn write_ports<W: fmt::Write>(f: &mut Formatter<W>, gateway: &GatewayReport) -> 
     )
 }
 
-/// What was received and sent.
+/// Writes what was received and sent.
 fn write_traffic<W: fmt::Write>(f: &mut Formatter<W>, counters: &Counters) -> fmt::Result {
-    let received = |origin| counters.of(origin, Count::Received);
-    let sent = |origin| counters.of(origin, Count::Sent);
+    let received = |origin| counters.of(origin, Counter::Received);
+    let sent = |origin| counters.of(origin, Counter::Sent);
     write_counter(
         f,
         "natpair_frames_total",
@@ -243,22 +246,22 @@ fn write_traffic<W: fmt::Write>(f: &mut Formatter<W>, counters: &Counters) -> fm
     )
 }
 
-/// What wasn't sent.
+/// Writes what couldn't be sent.
 fn write_failures<W: fmt::Write>(f: &mut Formatter<W>, counters: &Counters) -> fmt::Result {
     let name = "natpair_send_failures_total";
     write_head(f, "counter", name, "What the system didn't take.")?;
-    write_places(f, name, counters, Count::SendFailed)?;
+    write_places(f, name, counters, Counter::SendFailed)?;
     let name = "natpair_too_long_total";
     write_head(f, "counter", name, "What was longer than its way takes.")?;
-    write_places(f, name, counters, Count::TooLong)
+    write_places(f, name, counters, Counter::TooLong)
 }
 
-/// A count of each place.
+/// Writes a counter of each place.
 fn write_places<W: fmt::Write>(
     f: &mut Formatter<W>,
     name: &str,
     counters: &Counters,
-    what: Count,
+    what: Counter,
 ) -> fmt::Result {
     for origin in Origin::ALL {
         let (place, count) = (origin_name(origin), counters.of(origin, what));
@@ -276,7 +279,7 @@ fn write_dropped<W: fmt::Write>(f: &mut Formatter<W>, counters: &Counters) -> fm
     Ok(())
 }
 
-/// How many were dropped at a place for each reason.
+/// Writes how many events of a place were dropped for each reason.
 fn write_reasons<W: fmt::Write>(
     f: &mut Formatter<W>,
     counters: &Counters,

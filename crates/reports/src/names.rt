@@ -1,11 +1,10 @@
-//! The names of things in texts.
+//! Names in texts, and sums that more than one text has.
 
-use crate::{Count, Counters};
+use crate::{Counter, Counters};
 use addresses::Protocol;
 use journal::{Cause, Origin};
 use nat_types::EntryState;
 use packet_rules::Reason;
-use vrrp_states::State;
 
 /// All protocols, in the order of texts.
 pub(crate) const PROTOCOLS: [Protocol; 3] = [Protocol::Icmp, Protocol::Tcp, Protocol::Udp];
@@ -18,14 +17,6 @@ pub(crate) const STATES: [EntryState; 5] = [
     EntryState::Closing,
     EntryState::Held,
 ];
-
-pub(crate) fn role_name(role: State) -> &'static str {
-    match role {
-        State::Initialize => "Initialize",
-        State::Backup => "Backup",
-        State::Active => "Active",
-    }
-}
 
 pub(crate) fn origin_name(origin: Origin) -> &'static str {
     match origin {
@@ -46,16 +37,16 @@ pub(crate) fn state_name(state: EntryState) -> &'static str {
     }
 }
 
-/// How many were dropped there for that reason.
+/// Returns how many events of an origin were dropped for a reason.
 pub(crate) fn dropped(counters: &Counters, origin: Origin, reason: Reason) -> u64 {
-    counters.of(origin, Count::Lost(Cause::Dropped(reason)))
+    counters.of(origin, Counter::Lost(Cause::Dropped(reason)))
 }
 
-/// How many events were left out, since memory was refused.
+/// Returns how many events were left out, since memory ran out.
 pub(crate) fn left_out(counters: &Counters) -> u64 {
-    let mut total = 0u64;
+    let mut total = 0_u64;
     for origin in Origin::ALL {
-        total = total.saturating_add(counters.of(origin, Count::Lost(Cause::NoMemory)));
+        total = total.saturating_add(counters.of(origin, Counter::Lost(Cause::NoMemory)));
     }
     total
 }

@@ -1,4 +1,4 @@
-//! The lines of pairs.
+//! The lines of a page's pairs.
 
 use crate::Page;
 use crate::names::state_name;
@@ -7,19 +7,19 @@ use bindings::Entry;
 use nat_types::{EntryState, Pair};
 use std::fmt::{self, Display, Formatter};
 
-/// Which entries are wanted: those that have each thing that is said here.
+/// Which entries of a page pass: those that have each value that is set.
 #[derive(Clone, Copy, Debug, PartialEq, Eq)]
 pub struct PairFilter {
     pub protocol: Option<Protocol>,
-    /// Of the inside host.
+    /// The address of the inside host.
     pub address: Option<Ip>,
-    /// Outside.
+    /// The outside port.
     pub port: Option<Port>,
     pub state: Option<EntryState>,
 }
 
 impl PairFilter {
-    /// All entries.
+    /// The filter that all entries pass.
     pub const ALL: PairFilter = PairFilter {
         protocol: None,
         address: None,
@@ -27,7 +27,7 @@ impl PairFilter {
         state: None,
     };
 
-    /// Whether an entry is wanted.
+    /// Whether an entry passes.
     pub fn passes(&self, entry: &Entry) -> bool {
         let Pair { key, endpoint } = entry.pair;
         self.protocol.is_none_or(|wanted| wanted == key.protocol)
@@ -37,8 +37,8 @@ impl PairFilter {
     }
 }
 
-/// A line for each entry of a page that is wanted, as `udp 20000 192.168.1.10 5000 held`: protocol, outside port,
-/// inside address and port, state. Of `icmp` the ports are the identifiers of a ping (RFC 5508, section 3).
+/// A line for each entry of a page that passes a filter, as `udp 20000 192.168.1.10 5000 held`: protocol, outside port, inside
+/// address and port, state. Of `icmp` the ports are the identifiers of a ping (RFC 5508, section 3).
 #[derive(Clone, Copy)]
 pub struct PairLines<'a>(pub &'a Page, pub &'a PairFilter);
 

@@ -1,14 +1,14 @@
-//! A report for people.
+//! A report as text for people.
 
-use crate::names::{dropped, left_out, origin_name, role_name};
+use crate::names::{dropped, left_out, origin_name};
 use crate::units::{Grouped, Seconds, Span};
-use crate::{Count, Counters, GatewayReport, PeerReport, Report, SideReport};
+use crate::{Counter, Counters, GatewayReport, PeerReport, Report, SideReport};
 use addresses::Protocol;
-use journal::{Cause, Origin, reason_name};
+use journal::{Cause, Origin, reason_name, role_name};
 use nat_types::EntryState;
 use std::fmt::{self, Display, Formatter};
 
-/// A report for people: a line for each thing, with its name before it.
+/// A report as text for people: lines, each with the name of its subject first.
 #[derive(Clone, Copy)]
 pub struct PlainText<'a>(pub &'a Report);
 
@@ -30,7 +30,7 @@ impl Display for PlainText<'_> {
     }
 }
 
-/// Which box it is, and how it stands.
+/// Writes which box it is, and its state.
 fn write_box<W: fmt::Write>(f: &mut Formatter<W>, report: &Report) -> fmt::Result {
     let (id, boot, uptime) = (report.id, report.boot, Span(report.gateway.uptime));
     write!(f, "box {id}, boot {boot}, up {uptime}, ")?;
@@ -75,7 +75,7 @@ fn write_peer<W: fmt::Write>(f: &mut Formatter<W>, peer: &PeerReport) -> fmt::Re
     })
 }
 
-/// How many entries of each protocol have each state, and how many ports are free.
+/// Writes how many entries of each protocol have each state, and how many ports are free.
 fn write_pairs<W: fmt::Write>(f: &mut Formatter<W>, gateway: &GatewayReport) -> fmt::Result {
     write_protocol(f, "icmp     ", Protocol::Icmp, gateway)?;
     write_protocol(f, "tcp      ", Protocol::Tcp, gateway)?;
@@ -107,7 +107,7 @@ fn write_ports<W: fmt::Write>(f: &mut Formatter<W>, gateway: &GatewayReport) -> 
     )
 }
 
-/// The line of each place, as it begins.
+/// How the line of each place begins.
 const PLACES: [(&str, Origin); 4] = [
     ("frames   inside  ", Origin::Inside),
     ("frames   outside ", Origin::Outside),
@@ -115,20 +115,20 @@ const PLACES: [(&str, Origin); 4] = [
     ("words    ", Origin::Own),
 ];
 
-/// What was received and sent at each place, and what wasn't sent.
+/// Writes what was received and sent at each place, and what couldn't be sent.
 fn write_traffic<W: fmt::Write>(f: &mut Formatter<W>, counters: &Counters) -> fmt::Result {
     for (name, origin) in PLACES {
-        let received = Grouped(counters.of(origin, Count::Received));
-        let sent = Grouped(counters.of(origin, Count::Sent));
-        let failed = Grouped(counters.of(origin, Count::SendFailed));
-        let too_long = Grouped(counters.of(origin, Count::TooLong));
+        let received = Grouped(counters.of(origin, Counter::Received));
+        let sent = Grouped(counters.of(origin, Counter::Sent));
+        let failed = Grouped(counters.of(origin, Counter::SendFailed));
+        let too_long = Grouped(counters.of(origin, Counter::TooLong));
         write!(f, "{name}{received} in, {sent} out, ")?;
         writeln!(f, "{failed} not sent, {too_long} too long")?;
     }
     Ok(())
 }
 
-/// The line of what was dropped at a place, if something was: each reason for which something was, with its number.
+/// Writes the line of what was dropped at a place, if anything was: each reason that has a count, with its number.
 fn write_dropped<W: fmt::Write>(
     f: &mut Formatter<W>,
     counters: &Counters,

@@ -2,7 +2,7 @@
 
 use std::fmt::{self, Display, Formatter};
 
-/// Centiseconds, as seconds: `0.06`.
+/// Centiseconds, written as seconds: `0.06`.
 #[derive(Clone, Copy)]
 pub(crate) struct Seconds(pub(crate) u64);
 
@@ -13,7 +13,7 @@ impl Display for Seconds {
     }
 }
 
-/// Centiseconds, in the two greatest units that they have: `3 d 4 h`, `2 h 10 min`, `5 min 0 s`, `12 s`.
+/// Centiseconds, written in their two greatest units: `3 d 4 h`, `2 h 10 min`, `5 min 0 s`, `12 s`.
 #[derive(Clone, Copy)]
 pub(crate) struct Span(pub(crate) u64);
 
@@ -33,7 +33,7 @@ impl Display for Span {
     }
 }
 
-/// A number with a comma before each group of three digits: `1,204`.
+/// A number, written with a comma before each group of three digits: `1,204`.
 #[derive(Clone, Copy)]
 pub(crate) struct Grouped(pub(crate) u64);
 

@@ -2,8 +2,9 @@
 
 use crate::views::View;
 use gateway::{Event, Outcome};
-use journal::{Cause, Entry, EventLog, Journal, Origin, Role};
+use journal::{Cause, Entry, EventLog, Journal, Origin};
 use nat_types::{NoMemory, Side};
+use vrrp_states::State;
 
 /// Returns where an event came from, for the log.
 pub(crate) fn origin_of(event: &Event<'_>) -> Origin {
@@ -73,16 +74,16 @@ fn log_change<L: Journal>(
 
 /// Returns the state of a side's virtual router. The router is started while the table is loaded, but not while the gateway
 /// is away, nor once it has stopped.
-fn role_of(view: &View, side: Side, has_stopped: bool) -> Role {
+fn role_of(view: &View, side: Side, has_stopped: bool) -> State {
     let is_active = match side {
         Side::Inside => view.inside,
         Side::Outside => view.outside,
     };
     if is_active {
-        Role::Active
+        State::Active
     } else if view.synced && !view.away && !has_stopped {
-        Role::Backup
+        State::Backup
     } else {
-        Role::Initialize
+        State::Initialize
     }
 }

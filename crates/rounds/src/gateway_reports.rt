@@ -6,7 +6,7 @@ use bindings::Entry;
 use gateway::Gateway;
 use nat_types::{Key, NoMemory, Side};
 use reports::{
-    GatewayReport, MOST_ENTRIES, Page, PairCounts, PeerReport, PortCounts, SideReport, Sides,
+    GatewayReport, MAX_PAGE_ENTRIES, Page, PairCounts, PeerReport, PortCounts, SideReport, Sides,
     WaitingCounts,
 };
 
@@ -67,7 +67,7 @@ pub fn page_after(gateway: &Gateway, after: Option<Key>) -> Page {
     let mut entries = ArrayVec::new();
     let mut last = after;
     let mut more = false;
-    for _ in 0..=MOST_ENTRIES {
+    for _ in 0..=MAX_PAGE_ENTRIES {
         match gateway.entry_after(last) {
             Some(entry) => {
                 last = Some(entry.pair.key);

@@ -1,27 +1,27 @@
-//! Logs that the box has no table.
+//! Logs that the box's table isn't loaded.
 
 use gateway::Gateway;
 use journal::{Entry, EventLog, Journal, PeerState};
 
-/// After how many centiseconds without a table that is logged. A start with a table of full size takes less.
+/// The time of the first record, in centiseconds since the box's start. A start beside a box with a full table takes less.
 const FIRST_WARNING: u64 = 1_000;
 
-/// After how many centiseconds that is logged again.
+/// The time from one record to the next, in centiseconds.
 const WARNING_INTERVAL: u64 = 6_000;
 
-/// When it is logged next that the box has no table.
+/// The time at which the log says next that the box's table isn't loaded.
 #[derive(Clone, Copy)]
 pub(crate) struct MissingTable {
     due: u64,
 }
 
 impl MissingTable {
-    /// Nothing was logged yet since the box's start.
-    pub(crate) fn unlogged() -> MissingTable {
+    /// Returns the time of a box's first record.
+    pub(crate) fn new() -> MissingTable {
         MissingTable { due: FIRST_WARNING }
     }
 
-    /// Logs that the gateway isn't synced, where that is due, and what it knows of the other one.
+    /// Logs how the other box stands, if the table isn't loaded and a record is due.
     pub(crate) fn log<L: Journal>(&mut self, gateway: &Gateway, log: &EventLog<L>) {
         let now = gateway.moment();
         if gateway.synced() || now < self.due {
@@ -32,6 +32,7 @@ impl MissingTable {
     }
 }
 
+/// Returns how the other gateway stands.
 fn peer_state(gateway: &Gateway) -> PeerState {
     if gateway.peer_serves() {
         PeerState::Serving

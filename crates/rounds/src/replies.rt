@@ -10,8 +10,8 @@ use control::{HEARD, PAGE, REPORT, refusal_bytes};
 use gateway::Gateway;
 use journal::{EventLog, Journal, Origin};
 use nat_types::{NoMemory, Side};
-use reports::{Count, Counters, Report};
-use sockets::{LONGEST, Place, Wire};
+use reports::{Counter, Counters, Report};
+use sockets::{MAX_DATAGRAM, Place, Wire};
 
 /// Replies to a word at once, or keeps its request for the round's end. The reply to a word whose event ran out of memory
 /// (`is_done` is false) is empty.
@@ -41,7 +41,7 @@ fn answer<W: Wire>(bytes: &[u8], wire: &mut W, state: &mut RoundState)
     ensures passes { W.passes wire.old nothing wire.new }
 {
     wire.answer(bytes);
-    state.counters.count(Origin::Own, Count::Sent);
+    state.counters.count(Origin::Own, Counter::Sent);
 }
 
 /// Answers the request of this round, if there is one. The answer is empty where there is no memory for it.
@@ -49,7 +49,7 @@ pub(crate) fn answer_request<W: Wire, L: Journal>(
     gateway: &Gateway,
     wire: &mut W,
     identity: Identity,
-    buffer: &mut [u8; LONGEST],
+    buffer: &mut [u8; MAX_DATAGRAM],
     state: &mut RoundState,
     log: &EventLog<L>,
 )
@@ -70,10 +70,10 @@ pub(crate) fn answer_request<W: Wire, L: Journal>(
 
 /// Writes a head and bytes into the buffer, and returns how many bytes there are. What doesn't fit is left out: no report
 /// and no page is that long.
-fn put(head: [u8; 2], bytes: &[u8], buffer: &mut [u8; LONGEST]) -> usize
-    ensures { result ≤ LONGEST }
+fn put(head: [u8; 2], bytes: &[u8], buffer: &mut [u8; MAX_DATAGRAM]) -> usize
+    ensures { result ≤ MAX_DATAGRAM }
 {
-    let count = bytes.len().min(LONGEST - 2);
+    let count = bytes.len().min(MAX_DATAGRAM - 2);
     buffer[..2].copy_from_slice(&head);
     buffer[2..2 + count].copy_from_slice(&bytes[..count]);
     2 + count
@@ -109,8 +109,8 @@ const PLACES: [(Place, Origin); 4] = [
 fn with_losses<W: Wire>(mut counters: Counters, wire: &W) -> Counters {
     for (place, origin) in PLACES {
         let losses = wire.losses(place);
-        counters.add(origin, Count::TooLong, losses.too_long);
-        counters.add(origin, Count::SendFailed, losses.failed);
+        counters.add(origin, Counter::TooLong, losses.too_long);
+        counters.add(origin, Counter::SendFailed, losses.failed);
     }
     counters
 }

@@ -10,9 +10,9 @@ use crate::steps::{take_event, take_message};
 use gateway::{Event, Gateway, Out};
 use journal::{EventLog, Journal};
 use nat_types::GatewayId;
-use platform::Clock;
+use platform::CentisecondClock;
 use reports::{Counters, Sides};
-use sockets::{LONGEST, Wire, WireFault};
+use sockets::{MAX_DATAGRAM, Wire, WireFault};
 use std::alloc::Global;
 use std::time::Duration;
 
@@ -103,7 +103,7 @@ impl RoundState {
             counters: Counters::new(),
             sides: sides_of(gateway),
             outages: Outages::none(),
-            missing_table: MissingTable::unlogged(),
+            missing_table: MissingTable::new(),
             request: None,
             is_ending: false,
         }
@@ -116,7 +116,7 @@ impl RoundState {
 /// stopped.
 ///
 /// A send that fails is a lost datagram. An event that runs out of memory changes nothing.
-pub fn serve<W: Wire, C: Clock, U: EndSignal, M: Manager, L: Journal>(
+pub fn serve<W: Wire, C: CentisecondClock, U: EndSignal, M: Manager, L: Journal>(
     alloc: Global,
     gateway: &mut Gateway,
     wire: &mut W,
@@ -138,7 +138,7 @@ pub fn serve<W: Wire, C: Clock, U: EndSignal, M: Manager, L: Journal>(
 }
 
 /// Runs the rounds of [`serve`] alone: the gateway isn't stopped, and can go on.
-pub fn run_rounds<W: Wire, C: Clock, U: EndSignal, M: Manager, L: Journal>(
+pub fn run_rounds<W: Wire, C: CentisecondClock, U: EndSignal, M: Manager, L: Journal>(
     alloc: Global,
     gateway: &mut Gateway,
     wire: &mut W,
@@ -157,7 +157,7 @@ pub fn run_rounds<W: Wire, C: Clock, U: EndSignal, M: Manager, L: Journal>(
     log.finish(gateway.moment());
 }
 
-fn all_rounds<W: Wire, C: Clock, U: EndSignal, M: Manager, L: Journal>(
+fn all_rounds<W: Wire, C: CentisecondClock, U: EndSignal, M: Manager, L: Journal>(
     gateway: &mut Gateway,
     wire: &mut W,
     clock: &mut C,
@@ -169,7 +169,7 @@ fn all_rounds<W: Wire, C: Clock, U: EndSignal, M: Manager, L: Journal>(
 )
     ensures rounds { HasTurned W.passes gateway.old wire.old gateway.new wire.new }
 {
-    let mut buffer = [0; LONGEST];
+    let mut buffer = [0; MAX_DATAGRAM];
     let mut last = 0;
     for _ in 0..options.rounds.map_or(u64::MAX, u64::from) {
         if state.is_ending || until.has_come() {
@@ -184,11 +184,11 @@ fn all_rounds<W: Wire, C: Clock, U: EndSignal, M: Manager, L: Journal>(
     }
 }
 
-fn round<W: Wire, C: Clock, L: Journal>(
+fn round<W: Wire, C: CentisecondClock, L: Journal>(
     gateway: &mut Gateway,
     wire: &mut W,
     clock: &mut C,
-    buffer: &mut [u8; LONGEST],
+    buffer: &mut [u8; MAX_DATAGRAM],
     state: &mut RoundState,
     log: &mut EventLog<L>,
     options: &Options,
@@ -209,7 +209,7 @@ fn round<W: Wire, C: Clock, L: Journal>(
 fn take_what_comes<W: Wire, L: Journal>(
     gateway: &mut Gateway,
     wire: &mut W,
-    buffer: &mut [u8; LONGEST],
+    buffer: &mut [u8; MAX_DATAGRAM],
     state: &mut RoundState,
     log: &mut EventLog<L>,
     track: bool,
@@ -230,7 +230,7 @@ fn take_next<W: Wire, L: Journal>(
     gateway: &mut Gateway,
     wire: &mut W,
     limit: Duration,
-    buffer: &mut [u8; LONGEST],
+    buffer: &mut [u8; MAX_DATAGRAM],
     state: &mut RoundState,
     log: &mut EventLog<L>,
     track: bool,

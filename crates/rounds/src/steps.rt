@@ -7,13 +7,13 @@ ghost use Rattle.spec_step.specs.Steps.{IsStepOn};
 ghost use Rattle.rounds.specs.Runs.{AreSent, Takes, TakesAny, TakesReplied, all_sent};
 
 use crate::changes::{cause_of, log_step, origin_of};
-use crate::messages::read_message;
+use crate::messages::{Message, read_message};
 use crate::replies::reply;
 use crate::rounds::RoundState;
 use crate::views::View;
 use gateway::{Event, Gateway, NoMemory, Out, Outcome};
 use journal::{EventLog, Journal, Origin};
-use reports::{Count, Counters};
+use reports::{Counter, Counters};
 use sockets::{Place, Wire};
 
 /// Takes what came at a place: counts it, steps the gateway where it is an event, and replies where it is a word.
@@ -29,10 +29,10 @@ pub(crate) fn take_message<W: Wire, L: Journal>(
     ensures taken { TakesReplied W.passes place bytes.now gateway.old wire.old
         gateway.new wire.new }
 {
-    state.counters.count(origin_at(place), Count::Received);
-    let message = read_message(&View::of(gateway), place, bytes, track);
-    let is_done = take_any(gateway, message.event, wire, state, log);
-    reply(message.response, is_done, wire, state);
+    state.counters.count(origin_at(place), Counter::Received);
+    let Message { event, response } = read_message(&View::of(gateway), place, bytes, track);
+    let is_done = take_any(gateway, event, wire, state, log);
+    reply(response, is_done, wire, state);
 }
 
 /// Takes an event, if there is one. Returns false where the gateway was out of memory.
@@ -67,7 +67,9 @@ pub(crate) fn take_event<W: Wire, L: Journal>(
     send_all(wire, &state.out, &mut state.counters);
     let cause = cause_of(outcome);
     if let Some(cause) = cause {
-        state.counters.count(origin_of(&event), Count::Lost(cause));
+        state
+            .counters
+            .count(origin_of(&event), Counter::Lost(cause));
     }
     log_step(log, &event, cause, &before, &View::of(gateway));
     log.write_mappings(state.out.notes());
@@ -102,7 +104,7 @@ fn send<W: Wire>(wire: &mut W, to: Place, bytes: &[u8], counters: &mut Counters)
     ensures passes { W.passes wire.old (sent to bytes.now) wire.new }
 {
     if wire.send(to, bytes).is_ok() {
-        counters.count(origin_at(to), Count::Sent);
+        counters.count(origin_at(to), Counter::Sent);
     }
 }
 

@@ -163,9 +163,10 @@ told_of t v (Ok s) u m b a h = tt
 told_of t v (Err e) u m b a h = told_assembled t v e u m b a h
 
 -- settings that are held, and can work or not
-pub read_from : (t : Members) (s : Settings) → refusal_of t ≡ None → HoldsValues t s → Works s → IsReadFrom (Some t) s
-read_from t s free values works = ((t, refl, free, values), works)
+pub read_from : (document : Option Members) (t : Members) (s : Settings) → document ≡ Some t → refusal_of t ≡ None → HoldsValues t s → Works s
+    → IsReadFrom document s
+read_from document t s is free values works = ((t, is, free, values), works)
 
-pub told_cant : (t : Members) (s : Settings) (k : Key) → refusal_of t ≡ None → HoldsValues t s → cant_work s ≡ Some k
-    → Tells (Some t) (faults.CantWork k)
-told_cant t s k free values h = (s, (t, refl, free, values), h)
+pub told_cant : (document : Option Members) (t : Members) (s : Settings) (k : Key) → document ≡ Some t → refusal_of t ≡ None → HoldsValues t s
+    → cant_work s ≡ Some k → Tells document (faults.CantWork k)
+told_cant document t s k is free values h = (s, (t, is, free, values), h)

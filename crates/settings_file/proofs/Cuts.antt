@@ -28,7 +28,7 @@ some_part c bs h =
     let none : count_by (λ b. b == c) bs + 1 ≡ 0 = sym (length-slice_split (λ b. b == c) bs) ∙ ap length h in
     omega arith
 
--- so there are more than four, or six, where one more is cut off behind as many
+-- so there are more than four, or six, where one more is cut off after four, or six
 pub five_parts : (p q r s : List ℕ) (c : ℕ) (bs : List ℕ) → address_in (p ∷ q ∷ r ∷ s ∷ parts_at c bs) ≡ None
 five_parts p q r s c bs = go (parts_at c bs) refl
   where

@@ -19,7 +19,7 @@ pub found_item : {X Y : Type 0} (F : List X → List Y) (old found new more : Li
 found_item F old found new more xs i x is lt added step all =
     found_more F old found new more xs i x lt added (ap (λ y. F (y ∷ drop (i + 1) xs)) (sym is) ∙ step) all
 
--- behind the last element all is found
+-- after the last element all is found
 pub found_all : {X Y : Type 0} (F : List X → List Y) (found all : List Y) (xs : List X) (i : ℕ) → F [] ≡ [] → length xs ≤ i
     → found ++ F (drop i xs) ≡ all → found ≡ all
 found_all F found all xs i none ended whole =

@@ -1,4 +1,4 @@
--- Which key is told, and by which fault.
+-- The key that a fault has, and which fault it is.
 use Rattle.std.specs.Prelude.{◌≡◌, Bool, if◌then◌else◌, List, [], ◌∷◌, Option, Some, None, Result, MatchResult}
 use Rattle.settings_file.specs.declared.keys.Section.{Section}
 use Rattle.settings_file.specs.declared.keys.Name.{Name}
@@ -41,6 +41,6 @@ TellsBad bad (faults.BadValue k) = bad ≡ Some k
 TellsBad bad faults.NoMemory = Unit {0}
 TellsBad bad _ = ⊥
 
--- the same where a fault is told
+-- the same where the result is a fault
 abbrev pub FindsBadValue : {X : Type 0} → Option Key → Result X SettingFault → Type 0
 FindsBadValue bad result = MatchResult result (λ value. bad ≡ None) (TellsBad bad)

@@ -18,8 +18,8 @@ use Rattle.settings_file.specs.Values.{IsRange, IsLimit, IsInterface, IsIcmp, Is
 use Rattle.settings_file.specs.Missing.{first_missing}
 use Rattle.settings_file.specs.Unknown.{first_unknown}
 use Rattle.settings_file.specs.Works.{Works, all_that_cant, cant_work}
-use Rattle.settings_file.specs.declared.looks.Look.{Look}
-use Rattle.settings_file.specs.declared.looks.Look.TheVariants as looks
+use Rattle.settings_file.specs.declared.examinations.Examination.{Examination}
+use Rattle.settings_file.specs.declared.examinations.Examination.TheVariants as examinations
 
 -- settings that stand at the keys of a document
 pub record HoldsValues (t : Members) (settings : Settings) : Type 0 where
@@ -133,7 +133,7 @@ Tells document faults.NoMemory = Unit {0}
 abbrev pub IsReadFrom : Option Members → Settings → Type 0
 IsReadFrom document settings = IsHeld document settings × Works settings
 
--- a look that found settings has those that the text holds, and all of their keys that can't work
-abbrev pub HasRead : Option Members → Look → Type 0
-HasRead document (looks.Held settings keys) = IsHeld document settings × (keys.items ≡ all_that_cant settings)
+-- an examination that found settings has those that the text holds, and all of their keys that can't work
+abbrev pub HasRead : Option Members → Examination → Type 0
+HasRead document (examinations.WellFormed settings unworkable) = IsHeld document settings × (unworkable.items ≡ all_that_cant settings)
 HasRead document _ = Unit {0}

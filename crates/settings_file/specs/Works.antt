@@ -15,11 +15,11 @@ use Rattle.settings_file.specs.Keys.{key}
 use Rattle.settings_file.specs.Document.{is_in}
 use Rattle.settings_file.specs.Faults.{all_bad, first}
 
--- the first address of a network, which stands for the network itself: none before it is in it (RFC 1122, section 3.2.1.3)
+-- the first address of a network, the address of the network itself: none before it is in it (RFC 1122, section 3.2.1.3)
 unfoldable pub is_first : ℕ → ℕ → Bool
 is_first length address = address == 0 || not (is_in (address - 1) address length)
 
--- the last address of a network, its broadcast address: the one behind it isn't in it
+-- the last address of a network, its broadcast address: the next one isn't in it
 unfoldable pub is_last : ℕ → ℕ → Bool
 is_last length address = not (is_in (address + 1) address length)
 

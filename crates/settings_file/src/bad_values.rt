@@ -1,30 +1,30 @@
-//! All keys of a document whose values are bad.
+//! The keys of a document whose values are bad.
 
-use crate::neighbours::{self, NEIGHBOURS};
-use crate::rows::add_bad;
+use crate::key_checks::add_failing;
+use crate::neighbours::{self, MAX_NEIGHBOURS};
 use crate::{Key, Name, Section, fields, limits, sections};
 use addresses::Prefix;
 use nat_types::Side;
 use std::alloc::{AllocError, Global};
 use toml::{Table, Value};
 
-/// All keys whose values are bad, in the order of the text. An address is held against a network only where that is
-/// known, so that a bad prefix isn't told of every address in it.
+/// Returns all keys whose values are bad, in the order of the text. An address is compared with its network only where
+/// the network is known, so that a bad prefix isn't a fault of each address in it too.
 pub(crate) fn bad_values(alloc: Global, document: &Table) -> Result<Vec<Key>, AllocError> {
-    let inside = network(document, Section::Inside);
-    let outside = network(document, Section::Outside);
+    let inside = network_of(document, Section::Inside);
+    let outside = network_of(document, Section::Outside);
     let mut found = Vec::new(alloc);
-    add(&bad_of_sections(document, inside, outside), &mut found)?;
+    add_keys(&bad_in_sections(document, inside, outside), &mut found)?;
     for section in [Section::GatewayZero, Section::GatewayOne] {
-        add(
-            &bad_of_gateway(document, section, inside, outside),
+        add_keys(
+            &bad_in_gateway(document, section, inside, outside),
             &mut found,
         )?;
     }
     match neighbours::tables(document) {
-        Some(tables) if tables.len() <= NEIGHBOURS => {
+        Some(tables) if tables.len() <= MAX_NEIGHBOURS => {
             for table in tables {
-                add_bad(&neighbour_rows(table, inside, outside), &mut found)?;
+                add_failing(&neighbour_rows(table, inside, outside), &mut found)?;
             }
         }
         _ => found.push(Key::whole(Section::Neighbour))?,
@@ -32,7 +32,8 @@ pub(crate) fn bad_values(alloc: Global, document: &Table) -> Result<Vec<Key>, Al
     Ok(found)
 }
 
-fn add(keys: &[Option<Key>], found: &mut Vec<Key>) -> Result<(), AllocError> {
+/// Adds the keys that aren't None.
+fn add_keys(keys: &[Option<Key>], found: &mut Vec<Key>) -> Result<(), AllocError> {
     for key in keys {
         if let Some(key) = key {
             found.push(*key)?;
@@ -41,17 +42,17 @@ fn add(keys: &[Option<Key>], found: &mut Vec<Key>) -> Result<(), AllocError> {
     Ok(())
 }
 
-/// The network of a side, where its address and its prefix are good.
-fn network(document: &Table, section: Section) -> Option<Prefix> {
-    let address = fields::address(document, section, Name::Virtual);
+/// Returns the network of a side, or None where its address or its prefix is bad.
+fn network_of(document: &Table, section: Section) -> Option<Prefix> {
+    let address = fields::required_address(document, section, Name::Virtual);
     match (address, limits::prefix_length(document, section)) {
         (Ok(address), Ok(length)) => Some(Prefix::new(address, length)),
         _ => None,
     }
 }
 
-/// The keys of the ports, the networks, the router and ICMP, where their values are bad.
-fn bad_of_sections(
+/// Returns the keys of the ports, the networks, the router and ICMP whose values are bad.
+fn bad_in_sections(
     document: &Table,
     inside: Option<Prefix>,
     outside: Option<Prefix>,
@@ -64,15 +65,15 @@ fn bad_of_sections(
     );
     let is_icmp = sections::is_section(document, icmp);
     [
-        fields::range(document, ports, Name::Zero).err(),
-        fields::range(document, ports, Name::One).err(),
+        fields::required_range(document, ports, Name::Zero).err(),
+        fields::required_range(document, ports, Name::One).err(),
         limits::host_limit(document).err(),
-        fields::address(document, inner, Name::Virtual).err(),
+        fields::required_address(document, inner, Name::Virtual).err(),
         limits::prefix_length(document, inner).err(),
         limits::virtual_router(document, inner).err(),
         limits::port(document, inner, Name::Wire).err(),
         limits::mtu(document, inner).err(),
-        fields::address(document, outer, Name::Virtual).err(),
+        fields::required_address(document, outer, Name::Virtual).err(),
         bad_outside_prefix(document, inside),
         limits::virtual_router(document, outer).err(),
         limits::port(document, outer, Name::Wire).err(),
@@ -88,8 +89,8 @@ fn bad_of_sections(
     ]
 }
 
-/// The keys of a gateway, where their values are bad.
-fn bad_of_gateway(
+/// Returns the keys of a gateway whose values are bad.
+fn bad_in_gateway(
     document: &Table,
     section: Section,
     inside: Option<Prefix>,
@@ -97,21 +98,20 @@ fn bad_of_gateway(
 ) -> [Option<Key>; 11] {
     [
         bad_host(document, section, Name::InsideIp, inside),
-        fields::mac(document, section, Name::InsideMac).err(),
+        fields::required_mac(document, section, Name::InsideMac).err(),
         bad_host(document, section, Name::OutsideIp, outside),
-        fields::mac(document, section, Name::OutsideMac).err(),
+        fields::required_mac(document, section, Name::OutsideMac).err(),
         limits::priority(document, section).err(),
         limits::interval(document, section).err(),
         fields::flag_or(document, section, Name::Preempt, true).err(),
-        fields::text(document, section, Name::BootFile).err(),
+        fields::required_text(document, section, Name::BootFile).err(),
         limits::port(document, section, Name::Link).err(),
         limits::port(document, section, Name::InsidePort).err(),
         limits::port(document, section, Name::OutsidePort).err(),
     ]
 }
 
-/// The key of the outside prefix, where that is bad: or where the outside network shares an address with the inside
-/// one, as far as both are known.
+/// Returns the key of the outside prefix where that is bad, or where both networks are known and share an address.
 fn bad_outside_prefix(document: &Table, inside: Option<Prefix>) -> Option<Key> {
     let length = match limits::prefix_length(document, Section::Outside) {
         Ok(length) => length,
@@ -119,7 +119,7 @@ fn bad_outside_prefix(document: &Table, inside: Option<Prefix>) -> Option<Key> {
     };
     match (
         inside,
-        fields::address(document, Section::Outside, Name::Virtual),
+        fields::required_address(document, Section::Outside, Name::Virtual),
     ) {
         (Some(inside), Ok(address)) if !sections::is_apart(inside, address, length) => {
             Some(Key::new(Section::Outside, Name::Prefix))
@@ -128,7 +128,7 @@ fn bad_outside_prefix(document: &Table, inside: Option<Prefix>) -> Option<Key> {
     }
 }
 
-/// The key of an address, where that is bad: or where it doesn't lie in its network, as far as that is known.
+/// Returns the key of an address where that is bad, or where its network is known and the address lies outside.
 fn bad_host(
     document: &Table,
     section: Section,
@@ -136,12 +136,12 @@ fn bad_host(
     network: Option<Prefix>,
 ) -> Option<Key> {
     match network {
-        Some(network) => fields::host(document, section, name, network).err(),
-        None => fields::address(document, section, name).err(),
+        Some(network) => fields::required_host(document, section, name, network).err(),
+        None => fields::required_address(document, section, name).err(),
     }
 }
 
-/// The keys of a neighbour, each with whether its value is good.
+/// Returns the keys of a neighbour, each with whether its value is good.
 fn neighbour_rows(
     table: &Value,
     inside: Option<Prefix>,

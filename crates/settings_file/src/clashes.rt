@@ -1,11 +1,11 @@
-//! Loopback ports that can't be had together.
+//! Loopback ports that two places of the same machine can't both bind.
 
 use crate::{Key, Name, Section};
 use nat_types::GatewayId;
 use settings::Settings;
 use std::alloc::AllocError;
 
-/// The places of a box that are reached by loopback sockets.
+/// The places of a box that are on loopback sockets.
 #[derive(Clone, Copy)]
 pub struct OnLoopback {
     pub inside: bool,
@@ -13,11 +13,11 @@ pub struct OnLoopback {
     pub link: bool,
 }
 
-/// A key of a port, and the port, if it is had on loopback.
+/// A key of a port, and the port, or None where its place isn't on loopback.
 type Row = (Key, Option<u16>);
 
-/// The first key, in the order of the text, whose loopback port one box can't have beside its others, or to which
-/// it sends frames: it stands at an earlier key too. Only places on loopback count.
+/// Returns the first key, in the order of the text, whose loopback port an earlier key has too, among the ports that a
+/// box binds and those to which it sends frames. Only the places on loopback count.
 pub fn port_clash(settings: &Settings, id: GatewayId, on: OnLoopback) -> Option<Key> {
     let section = match id {
         GatewayId::Zero => Section::GatewayZero,
@@ -39,16 +39,17 @@ pub fn port_clash(settings: &Settings, id: GatewayId, on: OnLoopback) -> Option<
     first_taken(&rows)
 }
 
-/// The same of both boxes on one machine, all their places on loopback.
+/// Returns the first key, in the order of the text, whose loopback port an earlier key has too, for both boxes on one
+/// machine with all their places on loopback.
 pub fn port_clash_of_both(settings: &Settings) -> Option<Key> {
     first_taken(&rows_of_both(settings))
 }
 
-/// Adds all keys of which that is so, in the order of the text.
+/// Adds all keys, in the order of the text, whose loopback port an earlier key has too, for both boxes on one machine.
 ///
 /// # Errors
 ///
-/// Where memory is refused. Some of them may be added then.
+/// Out of memory. Some of the keys may be added then.
 pub fn add_port_clashes(settings: &Settings, found: &mut Vec<Key>) -> Result<(), AllocError> {
     let rows = rows_of_both(settings);
     for (index, row) in rows.iter().enumerate() {
@@ -68,6 +69,7 @@ fn row(section: Section, name: Name, port: u16, on_loopback: bool) -> Row {
     }
 }
 
+/// Returns the ports of both boxes in the order of the text.
 fn rows_of_both(settings: &Settings) -> [Row; 8] {
     let Settings {
         inside,
@@ -103,6 +105,7 @@ fn rows_of_both(settings: &Settings) -> [Row; 8] {
     ]
 }
 
+/// Returns the key of the first row whose port an earlier row has.
 fn first_taken(rows: &[Row]) -> Option<Key> {
     for (index, row) in rows.iter().enumerate() {
         if is_taken(&rows[..index], *row) {
@@ -112,7 +115,7 @@ fn first_taken(rows: &[Row]) -> Option<Key> {
     None
 }
 
-/// Whether the port of a row stands in an earlier row.
+/// Whether an earlier row has the port of a row.
 fn is_taken(earlier: &[Row], row: Row) -> bool {
     for (_, port) in earlier {
         if port.is_some() && *port == row.1 {

@@ -1,24 +1,25 @@
-//! Why a text holds no settings.
+//! The faults of a text of settings.
 
 use crate::Key;
 use std::alloc::{AllocError, AllocFailed};
 use std::fmt;
 use thiserror::Error;
 
-/// Why a text holds no settings. Its text is a number, a name and a key, as `2 Missing outside.router`.
+/// The reason for which a text has no settings. Its `Display` is a number, a name and a key, as
+/// `2 Missing outside.router`.
 ///
-/// They are looked for in this order: `NotToml`, `UnknownKey`, `Missing`, `BadValue`, `RangesOverlap`, `SameIds`,
-/// `CantWork`. Of several missing keys, bad values or keys that can't work the first in the order of the keys is
-/// told.
+/// Faults are looked for in this order: `NotToml`, `UnknownKey`, `Missing`, `BadValue`, `RangesOverlap`, `SameIds`,
+/// `CantWork`. Of several missing keys, bad values or keys that can't work the fault has the first in the order of the
+/// keys.
 #[derive(Drop, Error)]
 pub enum SettingFault {
     /// The text isn't TOML.
     #[error("1 NotToml")]
     NotToml,
-    /// A key that can't be left out isn't there.
+    /// A required key is missing.
     #[error("2 Missing {0}")]
     Missing(Key),
-    /// The value isn't of the key's type, or not in its limits.
+    /// The value has another type than the key's, or lies beyond its limits.
     #[error("3 BadValue {0}")]
     BadValue(Key),
     /// The two gateways' port ranges share a port.
@@ -27,17 +28,18 @@ pub enum SettingFault {
     /// The two gateways share an address, a MAC or a loopback port, or one has a virtual address.
     #[error("5 SameIds")]
     SameIds,
-    /// A key that settings don't have: its path, of several the least by bytes.
+    /// The text has a key that settings don't have. Of several paths this is the least by bytes.
     #[error("6 UnknownKey {0}")]
     UnknownKey(String),
     /// The value can never work, as an address that no host has.
     #[error("7 CantWork {0}")]
     CantWork(Key),
+    /// Out of memory.
     #[error("1 NoMemory")]
     NoMemory,
 }
 
-/// The same text.
+/// Prints the text of `Display`.
 impl fmt::Debug for SettingFault {
     fn fmt<W: fmt::Write>(&self, f: &mut fmt::Formatter<W>) -> fmt::Result {
         fmt::Display::fmt(self, f)
@@ -66,7 +68,7 @@ impl<T: Drop> From<AllocFailed<T>> for SettingFault {
     }
 }
 
-/// The key of a bad value.
+/// Returns `BadValue` of the key.
 impl From<Key> for SettingFault {
     ghost use Rattle.std.specs.Prelude.{◌≡◌};
     ghost use Rattle.settings_file.specs.declared.faults.SettingFault.TheVariants as faults;

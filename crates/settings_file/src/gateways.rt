@@ -1,4 +1,4 @@
-//! What a document sets up one gateway with.
+//! The settings of one gateway in a document.
 ghost use Rattle.std.specs.Prelude.{◌≡◌, Some, IfOk};
 ghost use Rattle.toml.specs.View.{table_view};
 ghost use Rattle.addresses.specs.Address.{IsIn};
@@ -12,7 +12,11 @@ use settings::GatewaySettings;
 use std::alloc::Global;
 use toml::Table;
 
-/// What one gateway is set up with. Its addresses lie in the two networks.
+/// Returns the settings of a gateway, whose addresses lie in the two networks.
+///
+/// # Errors
+///
+/// `BadValue` of the first key whose value is bad; `NoMemory`.
 #[tactic(auto, unfolding(crate::specs::Rows::bad_gateway))]
 pub(crate) fn gateway(
     alloc: Global,
@@ -29,14 +33,14 @@ pub(crate) fn gateway(
     ensures bad { FindsBadValue (bad_gateway (Some (inside.address.0, inside.length))
         (Some (outside.address.0, outside.length)) (table_view document.now) section) result }
 {
-    let inside_ip = fields::host(document, section, Name::InsideIp, inside)?;
-    let inside_mac = fields::mac(document, section, Name::InsideMac)?;
-    let outside_ip = fields::host(document, section, Name::OutsideIp, outside)?;
-    let outside_mac = fields::mac(document, section, Name::OutsideMac)?;
+    let inside_ip = fields::required_host(document, section, Name::InsideIp, inside)?;
+    let inside_mac = fields::required_mac(document, section, Name::InsideMac)?;
+    let outside_ip = fields::required_host(document, section, Name::OutsideIp, outside)?;
+    let outside_mac = fields::required_mac(document, section, Name::OutsideMac)?;
     let priority = limits::priority(document, section)?;
     let interval = limits::interval(document, section)?;
     let preempt = fields::flag_or(document, section, Name::Preempt, true)?;
-    let boot_file = fields::text(document, section, Name::BootFile)?;
+    let boot_file = fields::required_text(document, section, Name::BootFile)?;
     let link = limits::port(document, section, Name::Link)?;
     let inside_port = limits::port(document, section, Name::InsidePort)?;
     let outside_port = limits::port(document, section, Name::OutsidePort)?;

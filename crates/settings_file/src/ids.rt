@@ -1,4 +1,4 @@
-//! What the two gateways may not share.
+//! Comparisons of what the two gateways must not share.
 ghost use Rattle.std.specs.Prelude.{◌≡◌, Some};
 ghost use Rattle.std.specs.List.{list_any};
 ghost use Rattle.settings_file.specs.Settings.{overlap, share, same_number, same_bytes};
@@ -15,6 +15,7 @@ pub(crate) fn overlap(zero: PortRange, one: PortRange) -> bool
     zero.lowest.0 <= one.highest.0 && one.lowest.0 <= zero.highest.0
 }
 
+/// Whether two gateways have an address in common.
 fn share_address(zero: &GatewaySettings, one: &GatewaySettings) -> bool
     ensures { result ≡ share same_number (own_addresses zero.now) (own_addresses one.now) }
 {
@@ -24,6 +25,7 @@ fn share_address(zero: &GatewaySettings, one: &GatewaySettings) -> bool
         || zero.outside_ip.0 == one.outside_ip.0
 }
 
+/// Whether two gateways have a MAC in common.
 fn share_mac(zero: &GatewaySettings, one: &GatewaySettings) -> bool
     ensures { result ≡ share same_bytes (own_macs zero.now) (own_macs one.now) }
 {
@@ -33,18 +35,21 @@ fn share_mac(zero: &GatewaySettings, one: &GatewaySettings) -> bool
         || zero.outside_mac == one.outside_mac
 }
 
+/// Whether a gateway has a loopback port.
 fn has_port(gateway: &GatewaySettings, port: u16) -> bool
     ensures { result ≡ list_any (same_number (Some port)) (own_sockets gateway.now) }
 {
     port == gateway.link || port == gateway.inside_port || port == gateway.outside_port
 }
 
+/// Whether two gateways have a loopback port in common.
 fn share_port(zero: &GatewaySettings, one: &GatewaySettings) -> bool
     ensures { result ≡ share same_number (own_sockets zero.now) (own_sockets one.now) }
 {
     has_port(one, zero.link) || has_port(one, zero.inside_port) || has_port(one, zero.outside_port)
 }
 
+/// Whether an address of a gateway is the virtual one of its side.
 fn is_virtual(gateway: &GatewaySettings, inside: Ip, outside: Ip) -> bool
     ensures { result ≡ is_virtual gateway.now inside.0 outside.0 }
 {

@@ -1,4 +1,4 @@
-//! The keys that settings have, and their texts.
+//! The keys of settings, and their texts.
 ghost use Rattle.std.specs.Prelude.{◌≡◌};
 ghost use Rattle.settings_file.specs.Keys.{section_text, name_text, key, whole};
 
@@ -17,7 +17,7 @@ pub enum Section {
 }
 
 impl Section {
-    /// The name of the table, as `gateway_0`.
+    /// Returns the name of the table, as `gateway_0`.
     pub fn as_str(self) -> &'static str
         ensures { result.now ≡ section_text self }
     {
@@ -64,7 +64,7 @@ pub enum Name {
 }
 
 impl Name {
-    /// The key's text, as `inside_ip`.
+    /// Returns the text of the key, as `inside_ip`.
     pub fn as_str(self) -> &'static str
         ensures { result.now ≡ name_text self }
     {
@@ -98,7 +98,7 @@ impl Name {
     }
 }
 
-/// A key of the settings; without a name, a section as a whole.
+/// A key of the settings, or a section as a whole where there is no name.
 #[derive(Clone, Copy)]
 pub struct Key {
     pub section: Section,
@@ -106,7 +106,7 @@ pub struct Key {
 }
 
 impl Key {
-    /// The key with this name in a section.
+    /// Returns the key of this name in a section.
     pub fn new(section: Section, name: Name) -> Key
         ensures { result ≡ key section name }
     {
@@ -116,7 +116,7 @@ impl Key {
         }
     }
 
-    /// The key of a whole section, of the list of neighbours too.
+    /// Returns the key of a whole section, or of the whole list of neighbours.
     pub fn whole(section: Section) -> Key
         ensures { result ≡ whole section }
     {
@@ -127,7 +127,7 @@ impl Key {
     }
 }
 
-/// The key's path, as `inside.prefix`, or `neighbour` for the whole list.
+/// Prints the path of the key, as `inside.prefix`, or `neighbour` for the whole list.
 impl fmt::Display for Key {
     fn fmt<W: fmt::Write>(&self, f: &mut fmt::Formatter<W>) -> fmt::Result {
         f.write_str(self.section.as_str())?;

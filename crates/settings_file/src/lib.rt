@@ -3,18 +3,17 @@
 
 mod bad_values;
 mod clashes;
+mod examinations;
 mod faults;
 mod fields;
 mod gateways;
 mod ids;
+mod key_checks;
 mod keys;
 mod limits;
-mod looking;
-mod looks;
 mod missing;
 mod neighbours;
 mod reading;
-mod rows;
 mod sections;
 mod texts;
 mod unknown;
@@ -22,10 +21,9 @@ mod values;
 mod works;
 
 pub use clashes::{OnLoopback, add_port_clashes, port_clash, port_clash_of_both};
+pub use examinations::{Examination, examine};
 pub use faults::SettingFault;
+pub use key_checks::add_failing;
 pub use keys::{Key, Name, Section};
-pub use looking::look;
-pub use looks::Look;
 pub use reading::read;
-pub use rows::add_bad;
 pub use works::is_network_address;

@@ -1,4 +1,4 @@
-//! The numbers of the settings, each with its limits.
+//! The numbers of the settings, each with its limits. The errors are the keys whose values are bad.
 ghost use Rattle.std.specs.Prelude.{◌≡◌, ◌≤◌, Some, IfErr, IfOk};
 ghost use Rattle.std.specs.Option.{ForSome};
 ghost use Rattle.toml.specs.View.{table_view};
@@ -7,11 +7,47 @@ ghost use Rattle.settings_file.specs.declared.keys.Name.TheVariants.{HostLimit, 
 ghost use Rattle.settings_file.specs.Document.{number_at, number_or, optional_at};
 ghost use Rattle.settings_file.specs.Faults.{IsBadAt};
 
-use crate::fields::{number, number_or, optional};
+use crate::fields::{Limits, number_or, optional_number, required_number};
 use crate::{Key, Name, Section};
 use toml::Table;
 
-/// The most pairs of one inside address: 1 to 65535, or none.
+/// The limits of a host's pairs.
+const HOST_LIMITS: Limits = Limits {
+    low: 1,
+    high: 65535,
+};
+
+/// The limits of a prefix length, in bits.
+const PREFIX_LENGTHS: Limits = Limits { low: 8, high: 30 };
+
+/// The limits of a virtual router's number.
+const VIRTUAL_ROUTERS: Limits = Limits { low: 1, high: 255 };
+
+/// The limits of a loopback port.
+const LOOPBACK_PORTS: Limits = Limits {
+    low: 1,
+    high: 65535,
+};
+
+/// The limits of a network's longest packet, in bytes.
+const MTUS: Limits = Limits {
+    low: 576,
+    high: 1500,
+};
+
+/// The limits of a priority. In VRRP 255 is that of a router that owns the address, and 0 resigns.
+const PRIORITIES: Limits = Limits { low: 1, high: 254 };
+
+/// The priority where the key is left out, VRRP's own default.
+const DEFAULT_PRIORITY: u16 = 100;
+
+/// The limits of an advertisement interval, in centiseconds: 4095 is the greatest number of its field's 12 bits.
+const INTERVALS: Limits = Limits { low: 1, high: 4095 };
+
+/// The advertisement interval where the key is left out, in centiseconds: a second.
+const DEFAULT_INTERVAL: u16 = 100;
+
+/// Returns the most pairs of one inside address: 1 to 65535, or None where the key is left out.
 pub(crate) fn host_limit(document: &Table) -> Result<Option<u16>, Key>
     ensures ok { IfOk result
         (λ found. optional_at 1 65535 (table_view document.now) Ports HostLimit ≡ Some found) }
@@ -19,10 +55,10 @@ pub(crate) fn host_limit(document: &Table) -> Result<Option<u16>, Key>
     ensures err { IfErr result (IsBadAt Ports HostLimit
         (optional_at 1 65535 (table_view document.now) Ports HostLimit)) }
 {
-    optional(document, Section::Ports, Name::HostLimit, 1, 65535)
+    optional_number(document, Section::Ports, Name::HostLimit, HOST_LIMITS)
 }
 
-/// How many first bits the addresses of a network share: 8 to 30.
+/// Returns the number of first bits that the addresses of a network share: 8 to 30.
 pub(crate) fn prefix_length(document: &Table, section: Section) -> Result<u8, Key>
     ensures ok { IfOk result
         (λ n. number_at 8 30 (table_view document.now) section Prefix ≡ Some n) }
@@ -31,10 +67,10 @@ pub(crate) fn prefix_length(document: &Table, section: Section) -> Result<u8, Ke
     ensures err { IfErr result
         (IsBadAt section Prefix (number_at 8 30 (table_view document.now) section Prefix)) }
 {
-    Ok(number(document, section, Name::Prefix, 8, 30)? as u8)
+    Ok(required_number(document, section, Name::Prefix, PREFIX_LENGTHS)? as u8)
 }
 
-/// The number of a network's virtual router: 1 to 255.
+/// Returns the number of a network's virtual router: 1 to 255.
 pub(crate) fn virtual_router(document: &Table, section: Section) -> Result<u8, Key>
     ensures ok { IfOk result
         (λ n. number_at 1 255 (table_view document.now) section Vrid ≡ Some n) }
@@ -42,10 +78,10 @@ pub(crate) fn virtual_router(document: &Table, section: Section) -> Result<u8, K
     ensures err { IfErr result
         (IsBadAt section Vrid (number_at 1 255 (table_view document.now) section Vrid)) }
 {
-    Ok(number(document, section, Name::Vrid, 1, 255)? as u8)
+    Ok(required_number(document, section, Name::Vrid, VIRTUAL_ROUTERS)? as u8)
 }
 
-/// A loopback port: 1 to 65535.
+/// Returns a loopback port: 1 to 65535.
 pub(crate) fn port(document: &Table, section: Section, name: Name) -> Result<u16, Key>
     ensures ok { IfOk result
         (λ n. number_at 1 65535 (table_view document.now) section name ≡ Some n) }
@@ -53,10 +89,10 @@ pub(crate) fn port(document: &Table, section: Section, name: Name) -> Result<u16
     ensures err { IfErr result
         (IsBadAt section name (number_at 1 65535 (table_view document.now) section name)) }
 {
-    number(document, section, name, 1, 65535)
+    required_number(document, section, name, LOOPBACK_PORTS)
 }
 
-/// The bytes of the longest packet that is sent on a network: 576 to 1500, or 1500.
+/// Returns the bytes of the longest packet that is sent on a network: 576 to 1500; the default is 1500.
 pub(crate) fn mtu(document: &Table, section: Section) -> Result<u16, Key>
     ensures ok { IfOk result
         (λ n. number_or 1500 576 1500 (table_view document.now) section Mtu ≡ Some n) }
@@ -65,10 +101,10 @@ pub(crate) fn mtu(document: &Table, section: Section) -> Result<u16, Key>
     ensures err { IfErr result
         (IsBadAt section Mtu (number_or 1500 576 1500 (table_view document.now) section Mtu)) }
 {
-    number_or(document, section, Name::Mtu, 1500, 576, 1500)
+    number_or(document, section, Name::Mtu, MTUS.high, MTUS)
 }
 
-/// The priority of a gateway's virtual routers: 1 to 254, or 100.
+/// Returns the priority of a gateway's virtual routers: 1 to 254; the default is 100.
 pub(crate) fn priority(document: &Table, section: Section) -> Result<u8, Key>
     ensures ok { IfOk result
         (λ n. number_or 100 1 254 (table_view document.now) section Priority ≡ Some n) }
@@ -77,10 +113,16 @@ pub(crate) fn priority(document: &Table, section: Section) -> Result<u8, Key>
     ensures err { IfErr result (IsBadAt section Priority
         (number_or 100 1 254 (table_view document.now) section Priority)) }
 {
-    Ok(number_or(document, section, Name::Priority, 100, 1, 254)? as u8)
+    Ok(number_or(
+        document,
+        section,
+        Name::Priority,
+        DEFAULT_PRIORITY,
+        PRIORITIES,
+    )? as u8)
 }
 
-/// A gateway's advertisement interval: 1 to 4095 centiseconds, or 100.
+/// Returns a gateway's advertisement interval: 1 to 4095 centiseconds; the default is 100.
 pub(crate) fn interval(document: &Table, section: Section) -> Result<u16, Key>
     ensures ok { IfOk result
         (λ n. number_or 100 1 4095 (table_view document.now) section Interval ≡ Some n) }
@@ -89,5 +131,11 @@ pub(crate) fn interval(document: &Table, section: Section) -> Result<u16, Key>
     ensures err { IfErr result (IsBadAt section Interval
         (number_or 100 1 4095 (table_view document.now) section Interval)) }
 {
-    number_or(document, section, Name::Interval, 100, 1, 4095)
+    number_or(
+        document,
+        section,
+        Name::Interval,
+        DEFAULT_INTERVAL,
+        INTERVALS,
+    )
 }

@@ -1,15 +1,15 @@
-//! Keys of a document that can't be left out.
+//! The required keys that a document lacks.
 ghost use Rattle.std.specs.Prelude.{◌≡◌, ◌++◌, filter, map, IfOk, OnOk};
 ghost use Rattle.toml.specs.View.{table_view, view};
 ghost use Rattle.settings_file.specs.Missing.{required, lacks, all_missing};
 ghost use Rattle.settings_file.specs.Neighbours.{all_missing_from};
 
-use crate::rows::add_bad;
+use crate::key_checks::add_failing;
 use crate::{Key, Name, Section, fields, neighbours};
 use std::alloc::{AllocError, Global};
 use toml::{Table, Value};
 
-/// The keys of the sections that can't be left out, in the order in which they are looked for.
+/// Returns the required keys of the sections, in the order of the text.
 fn required() -> [Key; 27]
     ensures { result ≡ required }
 {
@@ -44,6 +44,7 @@ fn required() -> [Key; 27]
     ]
 }
 
+/// Whether a document has no value at a key.
 #[tactic(auto, unfolding(crate::specs::Missing::lacks))]
 fn lacks(document: &Table, key: Key) -> bool
     ensures { result ≡ lacks (table_view document.now) key }
@@ -54,6 +55,7 @@ fn lacks(document: &Table, key: Key) -> bool
     }
 }
 
+/// Adds the keys that a document lacks.
 fn add_missing(document: &Table, keys: &[Key], found: &mut Vec<Key>) -> Result<(), AllocError>
     ensures items { OnOk result (found.new.items
         ≡ found.old.items ++ filter (lacks (table_view document.now)) keys.now) }
@@ -66,19 +68,20 @@ fn add_missing(document: &Table, keys: &[Key], found: &mut Vec<Key>) -> Result<(
     Ok(())
 }
 
+/// Adds the keys that the tables of neighbours lack.
 fn add_missing_from(tables: &[Value], found: &mut Vec<Key>) -> Result<(), AllocError>
     ensures items { OnOk result
         (found.new.items ≡ found.old.items ++ all_missing_from (map view tables.now)) }
 {
     for table in tables {
-        add_bad(&neighbours::present_rows(table), found)?;
+        add_failing(&neighbours::present_rows(table), found)?;
     }
     Ok(())
 }
 
-/// All keys that are missing: of the sections, and then of the neighbours.
+/// Returns all required keys that are missing: those of the sections, then those of the neighbours.
 #[tactic(auto, unfolding(crate::specs::Missing::all_missing))]
-pub(crate) fn missing(alloc: Global, document: &Table) -> Result<Vec<Key>, AllocError>
+pub(crate) fn missing_keys(alloc: Global, document: &Table) -> Result<Vec<Key>, AllocError>
     ensures { IfOk result (λ found. found.items ≡ all_missing (table_view document.now)) }
 {
     let mut found = Vec::new(alloc);

@@ -16,9 +16,10 @@ use settings::Neighbour;
 use std::alloc::Global;
 use toml::{Table, Value};
 
-/// How many static neighbours there may be.
-pub(crate) const NEIGHBOURS: usize = 64;
+/// The most static neighbours.
+pub(crate) const MAX_NEIGHBOURS: usize = 64;
 
+/// Whether all values of a list are tables.
 fn are_tables(list: &[Value]) -> bool
     ensures { result ≡ list_all (λ v. is_table (view v)) list.now }
 {
@@ -30,7 +31,7 @@ fn are_tables(list: &[Value]) -> bool
     true
 }
 
-/// The tables of a list that has no other values.
+/// Returns the tables of a list, or None where the value is no list of tables.
 #[tactic(auto, using(crate::proofs::Lists::all_tables))]
 pub(crate) fn tables_in(value: &Value) -> Option<&[Value]>
     ensures { option_map (λ l. map view l.now) result ≡ tables_in (Some (view value.now)) }
@@ -41,7 +42,7 @@ pub(crate) fn tables_in(value: &Value) -> Option<&[Value]>
     }
 }
 
-/// The tables of the list of neighbours, no table where it is left out. `None` where it isn't a list of tables.
+/// Returns the tables of the neighbours, none where the key is left out, or None where its value is no list of tables.
 #[tactic(auto, unfolding(crate::specs::Neighbours::neighbours_of))]
 pub(crate) fn tables(document: &Table) -> Option<&[Value]>
     ensures { option_map (λ l. map view l.now) result ≡ neighbours_of (table_view document.now) }
@@ -52,8 +53,9 @@ pub(crate) fn tables(document: &Table) -> Option<&[Value]>
     }
 }
 
+/// Returns the value at a key of a neighbour.
 #[tactic(auto, unfolding(crate::specs::Neighbours::field_of))]
-fn field(neighbour: &Value, name: Name) -> Option<&Value>
+fn field_of(neighbour: &Value, name: Name) -> Option<&Value>
     ensures { option_map (λ v. view v.now) result ≡ field_of (view neighbour.now) name }
 {
     match neighbour.as_table() {
@@ -62,38 +64,40 @@ fn field(neighbour: &Value, name: Name) -> Option<&Value>
     }
 }
 
-/// A neighbour's key, and whether it is there.
-fn present(neighbour: &Value, name: Name) -> (Key, bool)
+/// Returns a key of a neighbour, and whether the neighbour has it.
+fn present_row(neighbour: &Value, name: Name) -> (Key, bool)
     ensures key { result.0 ≡ key sections.Neighbour name }
     ensures present { result.1 ≡ is_some (field_of (view neighbour.now) name) }
 {
     (
         Key::new(Section::Neighbour, name),
-        field(neighbour, name).is_some(),
+        field_of(neighbour, name).is_some(),
     )
 }
 
-/// The keys of a neighbour, each with whether it is there.
+/// Returns the keys of a neighbour, each with whether the neighbour has it.
 pub(crate) fn present_rows(neighbour: &Value) -> [(Key, bool); 3]
     ensures { result ≡ present_rows (view neighbour.now) }
 {
     [
-        present(neighbour, Name::Side),
-        present(neighbour, Name::Ip),
-        present(neighbour, Name::Mac),
+        present_row(neighbour, Name::Side),
+        present_row(neighbour, Name::Ip),
+        present_row(neighbour, Name::Mac),
     ]
 }
 
-fn text(neighbour: &Value, name: Name) -> Option<&str>
+/// Returns the text at a key of a neighbour.
+fn text_of(neighbour: &Value, name: Name) -> Option<&str>
     ensures { option_map (λ s. s.now) result
         ≡ option_and_then as_str (field_of (view neighbour.now) name) }
 {
-    match field(neighbour, name) {
+    match field_of(neighbour, name) {
         Some(value) => value.as_str(),
         None => None,
     }
 }
 
+/// Returns the side that a word names.
 fn side_named(word: &str) -> Option<Side>
     ensures { result ≡ side_named word.now }
 {
@@ -104,40 +108,44 @@ fn side_named(word: &str) -> Option<Side>
     }
 }
 
-/// A neighbour's side, where that is good.
+/// Returns the side of a neighbour, or None where the value at its key is none.
 #[tactic(auto, unfolding(crate::specs::Neighbours::side_of))]
 pub(crate) fn side_of(neighbour: &Value) -> Option<Side>
     ensures { result ≡ side_of (view neighbour.now) }
 {
-    match text(neighbour, Name::Side) {
+    match text_of(neighbour, Name::Side) {
         Some(word) => side_named(word),
         None => None,
     }
 }
 
-/// Its address, where that is one.
+/// Returns the address of a neighbour, or None where the value at its key is none.
 #[tactic(auto, unfolding(crate::specs::Neighbours::ip_of))]
 pub(crate) fn ip_of(neighbour: &Value) -> Option<Ip>
     ensures { option_map (λ ip. ip.0) result ≡ ip_of (view neighbour.now) }
 {
-    match text(neighbour, Name::Ip) {
+    match text_of(neighbour, Name::Ip) {
         Some(text) => texts::address_of(text),
         None => None,
     }
 }
 
-/// Its Ethernet address, where that is one.
+/// Returns the Ethernet address of a neighbour, or None where the value at its key is none.
 #[tactic(auto, unfolding(crate::specs::Neighbours::mac_at_of))]
 pub(crate) fn mac_of(neighbour: &Value) -> Option<Mac>
     ensures { option_map (λ mac. mac.0) result ≡ mac_at_of (view neighbour.now) }
 {
-    match text(neighbour, Name::Mac) {
+    match text_of(neighbour, Name::Mac) {
         Some(text) => texts::mac_of(text),
         None => None,
     }
 }
 
-/// The neighbour that a table says. Its address lies in its side's network.
+/// Returns the neighbour of a table, whose address lies in the network of its side.
+///
+/// # Errors
+///
+/// The first key whose value is bad.
 #[tactic(auto, unfolding(crate::specs::Neighbours::bad_neighbour, crate::specs::Neighbours::neighbour_in))]
 fn neighbour(table: &Value, inside: Prefix, outside: Prefix) -> Result<Neighbour, Key>
     ensures ok { IfOk result (λ n. neighbour_in (view table.now) ≡ Some n) }
@@ -161,6 +169,7 @@ fn neighbour(table: &Value, inside: Prefix, outside: Prefix) -> Result<Neighbour
     }
 }
 
+/// Returns the neighbours of some tables.
 fn neighbours_in(
     alloc: Global,
     tables: &[Value],
@@ -180,7 +189,11 @@ fn neighbours_in(
     Ok(neighbours)
 }
 
-/// The static neighbours, at most [`NEIGHBOURS`].
+/// Returns the static neighbours, at most [`MAX_NEIGHBOURS`].
+///
+/// # Errors
+///
+/// `BadValue` of the first key whose value is bad; `NoMemory`.
 #[tactic(auto, unfolding(crate::specs::Neighbours::bad_neighbours))]
 pub(crate) fn neighbours(
     alloc: Global,
@@ -195,7 +208,7 @@ pub(crate) fn neighbours(
         (Some (outside.address.0, outside.length)) (table_view document.now)) result }
 {
     match tables(document) {
-        Some(tables) if tables.len() <= NEIGHBOURS => {
+        Some(tables) if tables.len() <= MAX_NEIGHBOURS => {
             neighbours_in(alloc, tables, inside, outside)
         }
         _ => Err(SettingFault::BadValue(Key::whole(Section::Neighbour))),

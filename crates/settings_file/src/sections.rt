@@ -1,4 +1,5 @@
-//! The sections of a document: ports, the two networks and the router, and what is said by ICMP.
+//! The sections of a document: ports, the two networks with the router, and ICMP. The errors are the first keys whose
+//! values are bad.
 ghost use Rattle.std.specs.Prelude.{◌≡◌, IsTrue, ◌<◌, ◌≤◌, Some, IfOk};
 ghost use Rattle.std.specs.Option.{ForSome};
 ghost use Rattle.toml.specs.View.{table_view};
@@ -14,7 +15,7 @@ use addresses::{Ip, Prefix};
 use settings::{IcmpSettings, InterfaceSettings, PortRange};
 use toml::Table;
 
-/// The two gateways' port ranges, and the limit of each inside host where there is one.
+/// Returns the port ranges of gateway 0 and of gateway 1, and the limit of each inside host, where there is one.
 #[tactic(auto, unfolding(crate::specs::Rows::bad_ports))]
 pub(crate) fn ports(document: &Table) -> Result<(PortRange, PortRange, Option<u16>), Key>
     ensures zero { IfOk result (λ r. IsRange (table_view document.now) Zero r.0) }
@@ -23,20 +24,20 @@ pub(crate) fn ports(document: &Table) -> Result<(PortRange, PortRange, Option<u1
     ensures limited { IfOk result (λ r. ForSome r.2 (λ most. 0 < most)) }
     ensures bad { FindsBad (bad_ports (table_view document.now)) result }
 {
-    let zero = fields::range(document, Section::Ports, Name::Zero)?;
-    let one = fields::range(document, Section::Ports, Name::One)?;
+    let zero = fields::required_range(document, Section::Ports, Name::Zero)?;
+    let one = fields::required_range(document, Section::Ports, Name::One)?;
     let limit = limits::host_limit(document)?;
     Ok((zero, one, limit))
 }
 
-/// The inside network.
+/// Returns the settings of the inside network.
 #[tactic(auto, unfolding(crate::specs::Rows::bad_inside))]
 pub(crate) fn inside(document: &Table) -> Result<InterfaceSettings, Key>
     ensures ok { IfOk result (IsInterface (table_view document.now) Inside) }
     ensures bad { FindsBad (bad_inside (table_view document.now)) result }
 {
     Ok(InterfaceSettings {
-        virtual_ip: fields::address(document, Section::Inside, Name::Virtual)?,
+        virtual_ip: fields::required_address(document, Section::Inside, Name::Virtual)?,
         prefix_length: limits::prefix_length(document, Section::Inside)?,
         virtual_router: limits::virtual_router(document, Section::Inside)?,
         wire: limits::port(document, Section::Inside, Name::Wire)?,
@@ -44,7 +45,7 @@ pub(crate) fn inside(document: &Table) -> Result<InterfaceSettings, Key>
     })
 }
 
-/// Whether a network with this address and prefix shares no address with another.
+/// Whether the network of an address and a prefix's length shares no address with another network.
 pub(crate) fn is_apart(network: Prefix, address: Ip, length: u8) -> bool
     requires { length ≤ 30 }
     ensures test { result ≡ is_apart (Some (network.address.0, network.length)) (Some address.0)
@@ -55,7 +56,7 @@ pub(crate) fn is_apart(network: Prefix, address: Ip, length: u8) -> bool
     !fields::is_in(address, Prefix::new(network.address, shorter))
 }
 
-/// The outside network, which shares no address with the inside one, and the router, which lies in it.
+/// Returns the settings of the outside network, which shares no address with the inside one, and the router in it.
 #[tactic(auto, unfolding(crate::specs::Rows::bad_outside, crate::specs::Rows::network_at))]
 pub(crate) fn outside(document: &Table, inside: Prefix) -> Result<(InterfaceSettings, Ip), Key>
     ensures ok { IfOk result (λ r. IsInterface (table_view document.now) Outside r.0) }
@@ -66,7 +67,7 @@ pub(crate) fn outside(document: &Table, inside: Prefix) -> Result<(InterfaceSett
     ensures bad { FindsBad (bad_outside (Some (inside.address.0, inside.length))
         (network_at (table_view document.now) Outside) (table_view document.now)) result }
 {
-    let virtual_ip = fields::address(document, Section::Outside, Name::Virtual)?;
+    let virtual_ip = fields::required_address(document, Section::Outside, Name::Virtual)?;
     let prefix_length = limits::prefix_length(document, Section::Outside)?;
     if !is_apart(inside, virtual_ip, prefix_length) {
         return Err(Key::new(Section::Outside, Name::Prefix));
@@ -74,7 +75,7 @@ pub(crate) fn outside(document: &Table, inside: Prefix) -> Result<(InterfaceSett
     let virtual_router = limits::virtual_router(document, Section::Outside)?;
     let wire = limits::port(document, Section::Outside, Name::Wire)?;
     let network = Prefix::new(virtual_ip, prefix_length);
-    let router = fields::host(document, Section::Outside, Name::Router, network)?;
+    let router = fields::required_host(document, Section::Outside, Name::Router, network)?;
     let mtu = limits::mtu(document, Section::Outside)?;
     let outside = InterfaceSettings {
         virtual_ip,
@@ -86,7 +87,7 @@ pub(crate) fn outside(document: &Table, inside: Prefix) -> Result<(InterfaceSett
     Ok((outside, router))
 }
 
-/// Whether a section is a table, where it isn't left out.
+/// Whether a section is a table or left out.
 #[tactic(auto, unfolding(crate::specs::Document::is_section))]
 pub(crate) fn is_section(document: &Table, section: Section) -> bool
     ensures { result ≡ is_section (table_view document.now) section }
@@ -97,7 +98,7 @@ pub(crate) fn is_section(document: &Table, section: Section) -> bool
     }
 }
 
-/// What the gateways say by ICMP.
+/// Returns which ICMP messages the gateways send.
 #[tactic(auto, unfolding(crate::specs::Rows::bad_icmp))]
 pub(crate) fn icmp(document: &Table) -> Result<IcmpSettings, Key>
     ensures ok { IfOk result (IsIcmp (table_view document.now)) }

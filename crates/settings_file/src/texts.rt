@@ -1,9 +1,10 @@
-//! Addresses as the settings write them.
-ghost use Rattle.std.specs.Prelude.{◌≡◌, ◌<◌, ◌∷◌, [], None, option_map, IfSome};
+//! Parsers of addresses in the texts of settings.
+ghost use Rattle.std.specs.Prelude.{◌≡◌, ◌<◌, ◌∷◌, [], None, map, option_map, IfSome};
 ghost use Rattle.settings_file.specs.Texts.{digit_of, nibble_of, two_digits_of, three_digits_of, number_of, joined, octet_of, pair_of, parts_at, address_in, address_of, mac_in, mac_of};
 
 use addresses::{Ip, Mac};
 
+/// Returns the value of a decimal digit.
 fn digit(byte: u8) -> Option<u16>
     ensures value { result ≡ digit_of byte }
     ensures small { IfSome result (λ n. n < 10) }
@@ -14,7 +15,7 @@ fn digit(byte: u8) -> Option<u16>
     }
 }
 
-/// A number of two digits that doesn't begin with 0.
+/// Returns the number of two decimal digits, of which the first isn't 0.
 fn two_digits(first: u8, second: u8) -> Option<u16>
     ensures value { result ≡ two_digits_of first second }
     ensures small { IfSome result (λ n. n < 100) }
@@ -25,7 +26,7 @@ fn two_digits(first: u8, second: u8) -> Option<u16>
     }
 }
 
-/// The same of three digits.
+/// Returns the number of three decimal digits, of which the first isn't 0.
 fn three_digits(first: u8, second: u8, third: u8) -> Option<u16>
     ensures value { result ≡ three_digits_of first second third }
     ensures small { IfSome result (λ n. n < 1000) }
@@ -36,7 +37,7 @@ fn three_digits(first: u8, second: u8, third: u8) -> Option<u16>
     }
 }
 
-/// A decimal number of one to three digits without leading zeros.
+/// Returns the number of one to three decimal digits without leading zeros.
 fn number_of(digits: &[u8]) -> Option<u16>
     ensures { result ≡ number_of digits.now }
 {
@@ -48,7 +49,7 @@ fn number_of(digits: &[u8]) -> Option<u16>
     }
 }
 
-/// A decimal number from 0 to 255 without leading zeros.
+/// Returns the number of a text from `0` to `255` without leading zeros.
 #[tactic(auto, unfolding(crate::specs::Texts::octet_of))]
 fn octet(word: &str) -> Option<u8>
     ensures { result ≡ octet_of word.now }
@@ -59,6 +60,7 @@ fn octet(word: &str) -> Option<u8>
     }
 }
 
+/// Returns the value of a hexadecimal digit.
 fn nibble(byte: u8) -> Option<u8>
     ensures value { result ≡ nibble_of byte }
     ensures small { IfSome result (λ n. n < 16) }
@@ -71,7 +73,7 @@ fn nibble(byte: u8) -> Option<u8>
     }
 }
 
-/// The byte of two hexadecimal digits.
+/// Returns the byte of the values of two hexadecimal digits.
 fn joined(high: Option<u8>, low: Option<u8>) -> Option<u8>
     requires high { IfSome high (λ n. n < 16) }
     requires low { IfSome low (λ n. n < 16) }
@@ -83,7 +85,7 @@ fn joined(high: Option<u8>, low: Option<u8>) -> Option<u8>
     }
 }
 
-/// A byte as a pair of hexadecimal digits.
+/// Returns the byte of a text of two hexadecimal digits.
 #[tactic(auto, unfolding(crate::specs::Texts::pair_of))]
 fn pair(word: &str) -> Option<u8>
     ensures { result ≡ pair_of word.now }
@@ -94,7 +96,7 @@ fn pair(word: &str) -> Option<u8>
     }
 }
 
-/// What stands before the first separator, and what stands behind it.
+/// Splits a text at its first separator, or returns None where it has none.
 fn cut(text: &str, separator: char) -> Option<(&str, &str)>
     requires { separator < 128 }
     ensures some { IfSome result
@@ -104,7 +106,7 @@ fn cut(text: &str, separator: char) -> Option<(&str, &str)>
     text.split_once(separator)
 }
 
-/// The address of four decimal numbers.
+/// Returns the address of four decimal numbers.
 fn address_in(a: &str, b: &str, c: &str, d: &str) -> Option<Ip>
     ensures { option_map (λ ip. ip.0) result
         ≡ address_in (a.now ∷ b.now ∷ c.now ∷ d.now ∷ []) }
@@ -116,7 +118,7 @@ fn address_in(a: &str, b: &str, c: &str, d: &str) -> Option<Ip>
     Some(Ip::new([a, b, c, d]))
 }
 
-/// The address that a text writes, as `192.0.2.1`, where it writes one.
+/// Returns the address of a text as `192.0.2.1`.
 #[tactic(auto, using(crate::proofs::Cuts::five_parts), unfolding(crate::specs::Texts::address_of))]
 pub(crate) fn address_of(text: &str) -> Option<Ip>
     ensures { option_map (λ ip. ip.0) result ≡ address_of text.now }
@@ -136,11 +138,11 @@ pub(crate) fn address_of(text: &str) -> Option<Ip>
     }
 }
 
-/// The address of six pairs of digits.
-fn mac_in(a: &str, b: &str, c: &str, d: &str, e: &str, f: &str) -> Option<Mac>
-    ensures { option_map (λ mac. mac.0) result
-        ≡ mac_in (a.now ∷ b.now ∷ c.now ∷ d.now ∷ e.now ∷ f.now ∷ []) }
+/// Returns the Ethernet address of six pairs of hexadecimal digits.
+fn mac_in(pairs: [&str; 6]) -> Option<Mac>
+    ensures { option_map (λ mac. mac.0) result ≡ mac_in (map (λ p. p.now) pairs) }
 {
+    let [a, b, c, d, e, f] = pairs;
     let Some(a) = pair(a) else { return None };
     let Some(b) = pair(b) else { return None };
     let Some(c) = pair(c) else { return None };
@@ -150,7 +152,7 @@ fn mac_in(a: &str, b: &str, c: &str, d: &str, e: &str, f: &str) -> Option<Mac>
     Some(Mac([a, b, c, d, e, f]))
 }
 
-/// The Ethernet address that a text writes with this separator between each two pairs.
+/// Returns the Ethernet address of a text that has this separator between each two pairs of digits.
 #[tactic(auto, using(crate::proofs::Cuts::seven_parts))]
 fn mac_with(text: &str, separator: char) -> Option<Mac>
     requires { separator < 128 }
@@ -173,11 +175,11 @@ fn mac_with(text: &str, separator: char) -> Option<Mac>
     };
     match cut(rest, separator) {
         Some(_) => None,
-        None => mac_in(a, b, c, d, e, rest),
+        None => mac_in([a, b, c, d, e, rest]),
     }
 }
 
-/// The address that a text writes, as `02-00-00-00-01-00` or `02:00:00:00:01:00`, where it writes one.
+/// Returns the Ethernet address of a text as `02-00-00-00-01-00` or `02:00:00:00:01:00`.
 #[tactic(auto, unfolding(crate::specs::Texts::mac_of))]
 pub(crate) fn mac_of(text: &str) -> Option<Mac>
     ensures { option_map (λ mac. mac.0) result ≡ mac_of text.now }

@@ -1,4 +1,4 @@
-//! Keys of a document that settings don't have.
+//! The keys of a document that settings don't have.
 ghost use Rattle.std.specs.Prelude.{◌≡◌, ◌++◌, Some, None, map, option_map, string_bytes, ◌∷◌, [], IfOk, OnOk};
 ghost use Rattle.std.specs.List.{list_any};
 ghost use Rattle.toml.specs.Data.{as_table};
@@ -11,9 +11,11 @@ use crate::{Name, Section, neighbours};
 use std::alloc::{AllocError, Global};
 use toml::{Table, Value};
 
-const PORTS: [Name; 3] = [Name::Zero, Name::One, Name::HostLimit];
+/// The keys of `[ports]`.
+const PORTS_KEYS: [Name; 3] = [Name::Zero, Name::One, Name::HostLimit];
 
-const INSIDE: [Name; 5] = [
+/// The keys of `[inside]`.
+const INSIDE_KEYS: [Name; 5] = [
     Name::Virtual,
     Name::Prefix,
     Name::Vrid,
@@ -21,7 +23,8 @@ const INSIDE: [Name; 5] = [
     Name::Mtu,
 ];
 
-const OUTSIDE: [Name; 6] = [
+/// The keys of `[outside]`.
+const OUTSIDE_KEYS: [Name; 6] = [
     Name::Virtual,
     Name::Prefix,
     Name::Vrid,
@@ -30,9 +33,11 @@ const OUTSIDE: [Name; 6] = [
     Name::Mtu,
 ];
 
-const ICMP: [Name; 2] = [Name::Echo, Name::Errors];
+/// The keys of `[icmp]`.
+const ICMP_KEYS: [Name; 2] = [Name::Echo, Name::Errors];
 
-const GATEWAY: [Name; 11] = [
+/// The keys of `[gateway_0]` and `[gateway_1]`.
+const GATEWAY_KEYS: [Name; 11] = [
     Name::InsideIp,
     Name::InsideMac,
     Name::OutsideIp,
@@ -46,14 +51,17 @@ const GATEWAY: [Name; 11] = [
     Name::OutsidePort,
 ];
 
-const NEIGHBOUR: [Name; 3] = [Name::Side, Name::Ip, Name::Mac];
+/// The keys of a `[[neighbour]]`.
+const NEIGHBOUR_KEYS: [Name; 3] = [Name::Side, Name::Ip, Name::Mac];
 
+/// Whether a key has this text.
 fn has_text(name: Name, text: &str) -> bool
     ensures { result ≡ has_text text.now name }
 {
     name.as_str() == text
 }
 
+/// Whether one of some keys has this text.
 fn any_has_text(names: &[Name], text: &str) -> bool
     ensures { result ≡ list_any (has_text text.now) names.now }
 {
@@ -65,20 +73,22 @@ fn any_has_text(names: &[Name], text: &str) -> bool
     false
 }
 
+/// Whether a section has a key of this text.
 #[tactic(auto, unfolding(crate::specs::Unknown::is_known))]
 fn is_known(section: Section, text: &str) -> bool
     ensures { result ≡ is_known section text.now }
 {
     match section {
-        Section::Ports => any_has_text(&PORTS, text),
-        Section::Inside => any_has_text(&INSIDE, text),
-        Section::Outside => any_has_text(&OUTSIDE, text),
-        Section::Icmp => any_has_text(&ICMP, text),
-        Section::GatewayZero | Section::GatewayOne => any_has_text(&GATEWAY, text),
-        Section::Neighbour => any_has_text(&NEIGHBOUR, text),
+        Section::Ports => any_has_text(&PORTS_KEYS, text),
+        Section::Inside => any_has_text(&INSIDE_KEYS, text),
+        Section::Outside => any_has_text(&OUTSIDE_KEYS, text),
+        Section::Icmp => any_has_text(&ICMP_KEYS, text),
+        Section::GatewayZero | Section::GatewayOne => any_has_text(&GATEWAY_KEYS, text),
+        Section::Neighbour => any_has_text(&NEIGHBOUR_KEYS, text),
     }
 }
 
+/// Returns the section of this name.
 #[tactic(auto, unfolding(crate::specs::Unknown::section_named))]
 fn section_named(text: &str) -> Option<Section>
     ensures { result ≡ section_named text.now }
@@ -95,7 +105,7 @@ fn section_named(text: &str) -> Option<Section>
     }
 }
 
-/// Adds the path of a key.
+/// Adds the path of a section's key, as `ports.colour`.
 fn add_path(
     alloc: Global,
     section: Section,
@@ -110,8 +120,8 @@ fn add_path(
     Ok(())
 }
 
-/// Adds a key of the document, which is its own path.
-fn add_title(alloc: Global, text: &str, found: &mut Vec<String>) -> Result<(), AllocError>
+/// Adds the path of a key of the document, which is the key.
+fn add_document_key(alloc: Global, text: &str, found: &mut Vec<String>) -> Result<(), AllocError>
     ensures items { OnOk result
         (map string_bytes found.new.items ≡ map string_bytes found.old.items ++ text.now ∷ []) }
 {
@@ -119,7 +129,7 @@ fn add_title(alloc: Global, text: &str, found: &mut Vec<String>) -> Result<(), A
     Ok(())
 }
 
-/// The lesser of two paths by their bytes.
+/// Returns the lesser of two paths by their bytes.
 fn lesser(least: Option<String>, path: String) -> String
     ensures { Some (string_bytes result)
         ≡ lesser (option_map string_bytes least) (string_bytes path) }
@@ -135,7 +145,7 @@ fn lesser(least: Option<String>, path: String) -> String
 }
 
 /// Adds the unknown keys of a section's table.
-fn unknown_in(
+fn add_unknown_in(
     alloc: Global,
     section: Section,
     table: &Table,
@@ -152,8 +162,9 @@ fn unknown_in(
     Ok(())
 }
 
+/// Adds the unknown keys of a section, where its value is a table.
 #[tactic(auto, unfolding(crate::specs::Unknown::unknown_at))]
-fn unknown_at(
+fn add_unknown_at(
     alloc: Global,
     section: Section,
     value: &Value,
@@ -163,23 +174,29 @@ fn unknown_at(
         ≡ map string_bytes found.old.items ++ unknown_at section (as_table (view value.now))) }
 {
     match value.as_table() {
-        Some(table) => unknown_in(alloc, section, table, found),
+        Some(table) => add_unknown_in(alloc, section, table, found),
         None => Ok(()),
     }
 }
 
-fn unknown_from(alloc: Global, tables: &[Value], found: &mut Vec<String>) -> Result<(), AllocError>
+/// Adds the unknown keys of the tables of neighbours.
+fn add_unknown_from(
+    alloc: Global,
+    tables: &[Value],
+    found: &mut Vec<String>,
+) -> Result<(), AllocError>
     ensures items { OnOk result (map string_bytes found.new.items
         ≡ map string_bytes found.old.items ++ unknown_from (map view tables.now)) }
 {
     for table in tables {
-        unknown_at(alloc, Section::Neighbour, table, found)?;
+        add_unknown_at(alloc, Section::Neighbour, table, found)?;
     }
     Ok(())
 }
 
+/// Adds the unknown keys of all neighbours, where the value is a list of tables.
 #[tactic(auto, unfolding(crate::specs::Unknown::unknown_neighbour))]
-fn unknown_neighbour(
+fn add_unknown_neighbour(
     alloc: Global,
     value: &Value,
     found: &mut Vec<String>,
@@ -188,13 +205,14 @@ fn unknown_neighbour(
         ≡ map string_bytes found.old.items ++ unknown_neighbour (tables_in (Some (view value.now)))) }
 {
     match neighbours::tables_in(value) {
-        Some(tables) => unknown_from(alloc, tables, found),
+        Some(tables) => add_unknown_from(alloc, tables, found),
         None => Ok(()),
     }
 }
 
+/// Adds a key of the document where no section has its name, or else the unknown keys of the section.
 #[tactic(auto, unfolding(crate::specs::Unknown::unknown_under))]
-fn unknown_under(
+fn add_unknown_under(
     alloc: Global,
     text: &str,
     value: &Value,
@@ -205,25 +223,25 @@ fn unknown_under(
         ++ unknown_under text.now (view value.now) (section_named text.now)) }
 {
     match section_named(text) {
-        None => add_title(alloc, text, found),
-        Some(Section::Neighbour) => unknown_neighbour(alloc, value, found),
-        Some(section) => unknown_at(alloc, section, value, found),
+        None => add_document_key(alloc, text, found),
+        Some(Section::Neighbour) => add_unknown_neighbour(alloc, value, found),
+        Some(section) => add_unknown_at(alloc, section, value, found),
     }
 }
 
-/// The paths of all keys that settings don't have.
-pub(crate) fn unknown(alloc: Global, document: &Table) -> Result<Vec<String>, AllocError>
+/// Returns the paths of all keys that settings don't have.
+pub(crate) fn unknown_keys(alloc: Global, document: &Table) -> Result<Vec<String>, AllocError>
     ensures { IfOk result
         (λ found. map string_bytes found.items ≡ unknown_of (table_view document.now)) }
 {
     let mut found = Vec::new(alloc);
     for (text, value) in document {
-        unknown_under(alloc, text.as_str(), value, &mut found)?;
+        add_unknown_under(alloc, text.as_str(), value, &mut found)?;
     }
     Ok(found)
 }
 
-/// The least of some paths by their bytes.
+/// Returns the least of some paths by their bytes.
 pub(crate) fn least(paths: Vec<String>) -> Option<String>
     ensures { option_map string_bytes result ≡ least_from None (map string_bytes paths.items) }
 {

@@ -1,4 +1,4 @@
-//! All values of a document.
+//! The values of a document, from which settings are made.
 ghost use Rattle.std.specs.Prelude.{◌<◌, ◌≤◌, vec_len};
 ghost use Rattle.std.specs.Option.{ForSome};
 ghost use Rattle.settings.specs.Placed.{AreApart, LiesIn};
@@ -14,7 +14,7 @@ use settings::{
 use std::alloc::Global;
 use toml::Table;
 
-/// All values of a document. The two gateways may share ports and addresses still.
+/// The values of a document. The two gateways may still share ports and addresses.
 #[derive(Drop)]
 pub(crate) struct Values {
     pub(crate) zero_ports: PortRange,
@@ -43,7 +43,11 @@ impl Values {
     ghost use Rattle.settings_file.specs.Faults.{FindsBadValue};
     ghost use Rattle.settings_file.specs.Settings.{first_bad_value};
 
-    /// Reads them in the order of the text.
+    /// Reads the values in the order of the text.
+    ///
+    /// # Errors
+    ///
+    /// `BadValue` of the first key whose value is bad; `NoMemory`.
     #[tactic(auto, unfolding(crate::specs::Settings::first_bad_value, crate::specs::Rows::network_at))]
     pub(crate) fn read(alloc: Global, document: &Table) -> Result<Values, SettingFault>
         ensures ok { IfOk result (AreValues (table_view document.now)) }
@@ -72,7 +76,12 @@ impl Values {
         })
     }
 
-    /// The settings that they make, where the two gateways share nothing that they may not.
+    /// Returns the settings of these values.
+    ///
+    /// # Errors
+    ///
+    /// `RangesOverlap` where the gateways' port ranges share a port; `SameIds` where the gateways share an address, a
+    /// MAC or a loopback port, or one has a virtual address.
     pub(crate) fn assemble(self) -> Result<Settings, SettingFault>
         ensures ok { IfOk result (IsAssembled self) }
         ensures err { IfErr result (TellsValues self) }

@@ -1,16 +1,17 @@
-//! Values that can never work.
+//! The settings whose values can never work, as an address that no host has.
 ghost use Rattle.std.specs.Prelude.{◌≡◌, ◌≤◌, ◌++◌, IfOk, OnOk};
 ghost use Rattle.std.specs.List.{flat_map};
 ghost use Rattle.settings_file.specs.Works.{is_first, is_last, is_host_address, is_group, is_station, is_ours, network_rows, gateway_rows, neighbour_rows, all_of_neighbour, all_that_cant};
 
-use crate::rows::add_bad;
+use crate::key_checks::add_failing;
 use crate::{Key, Name, Section};
 use addresses::{Ip, Mac};
 use nat_types::Side;
 use settings::{GatewaySettings, Neighbour, Settings};
 use std::alloc::{AllocError, Global};
 
-/// Whether an address is the first of its network, which stands for the network itself.
+/// Whether an address is the first of its network: the address of the network itself. `length` is that of the
+/// prefix, at most 32 bits.
 #[tactic(auto, unfolding(crate::specs::Works::is_first, crate::specs::Document::is_in))]
 pub fn is_network_address(address: Ip, length: u8) -> bool
     requires { length ≤ 32 }
@@ -30,10 +31,11 @@ fn is_broadcast_address(address: Ip, length: u8) -> bool
     ensures { result ≡ is_last length address.0 }
 {
     let host_bits = 32 - length;
-    let behind = u64::from(address.0) + 1;
-    behind >> host_bits != u64::from(address.0) >> host_bits
+    let next = u64::from(address.0) + 1;
+    next >> host_bits != u64::from(address.0) >> host_bits
 }
 
+/// Whether a host can have an address, in a network with a prefix of this length.
 fn is_host_address(address: Ip, length: u8) -> bool
     requires { length ≤ 32 }
     ensures { result ≡ is_host_address length address.0 }
@@ -41,12 +43,14 @@ fn is_host_address(address: Ip, length: u8) -> bool
     !(is_network_address(address, length) || is_broadcast_address(address, length))
 }
 
+/// Whether a MAC is that of a group of stations, as the broadcast one is.
 fn is_group(mac: Mac) -> bool
     ensures { result ≡ is_group mac.0 }
 {
     mac.0[0] % 2 == 1
 }
 
+/// Whether a station can have a MAC for its own: not a group's, nor zero, nor a virtual router's.
 fn is_station(mac: Mac) -> bool
     ensures { result ≡ is_station mac.0 }
 {
@@ -54,7 +58,7 @@ fn is_station(mac: Mac) -> bool
     !(is_group(mac) || mac.0 == [0; 6] || is_virtual)
 }
 
-/// Whether an address is one that the pair has for itself on a side.
+/// Whether an address is the pair's own on a side: the virtual one or a gateway's.
 fn is_ours(settings: &Settings, side: Side, address: Ip) -> bool
     ensures { result ≡ is_ours settings.now side address.0 }
 {
@@ -73,7 +77,7 @@ fn is_ours(settings: &Settings, side: Side, address: Ip) -> bool
     }
 }
 
-/// What has to hold of the networks and the router.
+/// Returns the keys of the networks and the router, each with whether its value can work.
 #[tactic(auto, unfolding(crate::specs::Works::network_rows))]
 fn network_rows(settings: &Settings) -> [(Key, bool); 3]
     ensures { result ≡ network_rows settings.now }
@@ -99,7 +103,7 @@ fn network_rows(settings: &Settings) -> [(Key, bool); 3]
     ]
 }
 
-/// What has to hold of a gateway.
+/// Returns the keys of a gateway, each with whether its value can work.
 #[tactic(auto, unfolding(crate::specs::Works::gateway_rows))]
 fn gateway_rows(
     settings: &Settings,
@@ -130,7 +134,7 @@ fn gateway_rows(
     ]
 }
 
-/// What has to hold of a neighbour.
+/// Returns the keys of a neighbour, each with whether its value can work.
 #[tactic(auto, unfolding(crate::specs::Works::neighbour_rows))]
 fn neighbour_rows(settings: &Settings, neighbour: &Neighbour) -> [(Key, bool); 2]
     ensures { result ≡ neighbour_rows settings.now neighbour.now }
@@ -147,7 +151,8 @@ fn neighbour_rows(settings: &Settings, neighbour: &Neighbour) -> [(Key, bool); 2
     ]
 }
 
-fn add_of_neighbours(
+/// Adds the keys of the neighbours whose values can never work.
+fn add_neighbours(
     settings: &Settings,
     neighbours: &[Neighbour],
     found: &mut Vec<Key>,
@@ -156,22 +161,25 @@ fn add_of_neighbours(
         ≡ found.old.items ++ flat_map (all_of_neighbour settings.now) neighbours.now) }
 {
     for neighbour in neighbours {
-        add_bad(&neighbour_rows(settings, neighbour), found)?;
+        add_failing(&neighbour_rows(settings, neighbour), found)?;
     }
     Ok(())
 }
 
-/// All keys, in the order of the text, whose values can never work.
+/// Returns all keys, in the order of the text, whose values can never work.
 #[tactic(auto, unfolding(crate::specs::Works::all_that_cant))]
-pub(crate) fn all_that_cant(alloc: Global, settings: &Settings) -> Result<Vec<Key>, AllocError>
+pub(crate) fn keys_that_cant_work(
+    alloc: Global,
+    settings: &Settings,
+) -> Result<Vec<Key>, AllocError>
     ensures { IfOk result (λ keys. keys.items ≡ all_that_cant settings.now) }
 {
     let mut found = Vec::new(alloc);
-    add_bad(&network_rows(settings), &mut found)?;
+    add_failing(&network_rows(settings), &mut found)?;
     let rows = gateway_rows(settings, Section::GatewayZero, &settings.zero);
-    add_bad(&rows, &mut found)?;
+    add_failing(&rows, &mut found)?;
     let rows = gateway_rows(settings, Section::GatewayOne, &settings.one);
-    add_bad(&rows, &mut found)?;
-    add_of_neighbours(settings, settings.neighbours.as_slice(), &mut found)?;
+    add_failing(&rows, &mut found)?;
+    add_neighbours(settings, settings.neighbours.as_slice(), &mut found)?;
     Ok(found)
 }

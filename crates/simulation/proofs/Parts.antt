@@ -4,7 +4,7 @@ use Rattle.std.specs.Io.KnownBytes.{Appends}
 use Rattle.std.proofs.KnownBytes.{Appends-nil, Appends-trans}
 use Rattle.simulation.specs.Printed.{Prints}
 
--- behind what was there, where that is known, stands a front of the text, and this rest of it is missing
+-- a front of the text is appended to what was there, where that is known, and this rest of it is missing
 pub record IsPart (before after : Option (List ℕ)) (text rest : List ℕ) : Type 0 where
   pub written : List ℕ
   pub split : text ≡ written ++ rest

@@ -12,7 +12,7 @@ use Rattle.frame_sim.specs.declared.events.Step.{Step}
 use Rattle.simulation.specs.Lines.{answer_text, event_line, frame_line, gateway_lines, gateway_of, held_line, link_lines, note_line, one_more, owned_from, owned_lines, sent_by, state_line, step_lines, told_lines, with_sent}
 use Rattle.simulation.specs.declared.lines.Counts.{Counts}
 
--- ---- what a step told
+-- ---- the output of a step
 
 pub told_split : (i : GatewayId) (sent : ℕ) (told : Output) → told_lines i sent told
     ≡ flat_map (frame_line i) told.frames ++ (link_lines i sent told.datagrams ++ flat_map note_line told.notes)
@@ -31,7 +31,7 @@ step_split counts e s id sent number is_id is_sent is_number = rw (is_number, is
 
 -- ---- a table
 
--- the first port, and those behind it
+-- the first port, and those after it
 pub owned_first : (i : GatewayId) (ps qs : List Port) (p : Port) → ps ≡ p ∷ qs → owned_lines i ps ≡ owned_from i p p qs
 owned_first i ps qs p is = rw is refl
 

@@ -64,7 +64,7 @@ kind_text notes.Synced = codes "Synced"
 kind_text notes.Crashed = codes "Crashed"
 kind_text (notes.Booted number) = codes "Booted " ++ decimal number
 
--- ---- what a step told
+-- ---- the output of a step
 
 abbrev pub frame_words : GatewayId → Side → List ℕ
 frame_words i side = codes "frame " ++ id_text i ++ codes " " ++ side_text side ++ codes " "
@@ -91,7 +91,7 @@ abbrev pub more : ℕ → List (List ℕ) → ℕ
 more count [] = count
 more count (one ∷ others) = more (one_more count) others
 
--- datagrams behind so many that the gateway sent before
+-- datagrams after so many that the gateway sent before
 abbrev pub link_lines : GatewayId → ℕ → List (List ℕ) → List ℕ
 link_lines i sent [] = []
 link_lines i sent (one ∷ others) = link_line i (one_more sent) one ++ link_lines i (one_more sent) others
@@ -144,7 +144,7 @@ with_sent One sent counts = record counts { one = sent }
 abbrev pub with_event : Counts → Counts
 with_event counts = record counts { events = one_more counts.events }
 
--- what a step told, and what became of its event
+-- the output of a step, and what became of its event
 abbrev pub step_lines : Counts → WorldEvent → Step → List ℕ
 step_lines counts e s = told_lines (gateway_of e) (sent_by (gateway_of e) counts) s.out
     ++ event_line (one_more counts.events) (answer_text s.answer)
@@ -176,7 +176,7 @@ ended i first last p = if follows last p then [] else owned_line i first last
 abbrev pub begins : Port → Port → Port → Port
 begins first last p = if follows last p then first else p
 
--- the lines of a run that has come from its first port to its last so far, and of those behind it
+-- the lines of a run that has come from its first port to its last so far, and of those after it
 abbrev pub owned_from : GatewayId → Port → Port → List Port → List ℕ
 owned_from i first last [] = owned_line i first last
 owned_from i first last (p ∷ ps) = ended i first last p ++ owned_from i (begins first last p) p ps

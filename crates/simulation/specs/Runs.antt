@@ -26,14 +26,14 @@ steps_lines counts (e ∷ es) (s ∷ ss) = step_lines counts e s ++ steps_lines 
 abbrev pub run_lines : List WorldEvent → List Step → World → List ℕ
 run_lines events steps w = steps_lines no_counts events steps ++ world_lines w
 
--- the steps that these events take, in order, from a world; just their lines were printed; 3 where one was refused, else 0
+-- the steps that these events take, in order, from a world; exactly their lines were printed; 3 where one was refused, else 0
 pub record IsPlayed {O : Type 0} (contents : Contents O) (w : World) (events : List WorldEvent) (output printed : O) (status : ℕ) : Type 0 where
   pub run : IsRunFrom w events status
   pub text : Appends (contents output) (contents printed) (run_lines events run.steps run.world)
 
--- ---- `loop`: what an event hands in may be lost
+-- ---- `loop`: the bytes that an event brings may be lost
 
--- the event gives this step; or what it hands in is lost, and nothing changes
+-- the event gives this step; or its bytes are lost, and nothing changes
 abbrev pub IsTurn : World → WorldEvent → Option Step → World → Type 0
 IsTurn w e (Some s) w2 = Gives w e s w2
 IsTurn w e None w2 = w2 ≡ w
@@ -66,14 +66,14 @@ turns_lines counts [] ts = []
 turns_lines counts (e ∷ es) [] = []
 turns_lines counts (e ∷ es) (t ∷ ts) = turn_lines counts e t ++ turns_lines (counts_then counts e t) es ts
 
--- these events have had their turns, just their lines were printed, and one was refused or none
+-- these events have had their turns, exactly their lines were printed, and one was refused or none
 pub record HaveTurned {O : Type 0} (contents : Contents O) (w : World) (es : List WorldEvent) (w2 : World) (output printed : O) (refused : Bool) : Type 0 where
   pub turns : List (Option Step)
   pub taken : AreTurns w es turns w2
   pub text : Appends (contents output) (contents printed) (turns_lines no_counts es turns)
   pub refusals : refused ≡ list_any is_refusal turns
 
--- the same, and behind their lines just the tables of the world to which they led were printed; 3 where one was refused, else 0
+-- the same, and after their lines exactly the tables of the world to which they led were printed; 3 where one was refused, else 0
 pub record IsLooped {O : Type 0} (contents : Contents O) (w : World) (es : List WorldEvent) (output printed : O) (status : ℕ) : Type 0 where
   pub turns : List (Option Step)
   pub last : World

@@ -1,7 +1,7 @@
-//! The capture of a run: of each event first the packet that came with it, and then those that its gateway sent.
+//! The capture of a run: of each event first the packet that the event brings, and then those that its gateway sent.
 
-use crate::moments::Moments;
-use crate::words::gateway_of;
+use crate::clocks::Clocks;
+use crate::texts::gateway_of;
 use captures::{CaptureFile, Direction, Interface, Packet, Reader, open, write_head, write_packet};
 use faults::Fault;
 use frame_sim::{Step, World, WorldFault};
@@ -11,17 +11,17 @@ use std::alloc::Global;
 use std::fs::Files;
 use std::io::{self, BufWriter, ErrorKind, Write};
 
-/// A capture of a run on a new world.
+/// A capture of a run on a new world, in pcapng.
 #[derive(Drop)]
 pub struct Capture<W> {
     output: W,
-    moments: Moments,
-    /// Something couldn't be written.
-    is_refused: bool,
+    clocks: Clocks,
+    /// Whether a write has failed.
+    has_failed: bool,
 }
 
 impl<W: Write + Drop> Capture<W> {
-    /// Begins one with its head.
+    /// Writes the head of a capture.
     ///
     /// # Errors
     ///
@@ -30,39 +30,38 @@ impl<W: Write + Drop> Capture<W> {
         write_head(&mut output)?;
         Ok(Capture {
             output,
-            moments: Moments::new(),
-            is_refused: false,
+            clocks: Clocks::new(),
+            has_failed: false,
         })
     }
 }
 
 impl<W: Write> Capture<W> {
-    /// Writes the packets of an event that gave this step, on a world that has had it.
+    /// Writes the packets of an event and its step, where the world has taken the step already.
     ///
     /// # Errors
     ///
     /// Those of the output.
     pub fn write(&mut self, world: &World<'_>, event: &WorldEvent, step: &Step) -> io::Result<()> {
         if step.answer.is_ok() {
-            self.moments.follow(event);
+            self.clocks.follow(event);
         }
-        let id = gateway_of(event);
-        let moment = self.moments.of(id);
-        let written = write_event(&mut self.output, moment, world, event, step);
+        let time = self.clocks.time(gateway_of(event));
+        let written = write_event(&mut self.output, time, world, event, step);
         if written.is_err() {
-            self.is_refused = true;
+            self.has_failed = true;
         }
         written
     }
 
-    /// Hands on what is written.
+    /// Flushes the output.
     ///
     /// # Errors
     ///
-    /// Those of the output; `Other` where something couldn't be written before.
+    /// Those of the output; `Other` where a write has failed before.
     fn flush(&mut self) -> io::Result<()> {
         let flushed = self.output.flush();
-        if self.is_refused {
+        if self.has_failed {
             return Err(ErrorKind::Other.into());
         }
         flushed
@@ -72,13 +71,17 @@ impl<W: Write> Capture<W> {
 /// A capture in a file.
 type FileCapture<F> = Capture<BufWriter<CaptureFile<F>>>;
 
-/// Begins a capture in the file at a path, if one is given. A pipe's reader is awaited.
-pub(crate) fn begin<R: Files + AllocGlobal>(
+/// Begins a capture in the file at a path, or none where there is no path. A pipe is opened once it has a reader.
+///
+/// # Errors
+///
+/// `Fault::capture` of the path.
+pub(crate) fn begin_capture<R: Files + AllocGlobal>(
     rt: &R,
     path: Option<&str>,
 ) -> Result<Option<FileCapture<R::File>>, Fault> {
     match path {
-        Some(path) => match begin_at(rt, path) {
+        Some(path) => match open_capture(rt, path) {
             Ok(capture) => Ok(Some(capture)),
             Err(error) => Err(Fault::capture(rt.alloc(), path, &error)),
         },
@@ -86,14 +89,18 @@ pub(crate) fn begin<R: Files + AllocGlobal>(
     }
 }
 
-fn begin_at<R: Files + AllocGlobal>(rt: &R, path: &str) -> io::Result<FileCapture<R::File>> {
+fn open_capture<R: Files + AllocGlobal>(rt: &R, path: &str) -> io::Result<FileCapture<R::File>> {
     let mut file = open(rt, path, Reader::Awaited)?;
     file.clear()?;
     Capture::new(BufWriter::new(rt.alloc(), file)?)
 }
 
-/// Ends a capture in the file at a path, if one is given.
-pub(crate) fn end<W: Write + Drop>(
+/// Flushes a capture in the file at a path, where there is one.
+///
+/// # Errors
+///
+/// `Fault::capture` of the path, also where a write has failed before.
+pub(crate) fn end_capture<W: Write + Drop>(
     alloc: Global,
     path: Option<&str>,
     capture: Option<Capture<W>>,
@@ -110,8 +117,9 @@ pub(crate) fn end<W: Write + Drop>(
     }
 }
 
-/// What an event hands in, and where: a frame, or a datagram that was sent.
-pub(crate) fn input<'a>(
+/// Returns the bytes that an event brings, and the interface at which they arrive: a frame, or a datagram that was
+/// sent.
+pub(crate) fn input_of<'a>(
     world: &'a World<'_>,
     event: &'a WorldEvent,
 ) -> Option<(Interface, &'a [u8])> {
@@ -132,47 +140,47 @@ pub(crate) fn input<'a>(
     }
 }
 
-/// Writes what came with an event, and what its gateway sent.
+/// Writes the packet that an event brings, and the packets that its gateway sent.
 fn write_event<W: Write>(
     output: &mut W,
-    moment: u64,
+    time: u64,
     world: &World<'_>,
     event: &WorldEvent,
     step: &Step,
 ) -> io::Result<()> {
     // The world is later than the event: a datagram that wasn't sent then may have been since.
     if !matches!(step.answer, Err(WorldFault::NoSuchDatagram)) {
-        write_input(output, moment, world, event)?;
+        write_input(output, time, world, event)?;
     }
     let id = gateway_of(event);
-    write_frames(output, id, moment, &step.out)?;
-    write_datagrams(output, id, moment, &step.out)
+    write_frames(output, id, time, &step.out)?;
+    write_datagrams(output, id, time, &step.out)
 }
 
 fn write_input<W: Write>(
     output: &mut W,
-    moment: u64,
+    time: u64,
     world: &World<'_>,
     event: &WorldEvent,
 ) -> io::Result<()> {
-    let Some((interface, bytes)) = input(world, event) else {
+    let Some((interface, bytes)) = input_of(world, event) else {
         return Ok(());
     };
     let packet = Packet {
         interface,
         direction: Direction::Inbound,
-        timestamp: moment,
+        timestamp: time,
         bytes,
     };
     write_packet(output, &packet)
 }
 
-fn write_frames<W: Write>(output: &mut W, id: GatewayId, moment: u64, out: &Out) -> io::Result<()> {
+fn write_frames<W: Write>(output: &mut W, id: GatewayId, time: u64, out: &Out) -> io::Result<()> {
     for frame in out.frames() {
         let packet = Packet {
             interface: Interface::Side(id, frame.side),
             direction: Direction::Outbound,
-            timestamp: moment,
+            timestamp: time,
             bytes: frame.bytes,
         };
         write_packet(output, &packet)?;
@@ -183,14 +191,14 @@ fn write_frames<W: Write>(output: &mut W, id: GatewayId, moment: u64, out: &Out)
 fn write_datagrams<W: Write>(
     output: &mut W,
     id: GatewayId,
-    moment: u64,
+    time: u64,
     out: &Out,
 ) -> io::Result<()> {
     for bytes in out.datagrams() {
         let packet = Packet {
             interface: Interface::Link(id),
             direction: Direction::Outbound,
-            timestamp: moment,
+            timestamp: time,
             bytes,
         };
         write_packet(output, &packet)?;

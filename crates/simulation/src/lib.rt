@@ -1,20 +1,20 @@
-//! Runs scripts of events on a pair of gateways, and prints what they do: `sim` hands each event in, and `loop` first sends what
-//! it brings through a UDP socket.
+//! Runs scripts of events on a pair of gateways, and prints what they do. `run_sim` applies each event directly;
+//! `run_loop` first sends the event's frame or datagram through a UDP socket.
 #![tactic(auto)]
 
 mod capture;
+mod clocks;
 mod lines;
 mod loopback;
-pub mod looped;
-mod moments;
+mod looped;
 mod script;
-pub mod sim;
+mod sim;
+mod step_output;
 mod tables;
-mod told;
-mod words;
+mod texts;
 
 pub use capture::Capture;
 pub use loopback::Loopback;
-pub use looped::Channel;
+pub use looped::{Channel, run_loop, run_loop_job};
 pub use script::{Job, read_job};
-pub use sim::Progress;
+pub use sim::{Progress, run_sim, run_sim_job};

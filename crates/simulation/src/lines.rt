@@ -1,16 +1,16 @@
-//! Prints what each event of a run gave, in order.
+//! The lines of a run's events, in order.
 ghost use Rattle.std.specs.Prelude.{◌≡◌, OnOk};
 ghost use Rattle.simulation.specs.Lines.{answer_text, counts_after, event_line, lost_line, no_counts, one_more, sent_by, step_lines, with_event, with_sent};
 ghost use Rattle.simulation.specs.Printed.{Prints};
 
-use crate::told::print_told;
-use crate::words::gateway_of;
+use crate::step_output::print_output;
+use crate::texts::gateway_of;
 use frame_sim::{Step, WorldFault};
 use nat_types::{GatewayId, WorldEvent};
 use spec_step::Outcome;
 use std::io::{self, Write};
 
-/// How many events of a run were printed, and how many datagrams each gateway has sent.
+/// The number of a run's events that are printed, and of the datagrams that each gateway has sent.
 #[derive(Drop)]
 pub(crate) struct Counts {
     events: usize,
@@ -47,7 +47,7 @@ impl Counts {
         }
     }
 
-    /// Counts one event more, and gives its number.
+    /// Counts one more event, and returns its number.
     fn next_event(&mut self) -> usize
         ensures number { result ≡ one_more self.old.events }
         ensures counted { self.new ≡ with_event self.old }
@@ -57,7 +57,7 @@ impl Counts {
     }
 }
 
-/// Prints what the next event gave: what its gateway told, and its outcome, or why it was refused.
+/// Prints what the gateway of the next event sent, and the event's outcome, or why the event was refused.
 pub(crate) fn print_step<W: Write>(
     output: &mut W,
     counts: &mut Counts,
@@ -70,13 +70,13 @@ pub(crate) fn print_step<W: Write>(
 {
     let id = gateway_of(event);
     let mut sent = counts.sent_by(id);
-    print_told(output, id, &mut sent, &step.out)?;
+    print_output(output, id, &mut sent, &step.out)?;
     counts.set_sent(id, sent);
     let number = counts.next_event();
     print_answer(output, number, &step.answer)
 }
 
-/// Prints that what the next event was to hand in is lost.
+/// Prints that the next event's bytes are lost.
 pub(crate) fn print_lost<W: Write>(output: &mut W, counts: &mut Counts) -> io::Result<()>
     ensures printed { Prints (W.contents output.old) result (W.contents output.new)
         (lost_line counts.old) }
@@ -86,7 +86,7 @@ pub(crate) fn print_lost<W: Write>(output: &mut W, counts: &mut Counts) -> io::R
     writeln!(output, "event {number} lost")
 }
 
-/// What became of the event of a number.
+/// Prints the outcome of the event of this number, or why the event was refused.
 fn print_answer<W: Write>(
     output: &mut W,
     number: usize,

@@ -11,39 +11,45 @@ use std::net::{Ipv4Addr, Net, SocketAddr, SocketAddrV4, UdpSocket};
 use std::rt::Clock;
 use std::time::{Duration, Instant};
 
-/// How long what was sent is waited for, in milliseconds.
-const LIMIT: u64 = 1_000;
+/// How long a socket waits for its own datagram, in milliseconds.
+const RECEIVE_TIMEOUT_MS: u64 = 1_000;
 
-/// More bytes than any that are sent.
-const CAPACITY: usize = 4_096;
+/// The size of a receive buffer in bytes: a frame of a script has at most 2,000, and a datagram of the link 2,214.
+const RECEIVE_BUFFER: usize = 4_096;
 
-/// A socket that sends to itself.
+/// A UDP socket on the loopback address that sends to itself.
 #[derive(Drop)]
-struct Port {
+struct EchoSocket {
     socket: UdpSocket,
     address: SocketAddr,
 }
 
-impl Port {
-    fn open<R: Net>(rt: &R, number: u16) -> Result<Port, Fault> {
-        let address = SocketAddr::V4(SocketAddrV4::new(Ipv4Addr::LOCALHOST, number));
+impl EchoSocket {
+    /// Binds a port of the loopback address.
+    ///
+    /// # Errors
+    ///
+    /// `NoPort`.
+    fn open<R: Net>(rt: &R, port: u16) -> Result<EchoSocket, Fault> {
+        let address = SocketAddr::V4(SocketAddrV4::new(Ipv4Addr::LOCALHOST, port));
         match UdpSocket::bind(rt, address) {
-            Ok(socket) => Ok(Port { socket, address }),
-            Err(_) => Err(Fault::NoPort(number)),
+            Ok(socket) => Ok(EchoSocket { socket, address }),
+            Err(_) => Err(Fault::NoPort(port)),
         }
     }
 
-    /// Sends bytes, and says whether they came within the limit. What else comes is passed over.
-    fn pass<R: Clock>(&self, rt: &R, bytes: &[u8]) -> bool {
+    /// Sends bytes, and returns whether they arrive within the timeout. Other datagrams are skipped.
+    fn echoes<R: Clock>(&self, rt: &R, bytes: &[u8]) -> bool {
         if self.socket.send_to(bytes, self.address).is_err() {
             return false;
         }
         let Ok(start) = Instant::now(rt) else {
             return false;
         };
+        // A loop without an end that is proved to end.
         for _ in 0..u64::MAX {
             match time_left(rt, start) {
-                Some(left) if self.waits_at_most(left) => {}
+                Some(left) if self.sets_timeout(left) => {}
                 _ => return false,
             }
             match self.receive(bytes) {
@@ -55,13 +61,14 @@ impl Port {
         false
     }
 
-    fn waits_at_most(&self, left: Duration) -> bool {
+    /// Sets the timeout of the next receive, and returns whether that succeeded.
+    fn sets_timeout(&self, left: Duration) -> bool {
         self.socket.set_read_timeout(Some(left)).is_ok()
     }
 
-    /// The next datagram, held against what was sent.
+    /// Receives a datagram, and compares it with the bytes that were sent.
     fn receive(&self, sent: &[u8]) -> Received {
-        let mut buffer = [0; CAPACITY];
+        let mut buffer = [0; RECEIVE_BUFFER];
         match self.socket.recv_from(&mut buffer) {
             Ok((count, _)) if &buffer[..count] == sent => Received::Same,
             Ok(_) => Received::Other,
@@ -73,40 +80,41 @@ impl Port {
     }
 }
 
-/// What came at a port.
+/// The result of one receive.
 #[derive(Clone, Copy, Debug, PartialEq, Eq)]
 enum Received {
+    /// The bytes that were sent.
     Same,
-    /// Other bytes, or none in time.
+    /// Other bytes, or none before the timeout.
     Other,
     Failed,
 }
 
-/// What is left of the limit, if anything is.
+/// Returns what is left of the timeout, or None where nothing is.
 fn time_left<R: Clock>(rt: &R, start: Instant) -> Option<Duration> {
     let spent = start.elapsed(rt).ok()?;
-    let left = Duration::from_millis(LIMIT).checked_sub(spent)?;
+    let left = Duration::from_millis(RECEIVE_TIMEOUT_MS).checked_sub(spent)?;
     if left.is_zero() { None } else { Some(left) }
 }
 
-/// The ports of a gateway.
+/// The sockets of a gateway.
 #[derive(Drop)]
-struct Ports {
-    link: Port,
-    inside: Port,
-    outside: Port,
+struct GatewaySockets {
+    link: EchoSocket,
+    inside: EchoSocket,
+    outside: EchoSocket,
 }
 
-impl Ports {
-    fn open<R: Net>(rt: &R, own: &GatewaySettings) -> Result<Ports, Fault> {
-        Ok(Ports {
-            link: Port::open(rt, own.link)?,
-            inside: Port::open(rt, own.inside_port)?,
-            outside: Port::open(rt, own.outside_port)?,
+impl GatewaySockets {
+    fn open<R: Net>(rt: &R, gateway: &GatewaySettings) -> Result<GatewaySockets, Fault> {
+        Ok(GatewaySockets {
+            link: EchoSocket::open(rt, gateway.link)?,
+            inside: EchoSocket::open(rt, gateway.inside_port)?,
+            outside: EchoSocket::open(rt, gateway.outside_port)?,
         })
     }
 
-    fn side(&self, side: Side) -> &Port {
+    fn side(&self, side: Side) -> &EchoSocket {
         match side {
             Side::Inside => &self.inside,
             Side::Outside => &self.outside,
@@ -114,42 +122,43 @@ impl Ports {
     }
 }
 
-/// The ports of both gateways. Bytes to an interface are sent to its port by that port itself.
+/// The loopback sockets of both gateways. The bytes for an interface are sent by the interface's own socket to itself.
 #[derive(Drop)]
 pub struct Loopback<'a, R> {
     rt: &'a R,
-    zero: Ports,
-    one: Ports,
+    zero: GatewaySockets,
+    one: GatewaySockets,
 }
 
 impl<'a, R: Net> Loopback<'a, R> {
-    /// Binds the ports that settings give both gateways: of each that of the link, the inside and the outside, gateway 0's
-    /// first.
+    /// Binds the ports in the settings of both gateways: the link, the inside and the outside of gateway 0, then those
+    /// of gateway 1.
     ///
     /// # Errors
     ///
-    /// `CantWork` with the first key whose port stands twice in the settings; `NoPort` of the first port that can't be bound.
+    /// `CantWork` with the first key whose port another key before it has; `NoPort` of the first port that can't be
+    /// bound.
     pub fn open(rt: &'a R, settings: &Settings) -> Result<Loopback<'a, R>, Fault> {
         if let Some(key) = port_clash_of_both(settings) {
             return Err(Fault::Setting(SettingFault::CantWork(key)));
         }
         Ok(Loopback {
             rt,
-            zero: Ports::open(rt, settings.gateway(GatewayId::Zero))?,
-            one: Ports::open(rt, settings.gateway(GatewayId::One))?,
+            zero: GatewaySockets::open(rt, settings.gateway(GatewayId::Zero))?,
+            one: GatewaySockets::open(rt, settings.gateway(GatewayId::One))?,
         })
     }
 }
 
 impl<R> Loopback<'_, R> {
-    fn port(&self, interface: Interface) -> &Port {
+    fn socket(&self, interface: Interface) -> &EchoSocket {
         match interface {
-            Interface::Side(id, side) => self.ports(id).side(side),
-            Interface::Link(id) => &self.ports(id).link,
+            Interface::Side(id, side) => self.gateway(id).side(side),
+            Interface::Link(id) => &self.gateway(id).link,
         }
     }
 
-    fn ports(&self, id: GatewayId) -> &Ports {
+    fn gateway(&self, id: GatewayId) -> &GatewaySockets {
         match id {
             GatewayId::Zero => &self.zero,
             GatewayId::One => &self.one,
@@ -157,14 +166,8 @@ impl<R> Loopback<'_, R> {
     }
 }
 
-impl<R: Clock> Loopback<'_, R> {
-    fn send(&self, interface: Interface, bytes: &[u8]) -> bool {
-        self.port(interface).pass(self.rt, bytes)
-    }
-}
-
 impl<R: Clock> Channel for Loopback<'_, R> {
     fn pass(&mut self, interface: Interface, bytes: &[u8]) -> bool {
-        self.send(interface, bytes)
+        self.socket(interface).echoes(self.rt, bytes)
     }
 }

@@ -1,10 +1,10 @@
-//! `natpair loop`: runs a script whose frames and datagrams are first sent through a channel.
+//! `natpair loop`: runs a script whose frames and datagrams are sent through a channel before they are applied.
 ghost use Rattle.std.specs.Prelude.{◌≡◌, ◌||◌, IfOk, OnOk};
 ghost use Rattle.frame_sim.specs.World.{founding};
 ghost use Rattle.simulation.specs.Printed.{Prints};
 ghost use Rattle.simulation.specs.Runs.{HaveTurned, IsLooped, IsTurn, counts_then, is_refusal, turn_lines};
 
-use crate::capture::{Capture, begin, end, input};
+use crate::capture::{Capture, begin_capture, end_capture, input_of};
 use crate::lines::{Counts, print_lost, print_step};
 use crate::sim::status_of;
 use crate::tables::print_world;
@@ -19,20 +19,20 @@ use std::io::{self, Write};
 use std::net::Net;
 use std::rt::Clock;
 
-/// What the frames and datagrams of events are sent through before they are handed in.
+/// A channel for the frames and datagrams of events.
 pub trait Channel {
-    /// Sends bytes to an interface, and says whether exactly these came there.
+    /// Sends bytes to an interface, and returns whether exactly these bytes arrived.
     fn pass(&mut self, interface: Interface, bytes: &[u8]) -> bool;
 }
 
-/// Runs a script, both texts given, through the loopback ports of the settings, with a capture in the file at a path if one
-/// is. The answer is the exit status: 0, or 3 where an event was refused.
+/// Runs a script with settings, both given as texts, through the loopback ports of the settings, and writes a capture
+/// to the file at a path, where there is one. Returns the exit status: 0, or 3 where an event was refused.
 ///
 /// # Errors
 ///
-/// Those of `read_job`, of the loopback ports, and of the capture's file, in this order: before these nothing is run. Those
-/// of `play`; but that the capture couldn't be written comes before them.
-pub fn run<R: Files + Net + Clock + AllocGlobal, W: Write>(
+/// Those of [`read_job`], of [`Loopback::open`] and of opening the capture's file, in this order: nothing is run then.
+/// A failed write of the capture comes before the errors of [`run_loop_job`].
+pub fn run_loop<R: Files + Net + Clock + AllocGlobal, W: Write>(
     rt: &R,
     settings: &str,
     script: &str,
@@ -41,20 +41,20 @@ pub fn run<R: Files + Net + Clock + AllocGlobal, W: Write>(
 ) -> Result<u8, Fault> {
     let job = read_job(rt.alloc(), settings, script)?;
     let mut channel = Loopback::open(rt, &job.settings)?;
-    let mut file = begin(rt, capture)?;
-    let status = play(rt.alloc(), &job, &mut channel, &mut file, output);
-    end(rt.alloc(), capture, file)?;
+    let mut file = begin_capture(rt, capture)?;
+    let status = run_loop_job(rt.alloc(), &job, &mut channel, &mut file, output);
+    end_capture(rt.alloc(), capture, file)?;
     status
 }
 
-/// Runs a job on a new world: what each event hands in is first sent through a channel. Where it is lost, the world doesn't
-/// take the event, and a line says so. Each event is captured and printed before the next one. The answer is the exit status:
-/// 0, or 3 where an event was refused.
+/// Runs a job on a new world. The frame or datagram of each event is first sent through a channel; where the channel
+/// loses it, the event isn't applied, and a line says so. Each event is captured and printed before the next one.
+/// Returns the exit status: 0, or 3 where an event was refused.
 ///
 /// # Errors
 ///
 /// `NotWritten` of the capture or the output, of which a beginning is written; `NoMemory`.
-pub fn play<C: Channel, F: Write + Drop, W: Write>(
+pub fn run_loop_job<C: Channel, F: Write + Drop, W: Write>(
     alloc: Global,
     job: &Job,
     channel: &mut C,
@@ -67,7 +67,7 @@ pub fn play<C: Channel, F: Write + Drop, W: Write>(
     match World::founded(alloc, &job.settings) {
         Ok(mut world) => {
             let events = job.events.as_slice();
-            let status = play_on(&mut world, events, channel, capture, output);
+            let status = run_on(&mut world, events, channel, capture, output);
             world.end();
             status
         }
@@ -75,8 +75,8 @@ pub fn play<C: Channel, F: Write + Drop, W: Write>(
     }
 }
 
-/// The same on a world.
-fn play_on<C: Channel, F: Write + Drop, W: Write>(
+/// Runs events on a world, as [`run_loop_job`] does on a new one.
+fn run_on<C: Channel, F: Write + Drop, W: Write>(
     world: &mut World<'_>,
     events: &[WorldEvent],
     channel: &mut C,
@@ -90,7 +90,7 @@ fn play_on<C: Channel, F: Write + Drop, W: Write>(
     Ok(status_of(refused))
 }
 
-/// Gives each event its turn. The answer says whether one was refused.
+/// Takes the turn of each event in order. Returns whether an event was refused.
 fn take_turns<C: Channel, F: Write + Drop, W: Write>(
     world: &mut World<'_>,
     events: &[WorldEvent],
@@ -112,13 +112,14 @@ fn take_turns<C: Channel, F: Write + Drop, W: Write>(
     Ok(refused)
 }
 
-/// An event was refused before, or this one is.
+/// Whether an event was refused before, or is refused in this turn.
 fn has_refused(before: bool, step: &Option<Step>) -> bool
     ensures { result ≡ (before || is_refusal step.now) }
 {
     before || is_refusal(step)
 }
 
+/// Whether the event of a turn was refused. A lost event isn't.
 fn is_refusal(step: &Option<Step>) -> bool
     ensures { result ≡ is_refusal step.now }
 {
@@ -128,7 +129,7 @@ fn is_refusal(step: &Option<Step>) -> bool
     }
 }
 
-/// What an event gives; none where what it hands in is lost.
+/// Applies an event, unless its bytes are lost. Returns its step, or None where they are lost.
 fn turn<C: Channel>(world: &mut World<'_>, event: &WorldEvent, channel: &mut C) -> Option<Step>
     ensures { IsTurn world.old event.now result world.new }
 {
@@ -138,15 +139,15 @@ fn turn<C: Channel>(world: &mut World<'_>, event: &WorldEvent, channel: &mut C) 
     Some(world.step(event))
 }
 
-/// Sends what an event hands in, if it hands in anything, and says whether it is lost.
+/// Sends the bytes of an event through a channel, and returns whether they are lost. An event without bytes isn't lost.
 fn is_lost<C: Channel>(world: &World<'_>, event: &WorldEvent, channel: &mut C) -> bool {
-    match input(world, event) {
+    match input_of(world, event) {
         Some((interface, bytes)) => !channel.pass(interface, bytes),
         None => false,
     }
 }
 
-/// Captures an event, unless it is lost.
+/// Writes the packets of an event to the capture, unless the event is lost.
 fn capture_turn<F: Write + Drop>(
     capture: &mut Option<Capture<F>>,
     world: &World<'_>,
@@ -162,7 +163,7 @@ fn capture_turn<F: Write + Drop>(
     }
 }
 
-/// Prints what an event gave, or that it is lost.
+/// Prints the lines of an event and its step, or that the event is lost.
 fn print_turn<W: Write>(
     output: &mut W,
     counts: &mut Counts,

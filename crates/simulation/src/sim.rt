@@ -1,4 +1,4 @@
-//! `natpair sim`: runs a script on a new world, and prints its steps and the tables at its end.
+//! `natpair sim`: applies the events of a script to a new world, and prints its steps and its tables at the end.
 ghost use Rattle.std.specs.Prelude.{◌≡◌, ◌++◌, IfOk, OnOk, if◌then◌else◌};
 ghost use Rattle.frame_sim.specs.Runs.{AreSteps};
 ghost use Rattle.frame_sim.specs.Status.{has_refusal};
@@ -7,7 +7,7 @@ ghost use Rattle.simulation.specs.Lines.{no_counts};
 ghost use Rattle.simulation.specs.Printed.{Prints};
 ghost use Rattle.simulation.specs.Runs.{IsPlayed, run_lines, steps_lines};
 
-use crate::capture::{Capture, begin, end};
+use crate::capture::{Capture, begin_capture, end_capture};
 use crate::lines::{Counts, print_step};
 use crate::tables::print_world;
 use crate::{Job, read_job};
@@ -18,16 +18,16 @@ use std::alloc::Global;
 use std::fs::Files;
 use std::io::{self, Write};
 
-/// How many events are run at a time.
-const AT_A_TIME: usize = 64;
+/// The number of events after which the progress of a run is reported.
+const EVENTS_PER_REPORT: usize = 64;
 
-/// Who is told how far a run is.
+/// A receiver of reports on the progress of a run.
 pub trait Progress {
-    /// So many of so many events are done.
+    /// Receives the number of events that are done, and the number of all events.
     fn reached(&mut self, done: usize, all: usize);
 }
 
-/// Nobody, where there is none.
+/// At None the reports are dropped.
 impl<P: Progress> Progress for Option<P> {
     fn reached(&mut self, done: usize, all: usize) {
         if let Some(progress) = self {
@@ -36,14 +36,14 @@ impl<P: Progress> Progress for Option<P> {
     }
 }
 
-/// Runs a script, both texts given, with a capture in the file at a path if one is. The answer is the exit status: 0, or 3
-/// where an event was refused.
+/// Runs a script with settings, both given as texts, and writes a capture to the file at a path, where there is one.
+/// Returns the exit status: 0, or 3 where an event was refused.
 ///
 /// # Errors
 ///
-/// Those of `read_job`, and then those of the capture's file: before these nothing is run. Those of `play`; but that the
-/// capture couldn't be written comes before them.
-pub fn run<R: Files + AllocGlobal, P: Progress, W: Write>(
+/// Those of [`read_job`], then those of opening the capture's file: nothing is run then. A failed write of the capture
+/// comes before the errors of [`run_sim_job`].
+pub fn run_sim<R: Files + AllocGlobal, P: Progress, W: Write>(
     rt: &R,
     settings: &str,
     script: &str,
@@ -52,19 +52,20 @@ pub fn run<R: Files + AllocGlobal, P: Progress, W: Write>(
     output: &mut W,
 ) -> Result<u8, Fault> {
     let job = read_job(rt.alloc(), settings, script)?;
-    let mut file = begin(rt, capture)?;
-    let status = play(rt.alloc(), &job, progress, &mut file, output);
-    end(rt.alloc(), capture, file)?;
+    let mut file = begin_capture(rt, capture)?;
+    let status = run_sim_job(rt.alloc(), &job, progress, &mut file, output);
+    end_capture(rt.alloc(), capture, file)?;
     status
 }
 
-/// Runs a job on a new world, and says how far it is before every few events. Then the whole run is captured, and after that
-/// its lines are printed. The answer is the exit status: 0, or 3 where an event was refused.
+/// Runs a job on a new world, and reports the progress before every 64 events. Writes the whole capture after the last
+/// event, and prints the lines of the run after the capture. Returns the exit status: 0, or 3 where an event was
+/// refused.
 ///
 /// # Errors
 ///
 /// `NotWritten` of the capture or the output, of which a beginning is written; `NoMemory`.
-pub fn play<P: Progress, C: Write + Drop, W: Write>(
+pub fn run_sim_job<P: Progress, C: Write + Drop, W: Write>(
     alloc: Global,
     job: &Job,
     progress: &mut P,
@@ -76,8 +77,7 @@ pub fn play<P: Progress, C: Write + Drop, W: Write>(
 {
     match World::founded(alloc, &job.settings) {
         Ok(mut world) => {
-            let events = job.events.as_slice();
-            let status = play_on(alloc, &mut world, events, progress, capture, output);
+            let status = run_on(&mut world, job, progress, capture, output);
             world.end();
             status
         }
@@ -85,17 +85,19 @@ pub fn play<P: Progress, C: Write + Drop, W: Write>(
     }
 }
 
-/// The same on a world.
-fn play_on<P: Progress, C: Write + Drop, W: Write>(
-    alloc: Global,
+/// Runs the events of a job on a world, as [`run_sim_job`] does on a new one.
+fn run_on<P: Progress, C: Write + Drop, W: Write>(
     world: &mut World<'_>,
-    events: &[WorldEvent],
+    job: &Job,
     progress: &mut P,
     capture: &mut Option<Capture<C>>,
     output: &mut W,
 ) -> Result<u8, Fault>
-    ensures { IfOk result (IsPlayed W.contents world.old events.now output.old output.new) }
+    ensures { IfOk result (IsPlayed W.contents world.old job.now.events.items
+        output.old output.new) }
 {
+    let alloc = *job.events.allocator();
+    let events = job.events.as_slice();
     let steps = steps_of(alloc, world, events, progress)?;
     let steps = steps.as_slice();
     if let Some(capture) = capture {
@@ -106,7 +108,7 @@ fn play_on<P: Progress, C: Write + Drop, W: Write>(
     Ok(status_of(has_refusal(steps)))
 }
 
-/// What the events do to a world, in order.
+/// Applies the events to a world, and returns their steps in order.
 fn steps_of<P: Progress>(
     alloc: Global,
     world: &mut World<'_>,
@@ -119,7 +121,7 @@ fn steps_of<P: Progress>(
     let mut rest = events;
     while !rest.is_empty() {
         progress.reached(steps.len(), events.len());
-        let (next, others) = rest.split_at(rest.len().min(AT_A_TIME));
+        let (next, others) = rest.split_at(rest.len().min(EVENTS_PER_REPORT));
         let more = world.run(next)?;
         append(&mut steps, more)?;
         rest = others;
@@ -127,6 +129,7 @@ fn steps_of<P: Progress>(
     Ok(steps)
 }
 
+/// Moves the steps of `more` to the end of `steps`.
 fn append(steps: &mut Vec<Step>, mut more: Vec<Step>) -> Result<(), NoMemory>
     ensures { OnOk result (steps.new.items ≡ steps.old.items ++ more.items) }
 {
@@ -134,7 +137,7 @@ fn append(steps: &mut Vec<Step>, mut more: Vec<Step>) -> Result<(), NoMemory>
     Ok(())
 }
 
-/// Captures events, each with its step, by the world to which they led.
+/// Writes the packets of all events to a capture. The world has taken all steps.
 fn capture_steps<C: Write>(
     capture: &mut Capture<C>,
     world: &World<'_>,
@@ -147,7 +150,7 @@ fn capture_steps<C: Write>(
     Ok(())
 }
 
-/// Prints what each event gave, in order.
+/// Prints the lines of all events in order.
 fn print_steps<W: Write>(output: &mut W, events: &[WorldEvent], steps: &[Step]) -> io::Result<()>
     ensures { Prints (W.contents output.old) result (W.contents output.new)
         (steps_lines no_counts events.now steps.now) }
@@ -164,13 +167,14 @@ fn print_steps<W: Write>(output: &mut W, events: &[WorldEvent], steps: &[Step]) 
     Ok(())
 }
 
-/// The exit status: 3 where an event was refused, else 0.
+/// Returns the exit status: 3 where an event was refused, else 0.
 pub(crate) fn status_of(is_refused: bool) -> u8
     ensures { result ≡ (if is_refused then 3 else 0) }
 {
     if is_refused { 3 } else { 0 }
 }
 
+/// Whether an event was refused.
 fn has_refusal(steps: &[Step]) -> bool
     ensures { result ≡ has_refusal steps.now }
 {

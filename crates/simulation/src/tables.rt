@@ -1,17 +1,17 @@
-//! Prints how both gateways stand at the end of a run.
+//! The lines of both gateways at the end of a run: state, ports owned and pairs held.
 ghost use Rattle.std.specs.Prelude.{◌≡◌, flat_map};
 ghost use Rattle.frame_sim.specs.World.{gateway_at};
 ghost use Rattle.simulation.specs.Lines.{begins, ended, follows, gateway_lines, held_line, owned_line, owned_lines, state_line, state_text, world_lines};
 ghost use Rattle.simulation.specs.Printed.{Prints};
 
-use crate::words::{PairText, id_text};
+use crate::texts::{PairText, id_text};
 use addresses::Port;
 use faults::Fault;
 use frame_sim::World;
 use nat_types::{GatewayId, Pair};
 use std::io::{self, Write};
 
-/// Prints of both gateways how they stand, the ports that they own and the pairs that they hold, and hands all of it on.
+/// Prints the state of both gateways, the ports that they own and the pairs that they hold, and flushes the output.
 ///
 /// # Errors
 ///
@@ -76,7 +76,7 @@ fn print_held_pair<W: Write>(output: &mut W, id: GatewayId, pair: &Pair) -> io::
     writeln!(output, "held {id} {pair}")
 }
 
-/// Prints the unbroken runs of rising ports, a line each.
+/// Prints a line for each range of consecutive ports.
 fn print_owned<W: Write>(output: &mut W, id: GatewayId, ports: &[Port]) -> io::Result<()>
     ensures { Prints (W.contents output.old) result (W.contents output.new)
         (owned_lines id ports.now) }
@@ -90,10 +90,10 @@ fn print_owned<W: Write>(output: &mut W, id: GatewayId, ports: &[Port]) -> io::R
         first = begins(first, last, *port);
         last = *port;
     }
-    print_run(output, id, first, last)
+    print_range(output, id, first, last)
 }
 
-/// Prints the run from `first` to `last` where it ends before this port.
+/// Prints the range from `first` to `last` where `port` isn't the next one of the range.
 fn print_ended<W: Write>(
     output: &mut W,
     id: GatewayId,
@@ -107,10 +107,10 @@ fn print_ended<W: Write>(
     if follows(last, port) {
         return Ok(());
     }
-    print_run(output, id, first, last)
+    print_range(output, id, first, last)
 }
 
-/// The first port of this one's run.
+/// Returns the first port of the range that `port` is in, where the last range is from `first` to `last`.
 fn begins(first: Port, last: Port, port: Port) -> Port
     ensures { result ≡ begins first last port }
 {
@@ -123,7 +123,7 @@ fn follows(last: Port, port: Port) -> bool
     u32::from(last.0) + 1 == u32::from(port.0)
 }
 
-fn print_run<W: Write>(output: &mut W, id: GatewayId, first: Port, last: Port) -> io::Result<()>
+fn print_range<W: Write>(output: &mut W, id: GatewayId, first: Port, last: Port) -> io::Result<()>
     ensures { Prints (W.contents output.old) result (W.contents output.new)
         (owned_line id first last) }
 {

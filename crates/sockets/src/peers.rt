@@ -1,36 +1,35 @@
-//! Whom a place speaks with, and how a datagram for it looks.
+//! The peer of a place, and the datagrams that it sends and is sent.
 ghost use Rattle.std.specs.Prelude.{◌≤◌, IfSome};
 
-use crate::vxlan::HEADER;
-use crate::{Arrived, End, LONGEST, Network};
+use crate::vxlan::HEADER_LENGTH;
+use crate::{Arrived, End, MAX_DATAGRAM, Network};
 use addresses::Ip;
 
 /// Who sent a datagram.
 #[derive(Clone, Copy, Debug, PartialEq, Eq)]
 pub enum Sender {
     End(End),
-    /// Whoever is on an interface's network.
+    /// Anyone on the network of an inherited descriptor's interface.
     Interface,
 }
 
-/// Whom a place speaks with. It accepts datagrams of nobody else.
+/// Whom a place sends to, and accepts datagrams from.
 #[derive(Clone, Copy, Debug, PartialEq, Eq)]
 pub enum Peer {
-    /// Exactly this address and port.
+    /// An address and port, by UDP.
     Udp(End),
-    /// This address, by VXLAN in this network. Its port may be any: a kernel sends each flow from a port of its
-    /// own.
+    /// An address with any port, by VXLAN in a network: a kernel sends each flow from a port of its own.
     Vxlan(Ip, Network),
-    /// Whoever is on an interface's network.
+    /// Anyone on the network of an inherited descriptor's interface.
     Interface,
 }
 
 impl Peer {
-    /// Accepts a datagram that arrived in the buffer if it is the peer's, and gives the length of what it carries,
-    /// which is then at the buffer's front. A stranger's gives `None`.
-    pub(crate) fn accept(self, arrived: Arrived, buffer: &mut [u8; LONGEST]) -> Option<usize>
-        requires { arrived.count ≤ LONGEST }
-        ensures { IfSome result (λ length. length ≤ LONGEST) }
+    /// Accepts a datagram that arrived in the buffer, if the peer sent it. Moves what the datagram carries to the buffer's
+    /// front, and returns how many bytes that has; `None` for a stranger's datagram.
+    pub(crate) fn accept(self, arrived: Arrived, buffer: &mut [u8; MAX_DATAGRAM]) -> Option<usize>
+        requires { arrived.count ≤ MAX_DATAGRAM }
+        ensures { IfSome result (λ length. length ≤ MAX_DATAGRAM) }
     {
         let Arrived { count, sender } = arrived;
         match self {
@@ -38,8 +37,8 @@ impl Peer {
             Peer::Interface if sender == Sender::Interface => Some(count),
             Peer::Vxlan(address, network) => match sender {
                 Sender::End(found) if found.address == address && network.has(&buffer[..count]) => {
-                    buffer.copy_within(HEADER..count, 0);
-                    Some(count - HEADER)
+                    buffer.copy_within(HEADER_LENGTH..count, 0);
+                    Some(count - HEADER_LENGTH)
                 }
                 _ => None,
             },
@@ -47,19 +46,19 @@ impl Peer {
         }
     }
 
-    /// Writes the datagram that carries these bytes into the buffer, and gives its length; `None` where it is too
-    /// long.
-    pub(crate) fn encapsulate(self, bytes: &[u8], buffer: &mut [u8; LONGEST]) -> Option<usize>
-        ensures { IfSome result (λ length. length ≤ LONGEST) }
+    /// Writes the datagram that carries these bytes into the buffer, and returns its length; `None` where that is too long
+    /// for the buffer.
+    pub(crate) fn encapsulate(self, bytes: &[u8], buffer: &mut [u8; MAX_DATAGRAM]) -> Option<usize>
+        ensures { IfSome result (λ length. length ≤ MAX_DATAGRAM) }
     {
         let start = match self {
             Peer::Vxlan(_, network) => {
-                buffer[..HEADER].copy_from_slice(&network.header());
-                HEADER
+                buffer[..HEADER_LENGTH].copy_from_slice(&network.header());
+                HEADER_LENGTH
             }
             Peer::Udp(_) | Peer::Interface => 0,
         };
-        if bytes.len() > LONGEST - start {
+        if bytes.len() > MAX_DATAGRAM - start {
             return None;
         }
         buffer[start..start + bytes.len()].copy_from_slice(bytes);

@@ -1,27 +1,28 @@
-//! A place of a box over what carries its datagrams.
+//! A place of a box, over the transport of its datagrams.
 ghost use Rattle.std.specs.Prelude.{◌≤◌, IfOk, IfSome};
 
-use crate::{LONGEST, Losses, Peer, SendFault, Transport, WireFault};
+use crate::{Losses, MAX_DATAGRAM, Peer, SendFault, Transport, WireFault};
 
-/// How many datagrams of strangers one call passes over at most, so that a flood of them keeps no other place
-/// waiting.
-const MOST_STRANGERS: usize = 64;
+/// How many datagrams of strangers one `receive` skips at most, so that a flood of them keeps no other place waiting.
+const MAX_STRANGERS_PER_RECEIVE: usize = 64;
 
-/// A place of a box. Of all that arrives there it accepts what its peer sent.
+/// A place of a box. Of the datagrams that arrive there, only those of the place's peer are received.
 #[derive(Drop)]
 pub struct PlaceSocket<C> {
     transport: C,
     peer: Peer,
     strangers: u64,
+    /// Whether the last send or receive failed. A receive that found nothing, or only datagrams of strangers, doesn't count.
     is_failing: bool,
     losses: Losses,
-    /// Something may have arrived since the last look.
+    /// Whether something may have arrived since the transport had nothing.
     is_ready: bool,
-    /// The datagram that is sent next, as it is sent.
-    buffer: [u8; LONGEST],
+    /// The datagram that is being sent, with its header.
+    buffer: [u8; MAX_DATAGRAM],
 }
 
 impl<C: Transport> PlaceSocket<C> {
+    /// Returns a place where something may have arrived already.
     pub fn new(transport: C, peer: Peer) -> PlaceSocket<C> {
         PlaceSocket {
             transport,
@@ -33,35 +34,36 @@ impl<C: Transport> PlaceSocket<C> {
                 failed: 0,
             },
             is_ready: true,
-            buffer: [0; LONGEST],
+            buffer: [0; MAX_DATAGRAM],
         }
     }
 
+    /// Returns the transport.
     pub fn transport(&self) -> &C {
         &self.transport
     }
 
-    /// A poll has reported the transport.
+    /// Says that a poll has reported the transport.
     pub fn wake(&mut self) {
         self.is_ready = true;
     }
 
-    /// Whether something may have arrived, as far as is known.
+    /// Whether something may have arrived that isn't received yet.
     pub fn is_ready(&self) -> bool {
         self.is_ready
     }
 
-    /// How many datagrams of strangers arrived.
+    /// Returns how many datagrams of strangers arrived.
     pub fn strangers(&self) -> u64 {
         self.strangers
     }
 
-    /// Whether the last datagram couldn't be sent, or to receive one failed.
+    /// Whether the last send or receive failed. A receive that found nothing, or only datagrams of strangers, doesn't count.
     pub fn is_failing(&self) -> bool {
         self.is_failing
     }
 
-    /// How many datagrams weren't sent.
+    /// Returns how many datagrams couldn't be sent.
     pub fn losses(&self) -> Losses {
         self.losses
     }
@@ -70,10 +72,10 @@ impl<C: Transport> PlaceSocket<C> {
     ///
     /// # Errors
     ///
-    /// Where they weren't sent. They are lost then, and counted.
+    /// Where the bytes weren't sent. They are lost then, and counted.
     pub fn send(&mut self, bytes: &[u8]) -> Result<(), SendFault> {
         let sent = match self.peer.encapsulate(bytes, &mut self.buffer) {
-            Some(count) => self.transport.send(&self.buffer, count),
+            Some(count) => self.transport.send(&self.buffer[..count]),
             None => Err(SendFault::TooLong),
         };
         self.is_failing = sent.is_err();
@@ -81,16 +83,17 @@ impl<C: Transport> PlaceSocket<C> {
         sent
     }
 
-    /// The peer's next datagram: so many bytes at the front of the buffer. After a transport had nothing, or failed
-    /// twice, it isn't asked again before a poll reports it, so that what always fails doesn't keep the box busy.
+    /// Receives the peer's next datagram into the front of the buffer, and returns how many bytes it has. After the
+    /// transport had nothing, or failed twice in a row, nothing more is received before a poll reports the transport: so a
+    /// transport that always fails doesn't keep the box busy.
     ///
     /// # Errors
     ///
-    /// Where to receive failed. Nothing was received then.
-    pub fn receive(&mut self, buffer: &mut [u8; LONGEST]) -> Result<Option<usize>, WireFault>
-        ensures { IfOk result (λ found. IfSome found (λ count. count ≤ LONGEST)) }
+    /// Where the transport failed. Nothing was received then.
+    pub fn receive(&mut self, buffer: &mut [u8; MAX_DATAGRAM]) -> Result<Option<usize>, WireFault>
+        ensures { IfOk result (λ found. IfSome found (λ count. count ≤ MAX_DATAGRAM)) }
     {
-        for _ in 0..MOST_STRANGERS {
+        for _ in 0..MAX_STRANGERS_PER_RECEIVE {
             if !self.is_ready {
                 return Ok(None);
             }

@@ -3,7 +3,7 @@ ghost use Rattle.std.specs.Prelude.{◌≤◌, IfOk, IfSome};
 ghost use Rattle.sockets.specs.Wires.{AnyWay};
 
 use crate::transports::Socket;
-use crate::{LONGEST, Losses, Place, PlaceSocket, SendFault, Ways, Wire, WireFault};
+use crate::{Losses, MAX_DATAGRAM, Place, PlaceSocket, SendFault, Ways, Wire, WireFault};
 use control::Control;
 use mio::{Events, Poll, Token};
 use nat_types::{GatewayId, Side};
@@ -14,16 +14,20 @@ use std::net::Net;
 use std::time::Duration;
 use thiserror::Error;
 
-const LINK: Token = Token(0);
+const LINK_TOKEN: Token = Token(0);
 
-const INSIDE: Token = Token(1);
+const INSIDE_TOKEN: Token = Token(1);
 
-const OUTSIDE: Token = Token(2);
-/// The token of the control socket and of its clients.
-pub const CONTROL: Token = Token(3);
+const OUTSIDE_TOKEN: Token = Token(2);
+
+/// The token under which a poll reports the control socket and its clients.
+pub const CONTROL_TOKEN: Token = Token(3);
+
+/// How many places there are: the link, both sides, and the operator's.
+const PLACES: u8 = 4;
 
 /// How many events one poll reports at most.
-const EVENTS: usize = 8;
+const MAX_EVENTS: usize = 8;
 
 /// Why a box has no sockets.
 #[derive(Clone, Copy, Debug, PartialEq, Eq, Error)]
@@ -47,22 +51,22 @@ impl From<io::Error> for SocketFault {
     }
 }
 
-/// The ports of a box on the loopback address: of each place its own one, and the one that it sends to.
+/// The ports of a box's places on the loopback address: of each the own port, and the one that it sends to.
 #[derive(Clone, Copy, Debug, PartialEq, Eq)]
-pub struct Ports {
+pub struct LoopbackPorts {
     pub link: (u16, u16),
     pub inside: (u16, u16),
     pub outside: (u16, u16),
 }
 
-impl Ports {
-    /// The ports that settings give a box.
-    pub fn of(settings: &Settings, id: GatewayId) -> Ports {
+impl LoopbackPorts {
+    /// Returns the ports of a box in the settings.
+    pub fn of(settings: &Settings, id: GatewayId) -> LoopbackPorts {
         let (own, other) = match id {
             GatewayId::Zero => (&settings.zero, &settings.one),
             GatewayId::One => (&settings.one, &settings.zero),
         };
-        Ports {
+        LoopbackPorts {
             link: (own.link, other.link),
             inside: (own.inside_port, settings.inside.wire),
             outside: (own.outside_port, settings.outside.wire),
@@ -79,13 +83,13 @@ pub struct Sockets {
     inside: PlaceSocket<Socket>,
     outside: PlaceSocket<Socket>,
     control: Control,
-    /// The place that is looked at first, so that none is passed over for long.
+    /// The place that is tried first, so that each place has its turn.
     next: Place,
 }
 
 impl Sockets {
-    /// Opens the sockets of these ways, and has the control socket polled with them. The descriptors of the ways
-    /// were inherited before ([`Ways::inherit`]).
+    /// Opens the sockets of these ways, and polls the control socket together with them. The caller has called
+    /// [`Ways::check_descriptors`] before.
     ///
     /// # Errors
     ///
@@ -93,15 +97,15 @@ impl Sockets {
     pub fn open<R: Net + AllocGlobal>(
         rt: &R,
         ways: &Ways,
-        ports: Ports,
+        ports: LoopbackPorts,
         mut control: Control,
     ) -> Result<Sockets, SocketFault> {
         let poll = Poll::new(rt)?;
         let registry = poll.registry();
-        let link = Socket::open(rt, registry, LINK, ways.link, ports.link)?;
-        let inside = Socket::open(rt, registry, INSIDE, ways.inside, ports.inside)?;
-        let outside = Socket::open(rt, registry, OUTSIDE, ways.outside, ports.outside)?;
-        let events = Events::with_capacity(rt.alloc(), EVENTS)?;
+        let link = Socket::open(rt, registry, LINK_TOKEN, ways.link, ports.link)?;
+        let inside = Socket::open(rt, registry, INSIDE_TOKEN, ways.inside, ports.inside)?;
+        let outside = Socket::open(rt, registry, OUTSIDE_TOKEN, ways.outside, ports.outside)?;
+        let events = Events::with_capacity(rt.alloc(), MAX_EVENTS)?;
         control.register(registry)?;
         Ok(Sockets {
             link: PlaceSocket::new(link, ways.link.peer(ports.link)),
@@ -114,7 +118,7 @@ impl Sockets {
         })
     }
 
-    /// How many datagrams of strangers came to a place; of the operator's place, how many clients were refused.
+    /// Returns how many datagrams of strangers arrived at a place; of the operator's place, how many clients were refused.
     pub fn strangers(&self, place: Place) -> u64 {
         match self.place_socket(place) {
             Some(place_socket) => place_socket.strangers(),
@@ -122,6 +126,7 @@ impl Sockets {
         }
     }
 
+    /// Returns the socket of a place, which the operator's place doesn't have.
     fn place_socket(&self, place: Place) -> Option<&PlaceSocket<Socket>> {
         match place {
             Place::Link => Some(&self.link),
@@ -131,13 +136,13 @@ impl Sockets {
         }
     }
 
-    /// The next datagram that is there, of the place that is looked at first or of one behind it.
-    fn take(&mut self, buffer: &mut [u8; LONGEST]) -> Result<Option<(Place, usize)>, WireFault>
-        ensures { IfOk result (λ found. IfSome found (λ one. one.1 ≤ LONGEST)) }
+    /// Receives the next datagram or word that has arrived, trying each place once.
+    fn take(&mut self, buffer: &mut [u8; MAX_DATAGRAM]) -> Result<Option<(Place, usize)>, WireFault>
+        ensures { IfOk result (λ found. IfSome found (λ one. one.1 ≤ MAX_DATAGRAM)) }
     {
-        for _ in 0..4_u8 {
+        for _ in 0..PLACES {
             let place = self.next;
-            self.next = after(place);
+            self.next = place_after(place);
             let found = match place {
                 Place::Link => self.link.receive(buffer)?,
                 Place::Side(Side::Inside) => self.inside.receive(buffer)?,
@@ -151,22 +156,24 @@ impl Sockets {
         Ok(None)
     }
 
-    /// Waits until a place has something, or the limit has passed.
+    /// Polls until a place has something, or the limit has passed, and wakes each place that the poll reports.
     fn wait(&mut self, limit: Duration) -> Result<(), WireFault> {
         if self.poll.poll(&mut self.events, Some(limit)).is_err() {
             return Err(WireFault);
         }
         for event in &self.events {
             match event.token() {
-                LINK => self.link.wake(),
-                INSIDE => self.inside.wake(),
-                OUTSIDE => self.outside.wake(),
+                LINK_TOKEN => self.link.wake(),
+                INSIDE_TOKEN => self.inside.wake(),
+                OUTSIDE_TOKEN => self.outside.wake(),
                 _ => self.control.wake(),
             }
         }
+        self.control.retry();
         Ok(())
     }
 
+    /// Whether any place may have something.
     fn is_any_ready(&self) -> bool {
         self.link.is_ready()
             || self.inside.is_ready()
@@ -181,16 +188,18 @@ impl Wire for Sockets {
     fn receive(
         &mut self,
         limit: Duration,
-        buffer: &mut [u8; LONGEST],
+        buffer: &mut [u8; MAX_DATAGRAM],
     ) -> Result<Option<(Place, usize)>, WireFault> {
-        // A place that had nothing isn't asked again before a poll reports it: without this look a flood at one
-        // place would hide the others for as long as it lasts.
+        // 1. Where there is time and something is ready, poll without waiting. Else a flood at one place would hide the
+        //    others, which are tried again only after a poll reports them.
         if !limit.is_zero() && self.is_any_ready() {
             self.wait(Duration::ZERO)?;
         }
+        // 2. Take what has arrived.
         if let Some(found) = self.take(buffer)? {
             return Ok(Some(found));
         }
+        // 3. Wait, unless a place may have more, and take what has arrived then.
         let limit = if self.is_any_ready() {
             Duration::ZERO
         } else {
@@ -232,8 +241,8 @@ impl Wire for Sockets {
     }
 }
 
-/// The place that is looked at next.
-fn after(place: Place) -> Place {
+/// Returns the place that is tried after this one.
+fn place_after(place: Place) -> Place {
     match place {
         Place::Link => Place::Side(Side::Inside),
         Place::Side(Side::Inside) => Place::Side(Side::Outside),

@@ -1,7 +1,7 @@
-//! What carries the datagrams of a place: a socket, or a descriptor that was inherited.
+//! The transports of a place's datagrams: a UDP socket, or an inherited descriptor.
 ghost use Rattle.std.specs.Prelude.{◌≤◌, IfOk, IfSome};
 
-use crate::{End, Ends, LONGEST, SendFault, Sender, Way, WireFault};
+use crate::{End, Ends, MAX_DATAGRAM, SendFault, Sender, Way, WireFault};
 use mio::net::UdpSocket;
 use mio::unix::SourceFd;
 use mio::{Interest, Registry, Token};
@@ -10,10 +10,10 @@ use std::io::{self, ErrorKind, Read, Write};
 use std::net::{Net, SocketAddr};
 use std::os::fd::AsRawFd;
 
-/// The error of a datagram that is longer than its interface takes (`EMSGSIZE` of Linux).
+/// The error number of a datagram that is longer than its interface takes, in Linux.
 const EMSGSIZE: i32 = 90;
 
-/// A datagram that arrived: how many bytes of the receiver's buffer it has, and who sent it.
+/// A datagram that arrived: how many bytes it has in the receiver's buffer, and who sent it.
 #[derive(Clone, Copy, Debug, PartialEq, Eq)]
 pub struct Arrived {
     pub count: usize,
@@ -22,37 +22,36 @@ pub struct Arrived {
 
 /// What carries the datagrams of a place. No call waits.
 pub trait Transport {
-    /// Sends the first bytes of the buffer, so many, as one datagram.
+    /// Sends one datagram.
     ///
     /// # Errors
     ///
-    /// Where it wasn't sent. It is lost then.
-    fn send(&mut self, buffer: &[u8; LONGEST], count: usize) -> Result<(), SendFault>
-        requires { count ≤ LONGEST };
+    /// Where the datagram wasn't sent. It is lost then.
+    fn send(&mut self, datagram: &[u8]) -> Result<(), SendFault>;
 
-    /// Receives the next datagram, if one is there.
+    /// Receives the next datagram into the buffer, if one has arrived.
     ///
     /// # Errors
     ///
-    /// Where to receive failed. Nothing arrived then.
-    fn receive(&mut self, buffer: &mut [u8; LONGEST]) -> Result<Option<Arrived>, WireFault>
-        ensures { IfOk result (λ found. IfSome found (λ one. one.count ≤ LONGEST)) };
+    /// Where receiving failed. Nothing is received then.
+    fn receive(&mut self, buffer: &mut [u8; MAX_DATAGRAM]) -> Result<Option<Arrived>, WireFault>
+        ensures { IfOk result (λ found. IfSome found (λ one. one.count ≤ MAX_DATAGRAM)) };
 }
 
-/// The socket or descriptor by which a place is reached.
+/// The socket or descriptor of a place.
 #[derive(Drop)]
 pub(crate) enum Socket {
-    /// It receives from one address and sends there. What others send takes no buffer in it.
+    /// A socket that is connected to the peer: the kernel drops what others send.
     Connected(UdpSocket),
-    /// It receives from anybody, and sends to this address: a kernel sends each flow of VXLAN from a port of its
+    /// A socket that receives from anyone, and sends to this address: a kernel sends each flow of VXLAN from a port of its
     /// own.
     Open(UdpSocket, SocketAddr),
     Inherited(Inherited),
 }
 
 impl Socket {
-    /// Opens what a way needs, and has a poll report it under a token. On the loopback address the place has these
-    /// ports: its own one, and the other.
+    /// Opens the socket or descriptor of a way, and registers it with a poll under a token. The ports are those of
+    /// `Way::Loopback`: the own one, and the other.
     ///
     /// # Errors
     ///
@@ -77,12 +76,14 @@ impl Socket {
         Ok(socket)
     }
 
+    /// Binds a socket to its own end, and connects it to the other.
     fn connect<R: Net>(rt: &R, ends: Ends) -> io::Result<Socket> {
         let socket = UdpSocket::bind(rt, SocketAddr::from(ends.own))?;
         socket.connect(SocketAddr::from(ends.other))?;
         Ok(Socket::Connected(socket))
     }
 
+    /// Registers the socket or descriptor with a poll.
     fn register(&mut self, registry: &Registry, token: Token) -> io::Result<()> {
         let readable = Interest::READABLE;
         match self {
@@ -94,8 +95,8 @@ impl Socket {
         }
     }
 
-    /// Where a connected socket says that an earlier datagram found nobody, this one is sent after that: else the
-    /// first one after the peer's return would be lost.
+    /// Writes a datagram. A connected socket may first report that an earlier datagram found nobody; the datagram is then
+    /// sent again, so that the first one after the peer's return isn't lost.
     fn write(&mut self, bytes: &[u8]) -> io::Result<usize> {
         match self {
             Socket::Connected(socket) => match socket.send(bytes) {
@@ -107,10 +108,10 @@ impl Socket {
         }
     }
 
-    /// Here, too, a connected socket may say first that an earlier datagram found nobody. A descriptor that gives
-    /// no bytes is closed at its other end.
-    fn read(&mut self, buffer: &mut [u8; LONGEST]) -> io::Result<Arrived>
-        ensures { IfOk result (λ one. one.count ≤ LONGEST) }
+    /// Reads a datagram. Here, too, a connected socket may first report that an earlier datagram found nobody. A descriptor
+    /// that gives no bytes is closed at its other end.
+    fn read(&mut self, buffer: &mut [u8; MAX_DATAGRAM]) -> io::Result<Arrived>
+        ensures { IfOk result (λ one. one.count ≤ MAX_DATAGRAM) }
     {
         match self {
             Socket::Connected(socket) => match receive_from(socket, buffer) {
@@ -132,9 +133,9 @@ impl Socket {
 }
 
 impl Transport for Socket {
-    fn send(&mut self, buffer: &[u8; LONGEST], count: usize) -> Result<(), SendFault> {
-        match self.write(&buffer[..count]) {
-            Ok(sent) if sent == count => Ok(()),
+    fn send(&mut self, datagram: &[u8]) -> Result<(), SendFault> {
+        match self.write(datagram) {
+            Ok(sent) if sent == datagram.len() => Ok(()),
             Ok(_) => Err(SendFault::Failed),
             Err(error) => match error.raw_os_error() {
                 Some(EMSGSIZE) => Err(SendFault::TooLong),
@@ -143,7 +144,7 @@ impl Transport for Socket {
         }
     }
 
-    fn receive(&mut self, buffer: &mut [u8; LONGEST]) -> Result<Option<Arrived>, WireFault> {
+    fn receive(&mut self, buffer: &mut [u8; MAX_DATAGRAM]) -> Result<Option<Arrived>, WireFault> {
         match self.read(buffer) {
             Ok(arrived) => Ok(Some(arrived)),
             Err(error) if error.kind() == ErrorKind::WouldBlock => Ok(None),
@@ -152,8 +153,9 @@ impl Transport for Socket {
     }
 }
 
-fn receive_from(socket: &mut UdpSocket, buffer: &mut [u8; LONGEST]) -> io::Result<Arrived>
-    ensures { IfOk result (λ one. one.count ≤ LONGEST) }
+/// Receives a datagram by a socket, with its sender.
+fn receive_from(socket: &mut UdpSocket, buffer: &mut [u8; MAX_DATAGRAM]) -> io::Result<Arrived>
+    ensures { IfOk result (λ one. one.count ≤ MAX_DATAGRAM) }
 {
     match socket.recv_from(buffer)? {
         (count, SocketAddr::V4(from)) => Ok(Arrived {

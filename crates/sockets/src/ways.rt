@@ -1,27 +1,27 @@
-//! By what way each place of a box is reached.
+//! The way by which each place of a box is reached.
 
-use crate::{End, Ends, Network, Peer, Ports};
+use crate::{End, Ends, LoopbackPorts, Network, Peer};
 use mio::net::UdpSocket;
 use platform::Inherited;
 use std::net::{Net, SocketAddr};
 use thiserror::Error;
 
-/// By what way a place is reached.
+/// The way by which a place is reached.
 #[derive(Clone, Copy, Debug, PartialEq, Eq)]
 pub enum Way {
-    /// UDP between two ports of the loopback address, which the settings give.
+    /// UDP between two ports of the loopback address, which are in the settings.
     Loopback,
     /// UDP between two ends, each frame a datagram.
     Udp(Ends),
     /// UDP between two ends, each frame behind a header of VXLAN with this network.
     Vxlan(Ends, Network),
-    /// An open descriptor that was inherited, each frame a read or a write.
+    /// An inherited descriptor, each frame a read or a write.
     Descriptor(u16),
 }
 
 impl Way {
-    /// Reads `loopback`, `udp:OWN,OTHER`, `vxlan:OWN,OTHER,NETWORK` or `descriptor:N`, where an end is as
-    /// `10.1.0.1:7000`, and N isn't one of the three standard descriptors.
+    /// Reads `loopback`, `udp:OWN,OTHER`, `vxlan:OWN,OTHER,NETWORK` or `descriptor:N`. An end is as `10.1.0.1:7000`, and N is
+    /// above 2. Returns `None` where the text is none of these.
     pub fn read(text: &str) -> Option<Way> {
         if text == "loopback" {
             return Some(Way::Loopback);
@@ -40,7 +40,7 @@ impl Way {
         }
     }
 
-    /// Whom a place speaks with by it. On the loopback address that is the second of these ports.
+    /// Returns the peer that is reached by the way. The ports are those of `Way::Loopback`: the own one, and the other.
     pub fn peer(self, ports: (u16, u16)) -> Peer {
         match self {
             Way::Loopback => Peer::Udp(Ends::on_loopback(ports).other),
@@ -51,7 +51,7 @@ impl Way {
     }
 }
 
-/// The ways of a box.
+/// The ways of a box's three places.
 #[derive(Clone, Copy, Debug, PartialEq, Eq)]
 pub struct Ways {
     pub inside: Way,
@@ -65,13 +65,13 @@ pub struct Ways {
 pub struct NoDescriptor(pub u16);
 
 impl Ways {
-    /// Makes the descriptors of the ways non-blocking. It comes before anything is opened: else what the box opens
-    /// itself could be taken for a descriptor that it inherited.
+    /// Checks that the descriptors of the ways are open, and makes them non-blocking. To be called before the box opens
+    /// anything: else a descriptor of its own could be taken for an inherited one.
     ///
     /// # Errors
     ///
-    /// The first that isn't open, of the inside, the outside and the link.
-    pub fn inherit(&self) -> Result<(), NoDescriptor> {
+    /// The first descriptor that isn't open, of the inside, the outside and the link.
+    pub fn check_descriptors(&self) -> Result<(), NoDescriptor> {
         for way in [self.inside, self.outside, self.link] {
             if let Way::Descriptor(number) = way {
                 if Inherited::open(number).is_err() {
@@ -83,8 +83,8 @@ impl Ways {
     }
 }
 
-/// The first of a box's own ends at which no socket can be bound, of the link, the inside and the outside.
-pub fn first_unbound<R: Net>(rt: &R, ways: &Ways, ports: Ports) -> Option<End> {
+/// Returns the first of a box's own ends at which no socket can be bound, of the link, the inside and the outside.
+pub fn first_unbound<R: Net>(rt: &R, ways: &Ways, ports: LoopbackPorts) -> Option<End> {
     let places = [
         (ways.link, ports.link),
         (ways.inside, ports.inside),

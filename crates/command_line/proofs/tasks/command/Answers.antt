@@ -20,7 +20,7 @@ of_task words entered (Err NoMemory) same takes err = tt
 pub returns-in-Ok-clause-err : goal.returns-in-Ok-clause-err
 returns-in-Ok-clause-err c =
     of_task (map string_bytes c.args.words.now) (subcommand_rows_of c.in-Ok.matches) _ c.in-Ok.ensures.values c.in-Ok.ensures.taken
-    c.of_matches.ensures.err
+    c.entered_task.ensures.err
 
 -- a fault of reading that isn't the version is one of the line
 of_reading : (words : List Text) (f : LineFault) → RefusesWords words f → ((e : Error) → f ≡ Refused e → kind_of e ≢ DisplayVersion) → Refuses words f

@@ -62,7 +62,7 @@ among : (kinds : Kinds) (e : Error) → HasKind kinds e → (kind_of e ≡ kind.
 among kinds e (inl memory) others = absurd (others memory)
 among kinds e (inr is) others = is
 
--- of one kind there is just that
+-- of one kind there is only that one
 alone : (k : ErrorKind) (kinds : Kinds) → kinds ≡ kind.DisplayVersion ∷ [] → IsAmong k kinds → k ≡ kind.DisplayVersion
 alone k kinds is h = go (subst (IsAmong k) is h)
   where

@@ -29,4 +29,4 @@ pub returns : goal.returns
 returns g c =
     let l = c.loop-port in
     let over = ap (owned_from c.args.id l.first l.last) (drop_all c.loop-port.port-index _ c.loop-port-test.false) in
-    part_rest c.print_run.result _ _ _ _ _ (rw over at l.invariant) c.print_run.ensures
+    part_rest c.print_range.result _ _ _ _ _ (rw over at l.invariant) c.print_range.ensures

@@ -1,0 +1,74 @@
+//! The warnings of settings, and their texts.
+
+use settings_file::Key;
+
+/// The kind of a warning: a value that is likely a mistake, though a pair can run with it.
+#[derive(Clone, Copy)]
+pub enum WarningKind {
+    /// The range has one port.
+    OnePort,
+    /// The network has addresses that no host has.
+    Martian,
+    /// Both sides have this virtual router's number.
+    SameNumber,
+    /// The address is that of the network itself.
+    NetworkAddress,
+    /// The box has this MAC on its other side too.
+    SameMac,
+    /// The interval is as short as a round of a box.
+    ShortInterval,
+    /// The path is empty.
+    EmptyPath,
+    /// The path of the control socket beside the boot file is too long.
+    LongPath,
+    /// Both boxes have this priority.
+    SamePriority,
+    /// The boxes advertise at different intervals.
+    OtherInterval,
+    /// One box alone takes over from one of lower priority.
+    OtherPreempt,
+    /// Both boxes have this path.
+    SamePath,
+    /// The neighbour is in the list before.
+    Twice,
+    /// Another key before it has this loopback port.
+    SamePort,
+}
+
+impl WarningKind {
+    /// Returns the text for the user.
+    pub fn as_str(self) -> &'static str {
+        match self {
+            WarningKind::OnePort => "the range has one port, for one UDP and one TCP pair",
+            WarningKind::Martian =>
+                "in 0/8, 127/8, 224/4 and 240/4 no host has an address; nothing is translated",
+            WarningKind::SameNumber =>
+                "as on the inside: right only where the two networks are apart",
+            WarningKind::NetworkAddress => "this is the address of the network itself",
+            WarningKind::SameMac =>
+                "as on the inside: a switch of both networks would learn it now here, now there",
+            WarningKind::ShortInterval =>
+                "a box looks only each centisecond: an advertisement that is late moves a side",
+            WarningKind::EmptyPath => "the path is empty",
+            WarningKind::LongPath =>
+                "over 92 bytes: the control socket beside it has no room, and gate doesn't start",
+            WarningKind::SamePriority =>
+                "as the other box's: the one with the greater address is Active",
+            WarningKind::OtherInterval =>
+                "not the other box's: each notices the other's end by its own measure",
+            WarningKind::OtherPreempt =>
+                "not the other box's: which box is Active depends on which began first",
+            WarningKind::SamePath => "as the other box's: right only on two machines",
+            WarningKind::Twice => "this neighbour stands there before; the first counts",
+            WarningKind::SamePort =>
+                "another key has this port: loop refuses it, and gate with both on loopback",
+        }
+    }
+}
+
+/// A warning at a key of settings.
+#[derive(Clone, Copy)]
+pub struct Warning {
+    pub key: Key,
+    pub kind: WarningKind,
+}

@@ -1,7 +1,0 @@
-use Rattle.settings_file.proofs.Agree.{found_first, told_cant}
-use Rattle.settings_file.proofs.reading.settings_of.Goals as goal
-
-pub returns-in-Some-clause-err : goal.returns-in-Some-clause-err
-returns-in-Some-clause-err c =
-    let settings = c.in_ok-settings.ensures in
-    told_cant _ c.in_ok-settings.settings _ settings.free settings.values (found_first _ _ _ _ c.in_ok-keys.ensures c.as_slice.ensures.value c.in-Some.ensures)
