@@ -1,5 +1,7 @@
-"""A planned stop of a box: it resigns, the other takes over, and each packet that established flows lose is counted."""
+"""A planned stop of a box, by `natpair stop` and by SIGTERM: it resigns, the other takes over, and each packet that
+established flows lose is counted."""
 
+import signal
 import time
 from typing import NamedTuple
 
@@ -97,22 +99,26 @@ class Traffic:
         return row
 
 
-def stop(current, number):
+def stop(current, number, by_signal):
     """Tells a box to end: the moment, and whether it says that it ends, with status 0."""
     box, moment = current.boxes[number], time.monotonic()
-    box.stop()
-    current.say(f"box {number} is told to stop")
+    if by_signal:
+        box.gate.send_signal(signal.SIGTERM)
+    else:
+        box.stop()
+    current.say(f"box {number} is told to stop{' by SIGTERM' if by_signal else ''}")
     return moment, lambda: box.gate.poll() == 0 and box.output.read_text().endswith("end\n")
 
 
 def turns(current, traffic):
-    """Box 0, which is Active, is stopped and comes back; then box 1, which isn't, does."""
+    """Box 0, which is Active, is stopped and comes back, by the command and by a signal; then box 1, which isn't, does."""
     rows, ended = [], []
-    for number, what in ((0, "the Active box"), (1, "the Backup")):
+    for number, what, by_signal in ((0, "the Active box", False), (0, "the Active box", True), (1, "the Backup", False)):
         traffic.go_on(2 * BEFORE)
-        moment, has_ended = stop(current, number)
+        moment, has_ended = stop(current, number, by_signal)
         owed = current.networks.skew(1) if number == 0 else 0
-        rows.append(traffic.seen(f"{what}, box {number}, is stopped", moment, owed, 1 - number))
+        how = " by SIGTERM" if by_signal else ""
+        rows.append(traffic.seen(f"{what}, box {number}, is stopped{how}", moment, owed, 1 - number))
         ended.append(has_ended())
         moment = time.monotonic()
         current.bring_back(number)

@@ -117,7 +117,7 @@ def on_the_pair(options, report):
     with scene(options, options.capture) as current:
         at_box(current, 0, report, (0, 1))
         bench, pings = Wired(1, current), Pings(current)
-        killed = ended(bench, report, "9568 6.4 stop c", "SIGTERM", lambda: current.kill(0, signal.SIGTERM))
+        killed = current.kill(0)
         current.tell_takeover(1, killed)
         moment = current.observer.took_over(1, killed) or math.inf
         taken_over(bench, report, moment - killed, current.networks.down_interval(1))
@@ -130,7 +130,8 @@ def on_the_pair(options, report):
 
 
 def on_a_narrow_pair(options, report):
-    """What the programs of everybody see of boxes whose outside takes 1,400 bytes: of box 0, and after its kill of box 1."""
+    """What the programs of everybody see of boxes whose outside takes 1,400 bytes: of box 0, and after its kill of box 1,
+    which a signal ends at last."""
     capture = options.capture and options.capture / "narrow"
     with settings_with(SHORT_OUTSIDE) as file, scene(options, capture, settings=file) as current:
         at_a_narrow_side(current, Wired(0, current), report)
@@ -139,8 +140,10 @@ def on_a_narrow_pair(options, report):
         # The word is refused within 3 s of the other's last datagram, and a takeover may take less than that.
         time.sleep(max(0.0, killed + 3.5 - time.monotonic()))
         current.boxes[1].peer_off(current.boxes[0].boot)
-        at_a_narrow_side(current, Wired(1, current), report)
+        bench = Wired(1, current)
+        at_a_narrow_side(current, bench, report)
         current.tell_drops()
+        ended(bench, report, "9568 6.4 stop c", "SIGTERM", lambda: current.kill(1, signal.SIGTERM))
 
 
 def order_of(page, name):

@@ -83,9 +83,10 @@ with_log a =
     with_rule (with_rule (with_rule (with_rule a (flag_rule (codes "no-track"))) (text_rule (codes "log"))) (flag_rule (codes "log-pairs")))
     (flag_rule (codes "log-mappings"))
 
--- `[--capture FILE] [--notify descriptor:N]`
+-- `[--capture FILE] [--notify descriptor:N] [--stop-on descriptor:N]`
 abbrev pub with_watch : App → App
-with_watch a = with_rule (with_rule a (text_rule (codes "capture"))) (text_rule (codes "notify"))
+with_watch a =
+    with_rule (with_rule (with_rule a (text_rule (codes "capture"))) (text_rule (codes "notify"))) (text_rule (codes "stop-on"))
 
 -- `gate SETTINGS --id I`, and all of these
 abbrev pub gate_app : App

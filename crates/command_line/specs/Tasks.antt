@@ -59,6 +59,7 @@ pub record IsGate (rows : List Row) (gate : GateWords) : Type 0 where
   pub mappings : gate.mappings ≡ flag_of (codes "log-mappings") rows
   pub capture : option_map string_bytes gate.capture ≡ first_of (codes "capture") rows
   pub notify : option_map string_bytes gate.notify ≡ first_of (codes "notify") rows
+  pub stop_on : option_map string_bytes gate.stop_on ≡ first_of (codes "stop-on") rows
 
 pub record IsStatus (rows : List Row) (status : StatusWords) : Type 0 where
   pub settings : string_bytes status.settings ≡ word_of (codes "SETTINGS") rows

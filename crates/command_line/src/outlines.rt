@@ -188,6 +188,11 @@ static COMMANDS: [Outline<'static>; 10] = [
                 name: "notify",
                 help: "The service manager's socket, an open descriptor, as in --notify descriptor:6",
             },
+            Argument {
+                kind: ArgumentKind::Text,
+                name: "stop-on",
+                help: "Ends, as told, once this open descriptor can be read, as in --stop-on descriptor:7",
+            },
         ],
     },
     Outline {

@@ -185,6 +185,7 @@ fn gate_words(
         log: values::optional_word(alloc, matches, "log")?,
         capture: values::optional_word(alloc, matches, "capture")?,
         notify: values::optional_word(alloc, matches, "notify")?,
+        stop_on: values::optional_word(alloc, matches, "stop-on")?,
         id,
         rounds: values::optional_u32(matches, "rounds"),
         until_eof: values::flag(matches, "until-eof"),

@@ -61,6 +61,8 @@ pub struct GateWords {
     pub capture: Option<String>,
     /// The service manager's socket, as written, or None.
     pub notify: Option<String>,
+    /// The descriptor that ends the gateway once it can be read, as written, or None.
+    pub stop_on: Option<String>,
 }
 
 /// The format in which `status` writes a report.

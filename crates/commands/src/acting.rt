@@ -95,5 +95,6 @@ fn start_of(words: &GateWords) -> Start<'_> {
         mappings: words.mappings,
         capture: words.capture.as_deref(),
         notify: words.notify.as_deref(),
+        stop_on: words.stop_on.as_deref(),
     }
 }

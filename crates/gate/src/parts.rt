@@ -1,5 +1,6 @@
 //! All that a box opens before it takes a boot number.
 
+use crate::end_signals::StopDescriptor;
 use crate::{ServiceManager, Start};
 use boot_file::FileDisk;
 use captures::{CaptureFile, Reader};
@@ -23,6 +24,7 @@ pub(crate) type BoxLog<'a, R> = EventLog<FilteredLog<Sink<StandardError<&'a R>>>
 pub(crate) struct Parts<'a, R> {
     pub(crate) settings: Settings,
     pub(crate) manager: Option<ServiceManager>,
+    pub(crate) stop: Option<StopDescriptor>,
     /// The boot file, locked.
     pub(crate) disk: FileDisk<File>,
     pub(crate) wire: Sockets,
@@ -45,6 +47,7 @@ impl<'a, R: Files<File = File> + Net + Eprint + Env + AllocGlobal> Parts<'a, R> 
         let ways = start.ways.read()?;
         ways.check_descriptors()?;
         let manager = start.notify.map(ServiceManager::read).transpose()?;
+        let stop = start.stop_on.map(StopDescriptor::read).transpose()?;
         check_ports(&settings, start.id, &ways)?;
         let file = settings.gateway(start.id).boot_file.as_str();
         let path = ControlPath::beside(alloc, file)?;
@@ -64,6 +67,7 @@ impl<'a, R: Files<File = File> + Net + Eprint + Env + AllocGlobal> Parts<'a, R> 
         Ok(Parts {
             settings,
             manager,
+            stop,
             disk,
             wire,
             log,

@@ -1,14 +1,15 @@
 //! The run of a box, from its start to its end.
 
 use crate::begin::begin;
+use crate::end_signals::{EndSignals, StopDescriptor};
 use crate::parts::{BoxLog, Parts};
 use crate::{ServiceManager, Start};
 use captures::{CaptureFile, LiveCapture, Tapped};
 use faults::Fault;
 use gateway::Gateway;
 use journal::Entry;
-use platform::{Stopwatch, stdin_has_ended};
-use rounds::{EndSignal, Identity, Manager, Options, serve};
+use platform::Stopwatch;
+use rounds::{Identity, Manager, Options, serve};
 use sockets::Wire;
 use std::alloc::Global;
 use std::fs::{File, Files};
@@ -17,12 +18,13 @@ use std::net::Net;
 use std::random::RandomSource;
 use std::rt::{Clock, Env};
 
-/// Runs a box until its operator ends it, its standard input ends (`until_eof`), or all its rounds are done. Prints its boot
+/// Runs a box until its operator ends it, its standard input ends (`until_eof`), its descriptor to stop on can be read, or
+/// all its rounds are done. Prints its boot
 /// number first, and `end` last.
 ///
 /// # Errors
 ///
-/// The first fault of: the settings, the ways, their descriptors, the service manager, clashing ports, the path of the control
+/// The first fault of: the settings, the ways, their descriptors, the service manager, the descriptor to stop on, clashing ports, the path of the control
 /// socket, the boot file and its lock, the control socket, the other sockets, the filter of the log, the file of the capture,
 /// the random keys, the next boot number, memory for a gateway, printing the boot number, the head of the capture, printing
 /// the end.
@@ -33,6 +35,7 @@ pub fn run<
     let Parts {
         settings,
         manager,
+        stop,
         mut disk,
         mut wire,
         log,
@@ -47,6 +50,7 @@ pub fn run<
         start,
         identity,
         manager,
+        stop,
         log,
     };
     match capture {
@@ -72,6 +76,7 @@ struct Server<'a, R> {
     start: &'a Start<'a>,
     identity: Identity,
     manager: Option<ServiceManager>,
+    stop: Option<StopDescriptor>,
     log: BoxLog<'a, R>,
 }
 
@@ -84,9 +89,10 @@ impl<R: Clock + Eprint + Input + AllocGlobal> Server<'_, R> {
             rounds: start.rounds,
             track: start.track,
         };
-        let mut end_signal = StdinEnd {
+        let mut end_signals = EndSignals {
             rt,
-            is_watched: start.until_eof,
+            until_eof: start.until_eof,
+            stop: self.stop.as_ref(),
         };
         self.manager.ready(self.identity.boot);
         let mut clock = Stopwatch::start(rt);
@@ -95,7 +101,7 @@ impl<R: Clock + Eprint + Input + AllocGlobal> Server<'_, R> {
             gateway,
             wire,
             &mut clock,
-            &mut end_signal,
+            &mut end_signals,
             &mut self.manager,
             &mut self.log,
             &options,
@@ -112,17 +118,4 @@ fn start_capture(
     let failed = |error| Fault::capture(alloc, path, &error);
     file.clear().map_err(failed)?;
     LiveCapture::start(alloc, file).map_err(failed)
-}
-
-/// The end signal of a box: the end of its standard input, if that is watched.
-#[derive(Drop)]
-struct StdinEnd<'a, R> {
-    rt: &'a R,
-    is_watched: bool,
-}
-
-impl<R: Input> EndSignal for StdinEnd<'_, R> {
-    fn has_come(&mut self) -> bool {
-        self.is_watched && stdin_has_ended(self.rt)
-    }
 }

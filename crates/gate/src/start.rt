@@ -29,6 +29,8 @@ pub struct Start<'a> {
     pub capture: Option<&'a str>,
     /// The descriptor of the service manager (`--notify`), as `descriptor:N`.
     pub notify: Option<&'a str>,
+    /// The descriptor that ends the box once it can be read (`--stop-on`), as `descriptor:N`.
+    pub stop_on: Option<&'a str>,
 }
 
 /// The texts of a box's ways: the values of `--inside`, `--outside` and `--link`.

@@ -1,7 +1,6 @@
 //! What a message asks of a box: an event of its gateway, and a response to its operator.
-ghost use Rattle.std.specs.Prelude.{List, ℕ};
+ghost use Rattle.std.specs.Prelude.{◌≡◌, Some, None};
 ghost use Rattle.rounds.specs.Runs.{IsMessage};
-ghost use Rattle.sockets.specs.declared.wire.Place.TheVariants.{Operator};
 
 use crate::views::View;
 use control::{PeerOffRefusal, Word};
@@ -15,6 +14,18 @@ pub(crate) struct Message<'a> {
     pub(crate) event: Option<Event<'a>>,
     /// The response to the operator, if the message is a word.
     pub(crate) response: Option<Response>,
+}
+
+impl<'a> Message<'a> {
+    /// Returns the message that is this event, and is not replied to.
+    fn of_event(event: Event<'a>) -> Message<'a>
+        ensures { (result.event ≡ Some event) × (result.response ≡ None) }
+    {
+        Message {
+            event: Some(event),
+            response: None,
+        }
+    }
 }
 
 /// What an operator asks of a box. A request is answered at the end of the round in which it came.
@@ -47,38 +58,26 @@ pub(crate) fn read_message<'a>(
 ) -> Message<'a>
     ensures event { IsMessage place bytes.now result.event }
 {
-    let (event, response) = match place {
-        Place::Side(side) => (Some(Event::Frame(side, bytes)), None),
-        Place::Link => (Some(Event::Datagram(bytes)), None),
-        Place::Operator => match Word::read(bytes) {
-            Some(word) => return read_word(view, word, track),
-            None => (None, None),
+    let word = match place {
+        Place::Side(side) => return Message::of_event(Event::Frame(side, bytes)),
+        Place::Link => return Message::of_event(Event::Datagram(bytes)),
+        Place::Operator => Word::read(bytes),
+    };
+    let (event, response) = match word {
+        Some(Word::PeerOff { boot, forced }) => match judge(view, boot, forced) {
+            Ok(boot) => (Some(Event::PeerOff(boot)), Some(Response::Heard)),
+            Err(refusal) => (None, Some(Response::Refused(refusal))),
         },
+        Some(Word::Side { side, up, carrier }) if track || !carrier => {
+            (Some(Event::Side(side, up)), Some(Response::Heard))
+        }
+        Some(Word::Side { .. }) => (None, Some(Response::Heard)),
+        Some(Word::Stop) => (None, Some(Response::Ending)),
+        Some(Word::Status) => (None, Some(Response::Later(Request::Status))),
+        Some(Word::Pairs(after)) => (None, Some(Response::Later(Request::Pairs(after)))),
+        None => (None, None),
     };
     Message { event, response }
-}
-
-/// Decides on an operator's word.
-fn read_word<'a>(view: &View, word: Word, track: bool) -> Message<'a>
-    ensures event { (bytes : List ℕ) → IsMessage Operator bytes result.event }
-{
-    let (event, response) = match word {
-        Word::PeerOff { boot, forced } => match judge(view, boot, forced) {
-            Ok(boot) => (Some(Event::PeerOff(boot)), Response::Heard),
-            Err(refusal) => (None, Response::Refused(refusal)),
-        },
-        Word::Side { side, up, carrier } if track || !carrier => {
-            (Some(Event::Side(side, up)), Response::Heard)
-        }
-        Word::Side { .. } => (None, Response::Heard),
-        Word::Stop => (None, Response::Ending),
-        Word::Status => (None, Response::Later(Request::Status)),
-        Word::Pairs(after) => (None, Response::Later(Request::Pairs(after))),
-    };
-    Message {
-        event,
-        response: Some(response),
-    }
 }
 
 /// Decides on the word that a boot of the other gateway is off, and returns the boot; without a number the known boot is
