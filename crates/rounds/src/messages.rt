@@ -1,5 +1,5 @@
 //! What a message asks of a box: an event of its gateway, and a response to its operator.
-ghost use Rattle.std.specs.Prelude.{◌≡◌, Some, None};
+ghost use Rattle.std.specs.Prelude.{◌≡◌, Some};
 ghost use Rattle.rounds.specs.Runs.{IsMessage};
 
 use crate::views::View;
@@ -19,7 +19,7 @@ pub(crate) struct Message<'a> {
 impl<'a> Message<'a> {
     /// Returns the message that is this event, and is not replied to.
     fn of_event(event: Event<'a>) -> Message<'a>
-        ensures { (result.event ≡ Some event) × (result.response ≡ None) }
+        ensures { result.event ≡ Some event.entry }
     {
         Message {
             event: Some(event),
