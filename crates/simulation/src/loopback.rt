@@ -166,8 +166,15 @@ impl<R> Loopback<'_, R> {
     }
 }
 
+impl<R: Clock> Loopback<'_, R> {
+    /// Sends bytes through the socket of an interface, and returns whether they came back.
+    fn send(&self, interface: Interface, bytes: &[u8]) -> bool {
+        self.socket(interface).echoes(self.rt, bytes)
+    }
+}
+
 impl<R: Clock> Channel for Loopback<'_, R> {
     fn pass(&mut self, interface: Interface, bytes: &[u8]) -> bool {
-        self.socket(interface).echoes(self.rt, bytes)
+        self.send(interface, bytes)
     }
 }
