@@ -4,11 +4,11 @@ use faults::Fault;
 use platform::{Inherited, is_readable, stdin_has_ended};
 use rounds::EndSignal;
 use sockets::Way;
-use std::os::fd::AsRawFd;
+use std::os::fd::{AsRawFd, RawFd};
 
 /// An inherited descriptor that ends the box once it can be read, as a `signalfd` of SIGTERM. It is never read.
-#[derive(Drop)]
-pub(crate) struct StopDescriptor(Inherited);
+#[derive(Clone, Copy)]
+pub(crate) struct StopDescriptor(RawFd);
 
 impl StopDescriptor {
     /// Returns the descriptor of a text, as `descriptor:7`.
@@ -21,7 +21,7 @@ impl StopDescriptor {
             return Err(Fault::NoStop);
         };
         match Inherited::open(number) {
-            Ok(descriptor) => Ok(StopDescriptor(descriptor)),
+            Ok(descriptor) => Ok(StopDescriptor(descriptor.as_raw_fd())),
             Err(_) => Err(Fault::StopNotOpen(number)),
         }
     }
@@ -33,13 +33,13 @@ pub(crate) struct EndSignals<'a, R> {
     pub(crate) rt: &'a R,
     /// Whether the end of the standard input ends the box.
     pub(crate) until_eof: bool,
-    pub(crate) stop: Option<&'a StopDescriptor>,
+    pub(crate) stop: Option<StopDescriptor>,
 }
 
 impl<R: Input> EndSignal for EndSignals<'_, R> {
     fn has_come(&mut self) -> bool {
         let is_stopped = match self.stop {
-            Some(StopDescriptor(descriptor)) => is_readable(descriptor.as_raw_fd()),
+            Some(StopDescriptor(descriptor)) => is_readable(descriptor),
             None => false,
         };
         is_stopped || (self.until_eof && stdin_has_ended(self.rt))

@@ -92,7 +92,7 @@ impl<R: Clock + Eprint + Input + AllocGlobal> Server<'_, R> {
         let mut end_signals = EndSignals {
             rt,
             until_eof: start.until_eof,
-            stop: self.stop.as_ref(),
+            stop: self.stop,
         };
         self.manager.ready(self.identity.boot);
         let mut clock = Stopwatch::start(rt);
