@@ -35,7 +35,11 @@ fn fault_named(rt: &HostRuntime, name: &str) -> Option<Fault> {
     match name {
         "unread" => Some(file(alloc, FileRefusal::NoFile, ErrorKind::PermissionDenied)),
         "no-folder" => Some(file(alloc, FileRefusal::NotWritten, ErrorKind::NotADirectory)),
-        "read-only" => Some(file(alloc, FileRefusal::NotWritten, ErrorKind::ReadOnlyFilesystem)),
+        "read-only" => Some(file(
+            alloc,
+            FileRefusal::NotWritten,
+            ErrorKind::ReadOnlyFilesystem,
+        )),
         "busy" => Some(file(alloc, FileRefusal::NoFile, ErrorKind::ResourceBusy)),
         "device" => Some(Fault::from(BootFault::Device).of_boot_file(rt, "boot0")),
         "sockets" => Some(Fault::NoSockets(ErrorKind::NetworkUnreachable)),

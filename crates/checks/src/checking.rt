@@ -83,7 +83,12 @@ fn report_faults(
         }
         Examination::SameIds => report_fault(&SettingFault::SameIds, explainer, findings),
         Examination::WellFormed { unworkable, .. } => {
-            report_keys(unworkable.as_slice(), KeyFault::CantWork, explainer, findings)
+            report_keys(
+                unworkable.as_slice(),
+                KeyFault::CantWork,
+                explainer,
+                findings,
+            )
         }
     }
 }

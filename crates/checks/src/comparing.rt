@@ -46,11 +46,7 @@ fn text_at<R: Files + AllocGlobal, E: Write>(rt: &R, path: &str, errors: &mut E)
 }
 
 /// Reads the settings in the text of a file, or reports why there are none.
-fn settings_of<E: Write>(
-    alloc: Global,
-    file: TextFile<'_>,
-    errors: &mut E,
-) -> Option<Settings> {
+fn settings_of<E: Write>(alloc: Global, file: TextFile<'_>, errors: &mut E) -> Option<Settings> {
     match settings_in(alloc, file) {
         Ok(settings) => Some(settings),
         Err(fault) => {

@@ -33,8 +33,12 @@ pub(crate) fn ask<'b, R: Net + AllocGlobal>(
     buffer: &'b mut [u8; MAX_REPLY],
 ) -> Result<Reply<'b>, Fault> {
     let is_word = !matches!(word, Word::Status | Word::Pairs(_));
-    control::ask(rt, path, word, buffer)
-        .map_err(|fault| Fault::unanswered(rt.alloc(), path, fault, is_word))
+    control::ask(rt, path, word, buffer).map_err(|fault| Fault::unanswered(
+        rt.alloc(),
+        path,
+        fault,
+        is_word,
+    ))
 }
 
 /// Returns the fault of a reply that isn't one to the word.
@@ -93,6 +97,5 @@ fn say<R: Files + Net + AllocGlobal>(
     word: Word,
 ) -> Result<(), Fault> {
     let path = control_path(rt, settings, id)?;
-    control::say(rt, &path, word)
-        .map_err(|fault| Fault::unanswered(rt.alloc(), &path, fault, true))
+    control::say(rt, &path, word).map_err(|fault| Fault::unanswered(rt.alloc(), &path, fault, true))
 }

@@ -56,7 +56,9 @@ impl From<io::Error> for AskFault {
     fn from(error: io::Error) -> AskFault {
         match error.kind() {
             ErrorKind::WouldBlock | ErrorKind::TimedOut => AskFault::NotAnswered,
-            ErrorKind::BrokenPipe | ErrorKind::ConnectionReset => AskFault::NoSocket(NoSocket::Closed),
+            ErrorKind::BrokenPipe | ErrorKind::ConnectionReset => AskFault::NoSocket(
+                NoSocket::Closed,
+            ),
             kind => AskFault::NoSocket(NoSocket::Failed(kind)),
         }
     }

@@ -50,10 +50,12 @@ impl From<PathFault> for Fault {
 }
 
 /// Why a part of a filter is no directive.
-const NO_DIRECTIVE: &str = "a directive is LEVEL, NAME or NAME=LEVEL, of the levels off, error, warn, info, debug";
+const NO_DIRECTIVE: &str =
+    "a directive is LEVEL, NAME or NAME=LEVEL, of the levels off, error, warn, info, debug";
 
 /// Why the name of a directive is none, which may be a misspelt level.
-const NO_NAME: &str = "the levels are off, error, warn, info, debug; the names are natpair, natpair::inside, natpair::outside, natpair::link, natpair::box";
+const NO_NAME: &str =
+    "the levels are off, error, warn, info, debug; the names are natpair, natpair::inside, natpair::outside, natpair::link, natpair::box";
 
 /// Why the filter of the environment is none.
 const NOT_TEXT: &str = "the variable's value isn't UTF-8";

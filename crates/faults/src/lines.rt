@@ -19,7 +19,10 @@ pub fn report_at<E: Write>(alloc: Global, fault: &Fault, path: &str, errors: &mu
         Fault::File { .. } => report(alloc, fault, errors),
         _ => {
             let reason = Reason(fault);
-            write_lines(format!(in alloc; "natpair: {fault} ({path})\n{reason}"), errors);
+            write_lines(
+                format!(in alloc; "natpair: {fault} ({path})\n{reason}"),
+                errors,
+            );
             fault.status()
         }
     }

@@ -56,7 +56,9 @@ fn write_file_reason<W: fmt::Write>(fault: &Fault, f: &mut Formatter<W>) -> fmt:
         } => {
             write!(f, "  {path}: ")?;
             match (refusal, cause) {
-                (FileRefusal::Exists, _) => f.write_str("it is there already, and stays as it is\n"),
+                (FileRefusal::Exists, _) => f.write_str(
+                    "it is there already, and stays as it is\n",
+                ),
                 (FileRefusal::NotCapture, _) => {
                     f.write_str("it has something, and is no capture; it stays as it is\n")
                 }
@@ -101,7 +103,10 @@ fn write_way_reason<W: fmt::Write>(fault: &Fault, f: &mut Formatter<W>) -> fmt::
 
 /// Writes that a descriptor isn't open.
 fn write_not_open<W: fmt::Write>(number: u16, f: &mut Formatter<W>) -> fmt::Result {
-    writeln!(f, "  descriptor {number} isn't open; natpair-launch hands descriptors on")
+    writeln!(
+        f,
+        "  descriptor {number} isn't open; natpair-launch hands descriptors on"
+    )
 }
 
 /// Returns what a text has to be to be a way, of the kind that it begins as.

@@ -58,8 +58,9 @@ impl<'a, R: Files<File = File> + Net + Eprint + Env + AllocGlobal> Parts<'a, R> 
         let file = settings.gateway(start.id).boot_file.as_str();
         let path = ControlPath::beside(alloc, file)?;
         let disk = boot_file::open(rt, file).map_err(|why| Fault::boot_file(alloc, file, why))?;
-        let control = Control::open(rt, &path, CONTROL_TOKEN)
-            .map_err(|cause| Fault::no_control(alloc, &path, cause))?;
+        let control = Control::open(rt, &path, CONTROL_TOKEN).map_err(|cause| Fault::no_control(
+            alloc, &path, cause,
+        ))?;
         let wire = open_sockets(rt, &ways, LoopbackPorts::of(&settings, start.id), control)?;
         let sink = Sink::new(StandardError(rt), start.format);
         let log = EventLog::new(FilteredLog::new(sink, read_filter(rt, start.log)?));

@@ -3,10 +3,9 @@
 use crate::explanations::Source;
 use crate::fields::entry;
 use crate::neighbour_cursor::{NeighbourCheck, NeighbourCursor};
-use crate::neighbours;
 use crate::shown::Shown;
 use crate::unknown::{keys_of, section_named};
-use crate::{Key, Name, Section};
+use crate::{Key, Name, Section, neighbours};
 use std::fmt::{self, Display, Formatter};
 use toml::Table;
 

@@ -30,8 +30,14 @@ pub(crate) fn explain_shared(source: Source<'_>, values: &Values) -> Option<Stri
     let ips = ips_of(zero, &values.zero);
     let other_ips = ips_of(one, &values.one);
     let virtual_ips = [
-        (Key::new(Section::Inside, Name::Virtual), values.inside.virtual_ip),
-        (Key::new(Section::Outside, Name::Virtual), values.outside.virtual_ip),
+        (
+            Key::new(Section::Inside, Name::Virtual),
+            values.inside.virtual_ip,
+        ),
+        (
+            Key::new(Section::Outside, Name::Virtual),
+            values.outside.virtual_ip,
+        ),
     ];
     let macs = macs_of(zero, &values.zero);
     let ports = ports_of(zero, &values.zero);
@@ -106,8 +112,12 @@ pub(crate) fn explain_unworkable(
         Section::Outside if matches!(name, Name::Router) => {
             let ips = own_ips(settings, Side::Outside);
             let router = settings.router;
-            explain_equal(source, &[(key, router)], &ips)
-                .or(explain_end(source, key, router, outside.prefix_length))
+            explain_equal(source, &[(key, router)], &ips).or(explain_end(
+                source,
+                key,
+                router,
+                outside.prefix_length,
+            ))
         }
         Section::Outside => explain_end(source, key, outside.virtual_ip, outside.prefix_length),
         Section::GatewayZero => explain_gateway(source, settings, key, &settings.zero),
@@ -194,12 +204,18 @@ fn own_ips(settings: &Settings, side: Side) -> [(Key, Ip); 3] {
     let (zero, one) = (Section::GatewayZero, Section::GatewayOne);
     match side {
         Side::Inside => [
-            (Key::new(Section::Inside, Name::Virtual), settings.inside.virtual_ip),
+            (
+                Key::new(Section::Inside, Name::Virtual),
+                settings.inside.virtual_ip,
+            ),
             (Key::new(zero, Name::InsideIp), settings.zero.inside_ip),
             (Key::new(one, Name::InsideIp), settings.one.inside_ip),
         ],
         Side::Outside => [
-            (Key::new(Section::Outside, Name::Virtual), settings.outside.virtual_ip),
+            (
+                Key::new(Section::Outside, Name::Virtual),
+                settings.outside.virtual_ip,
+            ),
             (Key::new(zero, Name::OutsideIp), settings.zero.outside_ip),
             (Key::new(one, Name::OutsideIp), settings.one.outside_ip),
         ],

@@ -28,9 +28,11 @@ pub(crate) fn explain_bad_value(
         return explain_neighbour(source, document, name, cursor);
     }
     let value = value_at(document, section, name)?;
-    if let (Section::Outside, Name::Prefix, Ok(length)) =
-        (section, name, prefix_length(document, section))
-    {
+    if let (Section::Outside, Name::Prefix, Ok(length)) = (
+        section,
+        name,
+        prefix_length(document, section),
+    ) {
         return explain_common_addresses(source, document, length);
     }
     let wanted = wanted_at(document, section, name, value);
@@ -59,11 +61,7 @@ fn explain_section(source: Source<'_>, document: &Table, section: Section) -> Op
 }
 
 /// Explains that the two networks, the outside one with this prefix length, share addresses.
-fn explain_common_addresses(
-    source: Source<'_>,
-    document: &Table,
-    length: u8,
-) -> Option<String> {
+fn explain_common_addresses(source: Source<'_>, document: &Table, length: u8) -> Option<String> {
     let outside = address_at(document, Section::Outside, Name::Virtual)?;
     let inside = NetworkOf(network_of(document, Section::Inside)?);
     source.explanation(format_args!(
@@ -96,9 +94,7 @@ fn explain_neighbour(
     };
     let value = Shown(field_of(neighbour, name)?);
     let text = name.as_str();
-    source.explanation(format_args!(
-        "{text} of [[neighbour]] {number} is {value}; {wanted}"
-    ))
+    source.explanation(format_args!("{text} of [[neighbour]] {number} is {value}; {wanted}"))
 }
 
 /// What the value at a key has to be.
@@ -168,7 +164,10 @@ fn wanted_at(document: &Table, section: Section, name: Name, value: &Value) -> W
 
 /// Returns what an address has to be that lies in the network of a side.
 fn wanted_host(document: &Table, section: Section, name: Name, side: Section) -> Wanted {
-    match (address_at(document, section, name), network_of(document, side)) {
+    match (
+        address_at(document, section, name),
+        network_of(document, side),
+    ) {
         (Some(_), Some(network)) => Wanted::AddressIn(network),
         _ => Wanted::Address,
     }

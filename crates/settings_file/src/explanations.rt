@@ -1,12 +1,12 @@
 //! What is wrong with a text of settings, in words.
 
+use crate::SettingFault;
 use crate::explained_keys::{explain_missing, explain_unknown};
 use crate::explained_settings::{explain_overlap, explain_shared, explain_unworkable};
 use crate::explained_values::explain_bad_value;
 use crate::neighbour_cursor::NeighbourCursor;
 use crate::reading::well_formed_settings;
 use crate::values::Values;
-use crate::SettingFault;
 use std::alloc::Global;
 use std::fmt::Display;
 use toml::Table;

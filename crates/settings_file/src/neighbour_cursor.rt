@@ -1,9 +1,9 @@
 //! The neighbours with faults, one after the other.
 
+use crate::Name;
 use crate::bad_values::neighbour_rows;
 use crate::neighbours::{field_of, ip_of, mac_of, side_of};
 use crate::works::{is_group, is_ours};
-use crate::Name;
 use addresses::Prefix;
 use settings::Settings;
 use toml::Value;
@@ -28,8 +28,9 @@ impl NeighbourCheck<'_> {
         match self {
             NeighbourCheck::Present => field_of(neighbour, name).is_none(),
             NeighbourCheck::Good { inside, outside } => {
-                let [(_, has_side), (_, has_ip), (_, has_mac)] =
-                    neighbour_rows(neighbour, inside, outside);
+                let [(_, has_side), (_, has_ip), (_, has_mac)] = neighbour_rows(
+                    neighbour, inside, outside,
+                );
                 !match name {
                     Name::Side => has_side,
                     Name::Ip => has_ip,

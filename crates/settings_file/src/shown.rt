@@ -40,7 +40,11 @@ impl Display for Quoted<'_> {
                 return f.write_str("..\"");
             }
             count = count.saturating_add(1);
-            f.write_char(if is_control(character) { '?' } else { character })?;
+            f.write_char(if is_control(character) {
+                '?'
+            } else {
+                character
+            })?;
         }
         f.write_str("\"")
     }

@@ -45,8 +45,9 @@ const WANTS_SIDE: LineFault = LineFault::Wants("a side is inside or outside");
 
 const WANTS_CABLE: LineFault = LineFault::Wants("a cable is up or down");
 
-const WANTS_BYTES: LineFault =
-    LineFault::Wants("bytes are pairs of hexadecimal digits, at most 2000 bytes, or -");
+const WANTS_BYTES: LineFault = LineFault::Wants(
+    "bytes are pairs of hexadecimal digits, at most 2000 bytes, or -",
+);
 
 const WANTS_FEWER: LineFault = LineFault::Wants("a script has at most 1000000 events");
 
@@ -56,11 +57,7 @@ const WANTS_FEWER: LineFault = LineFault::Wants("a script has at most 1000000 ev
 ///
 /// That of the settings; `BadLine` with the number, from 1, of the first line that is no event or one event too many;
 /// `NoMemory`.
-pub fn read_job(
-    alloc: Global,
-    settings: TextFile<'_>,
-    script: TextFile<'_>,
-) -> Result<Job, Fault> {
+pub fn read_job(alloc: Global, settings: TextFile<'_>, script: TextFile<'_>) -> Result<Job, Fault> {
     let settings = settings_in(alloc, settings)?;
     let events = parse_events(alloc, script)?;
     Ok(Job { settings, events })
