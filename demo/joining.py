@@ -72,11 +72,12 @@ SAID = {
         ("box 0", "natpair@0", ["boot 3", "keeper inside cable out", " away", "keeper inside cable in", " back"]),
         ("box 1", "natpair@1", ["inside.* Active", "outside.* Active", "inside.* Backup", "outside.* Backup"]),
     ],
-    RELEASE: [
-        ("box 0", "natpair@0", [r"\bend$", "boot {}", "synced"]),
-        ("box 1", "natpair@1", [r"\bend$", "boot {}", "synced"]),
-    ],
 }
+# The sections that restart each box, and what is in its journal then.
+SAID |= dict.fromkeys(("Changing settings", RELEASE), [
+    ("box 0", "natpair@0", [r"\bend$", "boot {}", "synced"]),
+    ("box 1", "natpair@1", [r"\bend$", "boot {}", "synced"]),
+])
 # How often each box has begun before the page restarts it for the first time.
 BEGUN = {"box 0": 3, "box 1": 1}
 

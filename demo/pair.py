@@ -81,6 +81,8 @@ class Box:
         self.link_hops = 1
         is_launchers = (options.sides, options.link) == ("descriptor", "descriptor")
         self.link_port = LINK_PORT if is_launchers and not options.before else OPEN_PORT
+        self.settings = folder / SETTINGS.name
+        self.boot_file = f"boot{number}"
         # What stands before the words by which it is started.
         self.before = ()
 
@@ -132,9 +134,9 @@ class Box:
     def words(self):
         """The words that start the box: the launcher's, and the gate's. By VXLAN no launcher is needed."""
         number = str(self.number)
-        program, settings = str(self.top / "natpair"), str(self.top / SETTINGS.name)
+        program, settings = str(self.top / "natpair"), str(self.settings)
         launcher = [str(self.top / self.launcher), "--inside", "inside", "--outside", "outside",
-                    "--boot-file", f"boot{number}", "--user", USER]
+                    "--boot-file", self.boot_file, "--user", USER]
         gate = [program, "gate", settings, "--id", number, "--log", LEVEL]
         if self.options.no_track:
             gate.append("--no-track")
@@ -204,7 +206,7 @@ class Box:
 
     def stop(self):
         """Says to this box that it is to end."""
-        self.natpair("stop", str(self.top / SETTINGS.name), "--id", str(self.number))
+        self.natpair("stop", str(self.settings), "--id", str(self.number))
 
     def halt(self):
         self.gate.send_signal(signal.SIGSTOP)
@@ -215,11 +217,11 @@ class Box:
     def peer_off(self, boot):
         """Says to this box that the other's boot of this number is off."""
         words = ("--id", str(self.number), "--boot", str(boot))
-        self.natpair("peer-off", str(self.top / SETTINGS.name), *words)
+        self.natpair("peer-off", str(self.settings), *words)
 
     def side(self, side, word):
         """Says to this box that a side of it is up, or down."""
-        self.natpair("side", str(self.top / SETTINGS.name), "--id", str(self.number), side, word)
+        self.natpair("side", str(self.settings), "--id", str(self.number), side, word)
 
     def dropped(self):
         """How often the box dropped something since its last start, by where and why."""

@@ -13,7 +13,7 @@ LONGEST = 60
 MASKS = [
     (rb"at=\d+", rb"at=N"),
     (rb"(?m)\] \d+ ", rb"] N "),
-    (rb"(?m)^\[WARN  natpair::link\] N dropped 16 BadDatagram[^\n]*\n", rb""),
+    (rb"(?m)^\[(?:WARN |DEBUG) natpair::link\] N dropped 16 BadDatagram[^\n]*\n", rb""),
     (rb"\b(up|for) \d+ s\b", rb"\1 N s"),
     (rb"heard [\d.]+ s ago", rb"heard N s ago"),
     (rb"[\d,]+ in, [\d,]+ out", rb"N in, N out"),

@@ -8,7 +8,7 @@ use crate::wires::StepClock;
 use anyhow::Result;
 use cases_words::Case;
 use gateway::{Event, Gateway, Hashers, NoMemory, Out, Outcome};
-use journal::{EventLog, Format, Sink};
+use journal::{EventLog, Format, Mappings, Sink};
 use nat_types::{GatewayId, Key};
 use reports::{GatewayReport, Page, Sides};
 use rounds::{Options, run_rounds, serve};
@@ -81,6 +81,8 @@ pub(crate) struct Orders {
     pub(crate) told: Option<u32>,
     /// Whether the gateway is stopped after its rounds.
     pub(crate) stops: bool,
+    /// Whether mappings are logged.
+    pub(crate) mapped: bool,
 }
 
 impl AnyGateway for Gateway {
@@ -158,7 +160,12 @@ impl AnyGateway for Gateway {
         options: &Options,
     ) {
         let mut until = EndAfter(orders.told);
-        let mut log = EventLog::new(Sink::new(lines, Format::Text));
+        let mappings = if orders.mapped {
+            Mappings::new(alloc).ok()
+        } else {
+            None
+        };
+        let mut log = EventLog::new(Sink::new(lines, Format::Text), mappings);
         if orders.stops {
             serve(
                 alloc, self, wire, clock, &mut until, manager, &mut log, options,

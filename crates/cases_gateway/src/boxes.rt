@@ -47,8 +47,8 @@ impl<G: AnyGateway> Boxes<G> {
     ///
     /// - `box N`, `box N found`: the box starts in boot N, at time 0
     /// - `off`: the box is removed
-    /// - `rounds N M`, `rounds N M untracked`: the box runs N rounds, M centiseconds apart, and tracks the carriers of
-    ///   its interfaces, or doesn't
+    /// - `rounds N M`, `rounds N M untracked`, `rounds N M mapped`: the box runs N rounds, M centiseconds apart, and tracks the
+    ///   carriers of its interfaces, or doesn't; or logs mappings
     /// - `serves N M`, `serves - M`, with `told K` after it: the box runs N such rounds, or any number of them, until
     ///   the end signal comes after K; then it ends
     /// - all else prepares the next rounds (`TestBox::prepare`)

@@ -37,6 +37,22 @@ pub(crate) struct Run {
     pub(crate) orders: Orders,
 }
 
+impl Run {
+    /// So many rounds, after which the box can go on.
+    pub(crate) fn endless(rounds: u32, pace: u64) -> Run {
+        Run {
+            rounds: Some(rounds),
+            pace,
+            track: true,
+            orders: Orders {
+                told: None,
+                stops: false,
+                mapped: false,
+            },
+        }
+    }
+}
+
 impl<G: AnyGateway> TestBox<G> {
     /// Returns a box with a gateway of that number in that boot, at time 0, or None where there can't be such a gateway
     /// or there is no memory.
@@ -122,7 +138,7 @@ impl<G: AnyGateway> TestBox<G> {
 
     /// Runs the box as the next words say, and prints what comes of it.
     ///
-    /// - `rounds N M`, `rounds N M untracked`: rounds without an end
+    /// - `rounds N M`, `rounds N M untracked`, `rounds N M mapped`: rounds without an end (`endless_in`)
     /// - `serves ..`: the box runs to its end (`run_in`)
     pub(crate) fn run(&mut self, case: &mut Case) {
         if case.is_first("rounds", "serves") {
@@ -133,27 +149,15 @@ impl<G: AnyGateway> TestBox<G> {
     }
 
     fn run_on(&mut self, case: &mut Case) {
-        let (rounds, pace) = (case.times(), case.number());
-        let track = case.left() == 0;
+        let run = endless_in(case);
         let lines = RefCell::new(Vec::new(case.alloc));
-        self.go_on(rounds, pace, track, &lines);
+        self.go_on(run, &lines);
         self.wire.show(case);
         case.text(lines.into_inner().as_slice());
     }
 
-    /// Runs so many rounds, `pace` centiseconds apart.
-    pub(crate) fn go_on(&mut self, rounds: u32, pace: u64, track: bool, lines: &RefCell<Vec<u8>>) {
-        let orders = Orders {
-            told: None,
-            stops: false,
-        };
-        let rounds = Some(rounds);
-        let run = Run {
-            rounds,
-            pace,
-            track,
-            orders,
-        };
+    /// Runs the rounds, and keeps the lines of the log.
+    pub(crate) fn go_on(&mut self, run: Run, lines: &RefCell<Vec<u8>>) {
         self.run_with(run, 0, open(lines));
         self.wire.outages.clear();
     }
@@ -211,6 +215,19 @@ pub(crate) fn open(text: &RefCell<Vec<u8>>) -> Lines<'_> {
     }
 }
 
+/// Reads how many rounds, how many centiseconds apart, and what is so in them: `untracked`, the carriers of the box's interfaces
+/// don't count; `mapped`, mappings are logged.
+fn endless_in(case: &mut Case) -> Run {
+    let (rounds, pace) = (case.times(), case.number());
+    let mut run = Run::endless(rounds, pace);
+    if case.left() != 0 {
+        let untracked = case.is_first("untracked", "mapped");
+        run.track = !untracked;
+        run.orders.mapped = !untracked;
+    }
+    run
+}
+
 /// Reads how many rounds, how many centiseconds apart, and after how many the end signal comes, as in `4 360` or
 /// `- 360 told 3`.
 fn run_in(case: &mut Case) -> Run {
@@ -219,6 +236,7 @@ fn run_in(case: &mut Case) -> Run {
     let orders = Orders {
         told: told_in(case),
         stops: true,
+        mapped: false,
     };
     Run {
         rounds,

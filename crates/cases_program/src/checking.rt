@@ -1,10 +1,12 @@
 //! Cases of `check` and `compare`.
 use crate::edits::edited;
 use crate::full::Full;
+use crate::reading::settings_in;
 use crate::rows::settled;
 use cases_words::{Actor, Case, unbuffered};
 use checks::{CheckOptions, check, compare};
 use faults::{Fault, TextFile, read_text, report_at};
+use gate::digest;
 use nat_types::GatewayId;
 use std::io::Write;
 use std::{fs, mem};
@@ -86,6 +88,16 @@ fn tell(rt: &HostRuntime, options: &str, case: &mut Case) {
     case.end();
 }
 
+/// The digest of the edited sample, where it has settings.
+fn tell_digest(text: &str, case: &mut Case) {
+    if let Ok(settings) = settings_in(case.alloc, text) {
+        let digest = digest(&settings);
+        drop(settings);
+        case.hex("  digest ", &digest.to_be_bytes());
+        case.end();
+    }
+}
+
 /// The cases of `check` and `compare`.
 #[derive(Drop)]
 pub(crate) struct Checks<'a> {
@@ -102,5 +114,8 @@ impl Actor for Checks<'_> {
         let text = all_edited(self.sample, case);
         case.keep(fs::write(&self.rt, EDITED, text.as_bytes()));
         tell(&self.rt, options.as_str(), case);
+        if options.as_str() == "compare" {
+            tell_digest(text.as_str(), case);
+        }
     }
 }

@@ -1,7 +1,8 @@
 //! The words of a line about a box's records, and what they mean.
 
 use cases_words::Case;
-use journal::{Cause, Entry, Format, Origin};
+use journal::{Cause, Entry, Format, Mapping, Origin, PeerState};
+use nat_types::NoteKind;
 use vrrp_states::State;
 
 const FORMATS: [(&str, Format); 2] = [("text", Format::Text), ("pairs", Format::Pairs)];
@@ -17,6 +18,12 @@ const ROLES: [(&str, State); 3] = [
     ("Initialize", State::Initialize),
     ("Backup", State::Backup),
     ("Active", State::Active),
+];
+
+const PEER_STATES: [(&str, PeerState); 3] = [
+    ("silent", PeerState::Silent),
+    ("not-serving", PeerState::NotServing),
+    ("serving", PeerState::Serving),
 ];
 
 /// Returns the format of records that the next word names.
@@ -64,9 +71,26 @@ pub(crate) fn entry_in(case: &mut Case) -> Entry {
         "fails" => Entry::Fails(origin_in(case)),
         "works" => Entry::Works(origin_in(case)),
         "too-long" => Entry::TooLong(origin_in(case)),
+        "no-table" => Entry::NoTable(case.pick(&PEER_STATES, PeerState::Silent)),
+        "mapping-begins" => Entry::MappingBegins(Mapping::of(&case.pair())),
+        "mapping-ends" => Entry::MappingEnds(Mapping::of(&case.pair())),
         _ => {
             case.fault();
             Entry::Away
+        }
+    }
+}
+
+/// Returns what a gateway notes: `used`, `released` or `retaken` and a pair, or `synced`.
+pub(crate) fn note_in(case: &mut Case) -> NoteKind {
+    match case.word() {
+        "used" => NoteKind::Used(case.pair()),
+        "released" => NoteKind::Released(case.pair()),
+        "retaken" => NoteKind::Retaken(case.pair()),
+        "synced" => NoteKind::Synced,
+        _ => {
+            case.fault();
+            NoteKind::Crashed
         }
     }
 }

@@ -1,12 +1,14 @@
 //! The records that a box writes for its operator.
 
-use crate::entries::{cause_in, entry_in, format_in, origin_in};
+use crate::entries::{cause_in, entry_in, format_in, note_in, origin_in};
 use crate::words::writer_state_in;
 use crate::writers::{Printer, WriterState};
 use cases_words::{Actor, Case};
-use journal::{EventLog, Sink, filter};
+use journal::{EventLog, Mappings, Sink, filter};
 use log::filter::FilteredLog;
+use nat_types::{GatewayId, Note};
 use std::cell::Cell;
+use std::slice;
 
 type PrintedLog<'a> = EventLog<FilteredLog<Sink<Printer<'a>>>>;
 
@@ -28,15 +30,16 @@ impl<'a> Journals<'a> {
         }
     }
 
-    /// Begins a new log, by the option's filter or else the environment's.
+    /// Begins a new log, by the option's filter or else the environment's; with `mapped` after them one of mappings too.
     fn open(&mut self, case: &mut Case) {
         let format = format_in(case);
         let (option, environment) = (case.name(), case.name());
         let text = given(option.as_str()).or(given(environment.as_str()));
+        let mappings = mappings_in(case);
         self.log = match filter(case.alloc, text.unwrap_or("")) {
             Ok(filter) => {
                 let sink = Sink::new(Printer::new(self.rt, self.state), format);
-                Some(EventLog::new(FilteredLog::new(sink, filter)))
+                Some(EventLog::new(FilteredLog::new(sink, filter), mappings))
             }
             Err(fault) => {
                 case.put(fault);
@@ -50,7 +53,7 @@ impl<'a> Journals<'a> {
 impl Actor for Journals<'_> {
     /// Does what a line says:
     ///
-    /// - `open FORMAT OPTION ENVIRONMENT`: begins a new log
+    /// - `open FORMAT OPTION ENVIRONMENT`, and maybe `mapped` after it: begins a new log, which tells mappings
     /// - `paper room`, `paper none`, `paper fails`: from now on a write takes its line; would wait;
     ///   fails
     /// - all else is done on the log (`act_on`)
@@ -73,11 +76,23 @@ fn given(word: &str) -> Option<&str> {
     if word == "-" { None } else { Some(word) }
 }
 
+/// Returns what a log needs that tells mappings, where `mapped` is the next word.
+fn mappings_in(case: &mut Case) -> Option<Mappings> {
+    if case.left() == 0 {
+        return None;
+    }
+    if case.word() != "mapped" {
+        case.fault();
+    }
+    Mappings::new(case.alloc).ok()
+}
+
 /// Does what a line says on the log:
 ///
 /// - `turn TIME`: the clock is at this time
 /// - `lose TIME ORIGIN CAUSE COUNT`: COUNT events were dropped
 /// - `tell TIME ENTRY..`: a change of the box
+/// - `note TIME NOTE..`: the gateway notes something
 /// - `end TIME`: the box ends at this time
 /// - `flush`: writes how many lines were left out
 fn act_on(log: &mut PrintedLog<'_>, case: &mut Case) {
@@ -89,6 +104,7 @@ fn act_on(log: &mut PrintedLog<'_>, case: &mut Case) {
             let time = case.number();
             log.write(time, entry_in(case));
         }
+        "note" => note(log, case),
         "end" => log.finish(case.number()),
         "flush" => log.flush(),
         _ => case.fault(),
@@ -102,4 +118,14 @@ fn lose(log: &mut PrintedLog<'_>, case: &mut Case) {
     for _ in 0..case.times() {
         log.write_dropped(time, origin, cause);
     }
+}
+
+/// Gives the log a note of gateway 0.
+fn note(log: &mut PrintedLog<'_>, case: &mut Case) {
+    let note = Note {
+        by: GatewayId::Zero,
+        at: case.number(),
+        what: note_in(case),
+    };
+    log.write_mappings(slice::from_ref(&note));
 }

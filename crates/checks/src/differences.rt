@@ -123,21 +123,34 @@ pub fn differing_keys(
     Ok(found)
 }
 
-/// Whether the two boxes may have different values at a key: only one of them reads it, or the value is one of the
-/// machine on which a box runs. The values at all other keys must be the same on both boxes; those are exactly the keys
-/// in the digest of `gate/src/digests.rt`.
+/// Whether the two boxes may have different values at a key for the minutes of a change box by box: each box does as its
+/// own value says, and no pair stands for another flow. The values at all other keys must agree on both boxes; those are
+/// exactly the keys in the digest of `gate/src/digests.rt`.
 pub fn may_differ(key: Key) -> bool {
     match key.name {
+        Some(Name::Zero | Name::One | Name::Virtual | Name::Prefix | Name::Vrid) => false,
         Some(
-            Name::Wire
+            Name::HostLimit
+            | Name::Wire
+            | Name::Router
+            | Name::Mtu
+            | Name::Echo
+            | Name::Errors
+            | Name::InsideIp
+            | Name::InsideMac
+            | Name::OutsideIp
+            | Name::OutsideMac
             | Name::Priority
             | Name::Interval
             | Name::Preempt
             | Name::BootFile
             | Name::Link
             | Name::InsidePort
-            | Name::OutsidePort,
-        ) => true,
-        _ => false,
+            | Name::OutsidePort
+            | Name::Side
+            | Name::Ip
+            | Name::Mac,
+        )
+        | None => true,
     }
 }

@@ -77,10 +77,11 @@ with_rounds a = with_rule (with_rule (with_rule a rounds_rule) (flag_rule (codes
 abbrev pub with_ways : App → App
 with_ways a = with_rule (with_rule (with_rule a (way_rule (codes "inside"))) (way_rule (codes "outside"))) (way_rule (codes "link"))
 
--- `[--no-track] [--log FILTER] [--log-pairs]`
+-- `[--no-track] [--log FILTER] [--log-pairs] [--log-mappings]`
 abbrev pub with_log : App → App
 with_log a =
-    with_rule (with_rule (with_rule a (flag_rule (codes "no-track"))) (text_rule (codes "log"))) (flag_rule (codes "log-pairs"))
+    with_rule (with_rule (with_rule (with_rule a (flag_rule (codes "no-track"))) (text_rule (codes "log"))) (flag_rule (codes "log-pairs")))
+    (flag_rule (codes "log-mappings"))
 
 -- `[--capture FILE] [--notify descriptor:N] [--stop-on descriptor:N]`
 abbrev pub with_watch : App → App

@@ -56,6 +56,7 @@ pub record IsGate (rows : List Row) (gate : GateWords) : Type 0 where
   pub track : gate.track ≡ not (flag_of (codes "no-track") rows)
   pub log : option_map string_bytes gate.log ≡ first_of (codes "log") rows
   pub pairs : gate.pairs ≡ flag_of (codes "log-pairs") rows
+  pub mappings : gate.mappings ≡ flag_of (codes "log-mappings") rows
   pub capture : option_map string_bytes gate.capture ≡ first_of (codes "capture") rows
   pub notify : option_map string_bytes gate.notify ≡ first_of (codes "notify") rows
   pub stop_on : option_map string_bytes gate.stop_on ≡ first_of (codes "stop-on") rows

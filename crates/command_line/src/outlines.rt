@@ -174,6 +174,11 @@ static COMMANDS: [Outline<'static>; 10] = [
                 help: "Writes each record as key=value, for programs",
             },
             Argument {
+                kind: ArgumentKind::Flag,
+                name: "log-mappings",
+                help: "Writes a record of each begin and each end of a mapping",
+            },
+            Argument {
                 kind: ArgumentKind::Text,
                 name: "capture",
                 help: "A file for all that it takes and sends, in pcapng, as in --capture box0.pcapng",

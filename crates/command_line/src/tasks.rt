@@ -192,6 +192,7 @@ fn gate_words(
         found: values::flag(matches, "found"),
         track: !values::flag(matches, "no-track"),
         pairs: values::flag(matches, "log-pairs"),
+        mappings: values::flag(matches, "log-mappings"),
     })
 }
 

@@ -55,6 +55,8 @@ pub struct GateWords {
     pub log: Option<String>,
     /// Whether the log records are written as key=value pairs.
     pub pairs: bool,
+    /// Whether the begin and the end of each mapping are log records.
+    pub mappings: bool,
     /// The file for a capture of all that the gateway receives and sends, or None.
     pub capture: Option<String>,
     /// The service manager's socket, as written, or None.

@@ -103,6 +103,7 @@ fn start_of(words: &GateWords) -> Start<'_> {
         } else {
             Format::Text
         },
+        mappings: words.mappings,
         capture: words.capture.as_deref(),
         notify: words.notify.as_deref(),
         stop_on: words.stop_on.as_deref(),

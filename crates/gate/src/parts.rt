@@ -6,7 +6,7 @@ use boot_file::FileDisk;
 use captures::{CaptureFile, Reader};
 use control::{Control, ControlPath};
 use faults::{Fault, read_settings};
-use journal::{EventLog, Sink, StandardError, environment_filter, filter};
+use journal::{EventLog, Mappings, Sink, StandardError, environment_filter, filter};
 use log::filter::{Filter, FilteredLog};
 use nat_types::GatewayId;
 use settings::Settings;
@@ -63,7 +63,9 @@ impl<'a, R: Files<File = File> + Net + Eprint + Env + AllocGlobal> Parts<'a, R> 
         ))?;
         let wire = open_sockets(rt, &ways, LoopbackPorts::of(&settings, start.id), control)?;
         let sink = Sink::new(StandardError(rt), start.format);
-        let log = EventLog::new(FilteredLog::new(sink, read_filter(rt, start.log)?));
+        let filtered = FilteredLog::new(sink, read_filter(rt, start.log)?);
+        let mappings = start.mappings.then(|| Mappings::new(alloc)).transpose()?;
+        let log = EventLog::new(filtered, mappings);
         let capture = start
             .capture
             .map(|path| open_capture(rt, path))

@@ -24,6 +24,8 @@ pub struct Start<'a> {
     /// The filter of the log (`--log`); without one that of the environment.
     pub log: Option<&'a str>,
     pub format: Format,
+    /// Whether mappings are logged (`--log-mappings`).
+    pub mappings: bool,
     /// The path of the capture (`--capture`).
     pub capture: Option<&'a str>,
     /// The descriptor of the service manager (`--notify`), as `descriptor:N`.

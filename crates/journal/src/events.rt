@@ -1,8 +1,9 @@
 //! A box's log, in which a flood of events is two records a second.
 
 use crate::limiter::Limiter;
-use crate::{Cause, Entry, Journal, LeftOutPackets, Origin, TimedEntry};
+use crate::{Cause, Entry, Journal, LeftOutPackets, Mappings, Origin, TimedEntry};
 use log::{Level, Log, Metadata, Record};
+use nat_types::Note;
 
 /// The log of a box. Of the events of a second that had no effect, the first of each origin and cause is written at once; when
 /// the second has ended, one record says how many others there were. So these events are at most 168 records a second: two
@@ -11,20 +12,28 @@ use log::{Level, Log, Metadata, Record};
 pub struct EventLog<L> {
     log: L,
     limiter: Limiter,
+    /// The mappings that have begun, where mappings are logged.
+    mappings: Option<Mappings>,
 }
 
 impl<L: Journal> EventLog<L> {
-    /// Returns the log of a box that starts now, over another log.
-    pub fn new(log: L) -> EventLog<L> {
+    /// Returns the log of a box that starts now, over another log. With `mappings`, none of which has begun, mappings are logged.
+    pub fn new(log: L, mappings: Option<Mappings>) -> EventLog<L> {
         EventLog {
             log,
             limiter: Limiter::new(0),
+            mappings,
         }
     }
 
     /// Writes a record of an entry.
     pub fn write(&self, timestamp: u64, entry: Entry) {
-        let metadata = Metadata::new(entry.level(), entry.origin().target());
+        self.write_of(timestamp / 100, timestamp, entry);
+    }
+
+    /// Writes a record of an entry that is about a second.
+    fn write_of(&self, second: u64, timestamp: u64, entry: Entry) {
+        let metadata = Metadata::new(entry.level(second), entry.origin().target());
         let entry = TimedEntry { timestamp, entry };
         self.log.log(&Record::new(metadata, entry, entry, ()));
     }
@@ -34,6 +43,18 @@ impl<L: Journal> EventLog<L> {
         self.advance_to(timestamp);
         if self.limiter.count(origin, cause) {
             self.write(timestamp, Entry::First(origin, cause));
+        }
+    }
+
+    /// Writes a record for each mapping that begins or ends by a gateway's notes, if mappings are logged.
+    pub fn write_mappings(&mut self, notes: &[Note]) {
+        for note in notes {
+            let Some(mappings) = &mut self.mappings else {
+                return;
+            };
+            if let Some(entry) = mappings.entry_of(&note.what) {
+                self.write(note.at, entry);
+            }
         }
     }
 
@@ -74,7 +95,8 @@ impl<L: Journal> EventLog<L> {
             for cause in Cause::ALL {
                 let others = limiter.others(origin, cause);
                 if others > 0 {
-                    self.write(timestamp, Entry::Others(origin, cause, others));
+                    let entry = Entry::Others(origin, cause, others);
+                    self.write_of(limiter.second, timestamp, entry);
                 }
             }
         }

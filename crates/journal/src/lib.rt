@@ -9,11 +9,13 @@ mod events;
 mod filters;
 mod limiter;
 mod lines;
+mod mappings;
 mod records;
 mod sink;
 
-pub use entries::{Cause, Entry, Origin, reason_name, role_name};
+pub use entries::{Cause, Entry, Origin, PeerState, reason_name, role_name};
 pub use events::EventLog;
 pub use filters::{FILTER_VARIABLE, FilterFault, environment_filter, filter};
+pub use mappings::{Mapping, Mappings};
 pub use records::{LeftOutPackets, TimedEntry};
 pub use sink::{Format, Journal, LineWriter, Sink, StandardError};

@@ -11,7 +11,7 @@ const COUNTS: usize = 84;
 #[derive(Drop)]
 pub(crate) struct Limiter {
     /// Whole seconds since the box's start.
-    second: u64,
+    pub(crate) second: u64,
     counts: [u64; COUNTS],
 }
 

@@ -16,9 +16,9 @@ const STDERR: i32 = 2;
 /// The form of a record's line.
 #[derive(Clone, Copy, Debug, PartialEq, Eq)]
 pub enum Format {
-    /// For people: `[WARN  natpair::link] 250 dropped 16 BadDatagram`.
+    /// For people: `[WARN  natpair::link] 450 dropped 16 BadDatagram`.
     Text,
-    /// For programs: `level=WARN target=natpair::link at=250 event=dropped number=16 reason=BadDatagram`.
+    /// For programs: `level=WARN target=natpair::link at=450 event=dropped number=16 reason=BadDatagram`.
     Pairs,
 }
 

@@ -4,6 +4,7 @@
 mod changes;
 mod gateway_reports;
 mod messages;
+mod missing_tables;
 mod outages;
 mod replies;
 mod rounds;

@@ -3,6 +3,7 @@ ghost use Rattle.rounds.specs.Runs.{HasTurned, IsTurn, RunsTo};
 
 use crate::gateway_reports::{sides_of, update_sides};
 use crate::messages::Request;
+use crate::missing_tables::MissingTable;
 use crate::outages::Outages;
 use crate::replies::answer_request;
 use crate::steps::{take_event, take_message};
@@ -88,6 +89,7 @@ pub(crate) struct RoundState {
     pub(crate) counters: Counters,
     pub(crate) sides: Sides,
     outages: Outages,
+    missing_table: MissingTable,
     /// The request that is answered at the round's end.
     pub(crate) request: Option<Request>,
     /// Whether this round is the last one.
@@ -101,6 +103,7 @@ impl RoundState {
             counters: Counters::new(),
             sides: sides_of(gateway),
             outages: Outages::none(),
+            missing_table: MissingTable::new(),
             request: None,
             is_ending: false,
         }
@@ -198,6 +201,7 @@ fn round<W: Wire, C: CentisecondClock, L: Journal>(
     answer_request(gateway, wire, options.identity, buffer, state, log);
     let now = gateway.moment();
     state.outages.log(wire, now, log);
+    state.missing_table.log(gateway, log);
     log.advance_to(now);
 }
 

@@ -72,6 +72,7 @@ pub(crate) fn take_event<W: Wire, L: Journal>(
             .count(origin_of(&event), Counter::Lost(cause));
     }
     log_step(log, &event, cause, &before, &View::of(gateway));
+    log.write_mappings(state.out.notes());
     outcome.is_ok()
 }
 

@@ -140,7 +140,7 @@ pub(crate) fn address_of(text: &str) -> Option<Ip>
 
 /// Returns the Ethernet address of six pairs of hexadecimal digits.
 fn mac_in(pairs: [&str; 6]) -> Option<Mac>
-    ensures { option_map (λ mac. mac.0) result ≡ mac_in (map (λ p. p.now) pairs) }
+    ensures { option_map (λ mac. mac.0) result ≡ mac_in (map (λ p. p.now) pairs.entry) }
 {
     let [a, b, c, d, e, f] = pairs;
     let Some(a) = pair(a) else { return None };
