@@ -1,4 +1,5 @@
 //! What two values that must differ have in common, and why a value can't work, in words.
+ghost use Rattle.std.specs.Prelude.{◌≤◌};
 
 use crate::explanations::Source;
 use crate::ids::overlap;
