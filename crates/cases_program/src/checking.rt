@@ -5,7 +5,7 @@ use crate::reading::settings_in;
 use crate::rows::settled;
 use cases_words::{Actor, Case, unbuffered};
 use checks::{CheckOptions, check, compare};
-use faults::{Fault, read_text, report_at};
+use faults::{Fault, TextFile, read_text, report_at};
 use gate::digest;
 use nat_types::GatewayId;
 use std::io::Write;
@@ -69,7 +69,8 @@ fn say<O: Write>(
                 Ok(text) => text,
                 Err(fault) => return Ok(report_at(rt.alloc(), &fault, EDITED, errors)),
             };
-            check(rt, text.as_str(), &check_options(options), output)
+            let file = TextFile::new(EDITED, text.as_str());
+            check(rt, file, &check_options(options), output)
         }
     }
 }

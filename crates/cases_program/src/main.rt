@@ -16,6 +16,7 @@ mod full;
 mod lines;
 mod listening;
 mod lists;
+mod made_faults;
 mod memories;
 mod memory_blocks;
 mod narrow;

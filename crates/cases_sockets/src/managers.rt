@@ -11,7 +11,8 @@ use std::os::unix::net::UnixStream;
 
 /// Reads a text as a service manager's descriptor, which isn't open, and prints its number, or `none`.
 pub(crate) fn read_manager(case: &mut Case) {
-    match ServiceManager::read(case.word()) {
+    let alloc = case.alloc;
+    match ServiceManager::read(alloc, case.word()) {
         Err(Fault::ManagerNotOpen(number)) => case.say("  descriptor ", number),
         Err(_) => case.put("  none"),
         Ok(_) => case.fault(),

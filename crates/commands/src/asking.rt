@@ -1,6 +1,6 @@
 //! The commands that ask a running box: `status` and `pairs`.
 
-use crate::words::{MAX_REPLY, ask, control_path};
+use crate::words::{MAX_REPLY, ask, control_path, other_reply};
 use command_line::{PairsWords, StatusFormat, StatusWords};
 use control::{ControlPath, Reply, Word};
 use faults::Fault;
@@ -77,7 +77,7 @@ fn check_synced<R: Net + AllocGlobal>(rt: &R, path: &ControlPath) -> Result<(), 
 fn ask_report<R: Net + AllocGlobal>(rt: &R, path: &ControlPath) -> Result<Report, Fault> {
     match ask(rt, path, Word::Status, &mut [0; MAX_REPLY])? {
         Reply::Report(bytes) => Ok(Report::read(bytes)?),
-        _ => Err(Fault::no_control(rt.alloc(), path)),
+        _ => Err(other_reply(rt, path)),
     }
 }
 
@@ -115,6 +115,6 @@ fn ask_page<R: Net + AllocGlobal>(
 ) -> Result<Page, Fault> {
     match ask(rt, path, Word::Pairs(after), &mut [0; MAX_REPLY])? {
         Reply::Page(bytes) => Ok(Page::read(bytes)?),
-        _ => Err(Fault::no_control(rt.alloc(), path)),
+        _ => Err(other_reply(rt, path)),
     }
 }

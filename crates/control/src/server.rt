@@ -36,7 +36,7 @@ pub struct Control {
 
 impl From<AllocError> for NoSocket {
     fn from(_: AllocError) -> NoSocket {
-        NoSocket
+        NoSocket::Failed(ErrorKind::OutOfMemory)
     }
 }
 

@@ -41,7 +41,10 @@ pub fn run<
         log,
         capture,
     } = Parts::open(rt, start)?;
-    let (identity, mut gateway) = begin(rt, &mut disk, &settings, start.id, start.found)?;
+    let boot_file = settings.gateway(start.id).boot_file.as_str();
+    let (identity, mut gateway) = begin(rt, &mut disk, &settings, start.id, start.found).map_err(
+        |fault| fault.of_boot_file(rt, boot_file),
+    )?;
     writeln!(output, "boot {}", identity.boot)?;
     output.flush()?;
     log.write(0, Entry::Boot(identity.boot));

@@ -47,6 +47,20 @@ const INTERVALS: Limits = Limits { low: 1, high: 4095 };
 /// The advertisement interval where the key is left out, in centiseconds: a second.
 const DEFAULT_INTERVAL: u16 = 100;
 
+/// Returns the limits of a key's number, or None where the key has no number.
+pub(crate) fn limits_of(name: Name) -> Option<Limits> {
+    match name {
+        Name::HostLimit => Some(HOST_LIMITS),
+        Name::Prefix => Some(PREFIX_LENGTHS),
+        Name::Vrid => Some(VIRTUAL_ROUTERS),
+        Name::Mtu => Some(MTUS),
+        Name::Priority => Some(PRIORITIES),
+        Name::Interval => Some(INTERVALS),
+        Name::Wire | Name::Link | Name::InsidePort | Name::OutsidePort => Some(LOOPBACK_PORTS),
+        _ => None,
+    }
+}
+
 /// Returns the most pairs of one inside address: 1 to 65535, or None where the key is left out.
 pub(crate) fn host_limit(document: &Table) -> Result<Option<u16>, Key>
     ensures ok { IfOk result

@@ -5,7 +5,7 @@ use captures::Interface;
 use faults::Fault;
 use nat_types::{GatewayId, Side};
 use settings::{GatewaySettings, Settings};
-use settings_file::{SettingFault, port_clash_of_both};
+use settings_file::port_clash_of_both;
 use std::io::ErrorKind;
 use std::net::{Ipv4Addr, Net, SocketAddr, SocketAddrV4, UdpSocket};
 use std::rt::Clock;
@@ -29,12 +29,12 @@ impl EchoSocket {
     ///
     /// # Errors
     ///
-    /// `NoPort`.
+    /// `NoSocket`.
     fn open<R: Net>(rt: &R, port: u16) -> Result<EchoSocket, Fault> {
         let address = SocketAddr::V4(SocketAddrV4::new(Ipv4Addr::LOCALHOST, port));
         match UdpSocket::bind(rt, address) {
             Ok(socket) => Ok(EchoSocket { socket, address }),
-            Err(_) => Err(Fault::NoPort(port)),
+            Err(error) => Err(Fault::NoSocket(address, error.kind())),
         }
     }
 
@@ -136,11 +136,11 @@ impl<'a, R: Net> Loopback<'a, R> {
     ///
     /// # Errors
     ///
-    /// `CantWork` with the first key whose port another key before it has; `NoPort` of the first port that can't be
+    /// `PortClash` with the first key whose port another key before it has; `NoSocket` of the first port that can't be
     /// bound.
     pub fn open(rt: &'a R, settings: &Settings) -> Result<Loopback<'a, R>, Fault> {
-        if let Some(key) = port_clash_of_both(settings) {
-            return Err(Fault::Setting(SettingFault::CantWork(key)));
+        if let Some(clash) = port_clash_of_both(settings) {
+            return Err(Fault::PortClash(clash));
         }
         Ok(Loopback {
             rt,

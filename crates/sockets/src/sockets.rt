@@ -9,7 +9,7 @@ use mio::{Events, Poll, Token};
 use nat_types::{GatewayId, Side};
 use settings::Settings;
 use std::alloc::AllocError;
-use std::io;
+use std::io::{self, ErrorKind};
 use std::net::Net;
 use std::time::Duration;
 use thiserror::Error;
@@ -34,7 +34,7 @@ const MAX_EVENTS: usize = 8;
 pub enum SocketFault {
     /// A port can't be bound, or a socket or descriptor can't be polled.
     #[error("socket 1 NoSocket")]
-    NoSocket,
+    NoSocket(ErrorKind),
     #[error("memory 1 NoMemory")]
     NoMemory,
 }
@@ -46,8 +46,8 @@ impl From<AllocError> for SocketFault {
 }
 
 impl From<io::Error> for SocketFault {
-    fn from(_: io::Error) -> SocketFault {
-        SocketFault::NoSocket
+    fn from(error: io::Error) -> SocketFault {
+        SocketFault::NoSocket(error.kind())
     }
 }
 

@@ -3,6 +3,7 @@
 use crate::{End, Ends, LoopbackPorts, Network, Peer};
 use mio::net::UdpSocket;
 use platform::Inherited;
+use std::io::ErrorKind;
 use std::net::{Net, SocketAddr};
 use thiserror::Error;
 
@@ -84,7 +85,11 @@ impl Ways {
 }
 
 /// Returns the first of a box's own ends at which no socket can be bound, of the link, the inside and the outside.
-pub fn first_unbound<R: Net>(rt: &R, ways: &Ways, ports: LoopbackPorts) -> Option<End> {
+pub fn first_unbound<R: Net>(
+    rt: &R,
+    ways: &Ways,
+    ports: LoopbackPorts,
+) -> Option<(End, ErrorKind)> {
     let places = [
         (ways.link, ports.link),
         (ways.inside, ports.inside),
@@ -96,8 +101,8 @@ pub fn first_unbound<R: Net>(rt: &R, ways: &Ways, ports: LoopbackPorts) -> Optio
             Way::Udp(ends) | Way::Vxlan(ends, _) => ends.own,
             Way::Descriptor(_) => continue,
         };
-        if UdpSocket::bind(rt, SocketAddr::from(end)).is_err() {
-            return Some(end);
+        if let Err(error) = UdpSocket::bind(rt, SocketAddr::from(end)) {
+            return Some((end, error.kind()));
         }
     }
     None
