@@ -3,9 +3,10 @@
 use boot_file::FileFault;
 use boot_store::BootFault;
 use cases_words::Case;
-use control::{AskFault, ControlPath, NoSocket};
+use control::{AskFault, ControlPath, NoSocket, PeerOffRefusal};
 use faults::{Fault, FileRefusal, report};
 use journal::FilterFault;
+use reports::ReadFault;
 use std::alloc::Global;
 use std::io::ErrorKind;
 
@@ -32,6 +33,9 @@ fn fault_named(rt: &HostRuntime, name: &str) -> Option<Fault> {
     if let Some(fault) = boot_file_named(name) {
         return Some(Fault::boot_file(alloc, "boot0", fault));
     }
+    if let Some(refusal) = refusal_named(name) {
+        return Some(Fault::PeerOff(refusal));
+    }
     match name {
         "unread" => Some(file(alloc, FileRefusal::NoFile, ErrorKind::PermissionDenied)),
         "no-folder" => Some(file(alloc, FileRefusal::NotWritten, ErrorKind::NotADirectory)),
@@ -45,6 +49,9 @@ fn fault_named(rt: &HostRuntime, name: &str) -> Option<Fault> {
         "sockets" => Some(Fault::NoSockets(ErrorKind::NetworkUnreachable)),
         "not-synced" => Some(Fault::NotSynced),
         "no-text" => Some(Fault::filter(alloc, FilterFault::NotText)),
+        "other-version" => Some(Fault::NoReport(ReadFault::OtherVersion(9))),
+        "bad-bytes" => Some(Fault::NoReport(ReadFault::BadBytes)),
+        "words" => Some(Fault::Words),
         "no-memory" => Some(Fault::NoMemory),
         _ => None,
     }
@@ -52,6 +59,18 @@ fn fault_named(rt: &HostRuntime, name: &str) -> Option<Fault> {
 
 fn file(alloc: Global, refusal: FileRefusal, cause: ErrorKind) -> Fault {
     Fault::file(alloc, refusal, "S.toml", Some(cause))
+}
+
+/// Returns why a box refuses the word that the other one is off, by its name.
+fn refusal_named(name: &str) -> Option<PeerOffRefusal> {
+    match name {
+        "not-synced-box" => Some(PeerOffRefusal::NotSynced),
+        "no-peer" => Some(PeerOffRefusal::NoPeer),
+        "past-boot" => Some(PeerOffRefusal::PastBoot),
+        "unknown-boot" => Some(PeerOffRefusal::UnknownBoot),
+        "peer-heard" => Some(PeerOffRefusal::PeerHeard),
+        _ => None,
+    }
 }
 
 /// Returns why a control socket is of no use, by its name.

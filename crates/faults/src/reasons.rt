@@ -139,6 +139,10 @@ fn write_socket_reason<W: fmt::Write>(fault: &Fault, f: &mut Formatter<W>) -> fm
             NoSocket::OtherReply => {
                 f.write_str("  the box's answer isn't known here; is the box of another release?\n")
             }
+            NoSocket::Failed(ErrorKind::PermissionDenied) => writeln!(
+                f,
+                "  {path}: permission denied (run it as root or as the user natpair)"
+            ),
             NoSocket::Failed(cause) => {
                 let cause = Cause(*cause);
                 writeln!(f, "  {path}: {cause}")
@@ -164,9 +168,6 @@ impl Display for Cause {
     fn fmt<W: fmt::Write>(&self, f: &mut Formatter<W>) -> fmt::Result {
         match self.0 {
             ErrorKind::NotFound => f.write_str("no such file, or no folder for it"),
-            ErrorKind::PermissionDenied => {
-                f.write_str("permission denied (run it as root or as the user natpair)")
-            }
             ErrorKind::IsADirectory => f.write_str("it is a folder"),
             ErrorKind::NotADirectory => f.write_str("a part of the path is no folder"),
             ErrorKind::AddrInUse => f.write_str("something else has it"),

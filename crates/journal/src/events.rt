@@ -73,7 +73,7 @@ impl<L: Journal> EventLog<L> {
     /// Writes how many packets a capture has left out, unless there are none.
     pub fn write_left_out(&self, packets: u64) {
         if packets > 0 {
-            let metadata = Metadata::new(Level::Warn, "natpair::capture");
+            let metadata = Metadata::new(Level::Warn, Origin::Own.target());
             let left_out = LeftOutPackets { packets };
             self.log.log(&Record::new(metadata, left_out, left_out, ()));
         }

@@ -40,13 +40,31 @@ impl Display for Quoted<'_> {
                 return f.write_str("..\"");
             }
             count = count.saturating_add(1);
-            f.write_char(if is_control(character) {
-                '?'
-            } else {
-                character
-            })?;
+            f.write_char(visible(character))?;
         }
         f.write_str("\"")
+    }
+}
+
+/// A text with `?` for each control character.
+#[derive(Clone, Copy)]
+pub(crate) struct Visible<'a>(pub(crate) &'a str);
+
+impl Display for Visible<'_> {
+    fn fmt<W: fmt::Write>(&self, f: &mut Formatter<W>) -> fmt::Result {
+        for character in self.0.chars() {
+            f.write_char(visible(character))?;
+        }
+        Ok(())
+    }
+}
+
+/// Returns the character, or `?` in place of a control character.
+fn visible(character: char) -> char {
+    if is_control(character) {
+        '?'
+    } else {
+        character
     }
 }
 
