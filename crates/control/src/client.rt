@@ -3,7 +3,6 @@
 ghost use Rattle.std.specs.Prelude.{◌≤◌, IfOk, length};
 
 use crate::{ControlPath, HEARD, Reply, Word};
-use mio::net;
 use std::io::{self, ErrorKind, Read, Write};
 use std::net::Net;
 use std::os::unix::net::UnixStream;
@@ -104,7 +103,7 @@ pub fn ask<'b, R: Net>(
 /// Connects to the box that listens at a path. Where as many clients wait already as the system allows, the box doesn't
 /// answer: a blocking `connect` would wait for the box without a limit.
 fn connect<R: Net>(rt: &R, path: &ControlPath) -> Result<UnixStream, AskFault> {
-    match net::UnixStream::connect(rt, path.socket.as_str()) {
+    match mio::net::UnixStream::connect(rt, path.socket.as_str()) {
         Ok(stream) => {
             let stream = UnixStream::from(stream);
             stream.set_nonblocking(false)?;
