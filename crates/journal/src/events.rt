@@ -52,7 +52,7 @@ impl<L: Journal> EventLog<L> {
             let Some(mappings) = &mut self.mappings else {
                 return;
             };
-            if let Some(entry) = mappings.entry_of(&note.what) {
+            if let Some(entry) = mappings.take_note(&note.what) {
                 self.write(note.at, entry);
             }
         }
