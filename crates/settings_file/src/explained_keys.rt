@@ -37,9 +37,9 @@ pub(crate) fn explain_missing(
 
 /// Explains that a section lacks a key.
 fn explain_left_out(source: Source<'_>, key: Key) -> Option<String> {
-    let name = key.name?.as_str();
-    let section = key.section.as_str();
-    source.explanation(format_args!("[{section}] has no {name}"))
+    let name = key.name?;
+    let (section, text) = (key.section.as_str(), name.as_str());
+    source.explanation(format_args!("[{section}] has no {text}"))
 }
 
 /// Returns where a loopback port is left out that a command needs, as `S.toml: [gateway_0] has no link`, for the

@@ -39,11 +39,10 @@ pub struct BoxPorts {
 pub fn missing_port(settings: &Settings, id: GatewayId, on: OnLoopback) -> Option<Key>
     ensures { result ≡ missing_port settings.now id on }
 {
-    let (zero, one) = match id {
-        GatewayId::Zero => (on, OnLoopback::NOWHERE),
-        GatewayId::One => (OnLoopback::NOWHERE, on),
-    };
-    first_failing(&port_rows(settings, zero, one))
+    match id {
+        GatewayId::Zero => first_failing(&port_rows(settings, on, OnLoopback::NOWHERE)),
+        GatewayId::One => first_failing(&port_rows(settings, OnLoopback::NOWHERE, on)),
+    }
 }
 
 /// Returns the loopback ports of both boxes, for a machine with all their places on loopback.
