@@ -43,7 +43,7 @@ fn check_options(options: &str) -> CheckOptions<'_> {
 }
 
 /// Returns the sample with all edits, which are pairs of an old line and its new text.
-fn all_edited(sample: &str, case: &mut Case) -> String {
+pub(crate) fn all_edited(sample: &str, case: &mut Case) -> String {
     let copied = String::from_str(case.alloc, sample);
     let mut text = case.or_empty(copied);
     for _ in 0..case.left() / 2 {

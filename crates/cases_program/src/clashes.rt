@@ -22,7 +22,7 @@ fn say_clashes(settings: &Settings, on: OnLoopback, case: &mut Case) {
 }
 
 /// Returns the places that are on loopback: inside for `i`, outside for `o`, link for `l`.
-fn places_in(places: &str) -> OnLoopback {
+pub(crate) fn places_in(places: &str) -> OnLoopback {
     OnLoopback {
         inside: places.contains('i'),
         outside: places.contains('o'),

@@ -20,6 +20,7 @@ mod made_faults;
 mod memories;
 mod memory_blocks;
 mod narrow;
+mod ports;
 mod reading;
 mod rows;
 mod sample;

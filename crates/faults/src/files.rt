@@ -5,7 +5,7 @@ use boot_file::FileFault;
 use boot_store::BootFault;
 use control::{AskFault, ControlPath, NoSocket};
 use settings::Settings;
-use settings_file::{Explainer, SettingFault};
+use settings_file::{Explainer, Key, SettingFault, explain_missing_port};
 use std::alloc::Global;
 use std::fs::{self, File, Files};
 use std::io::{self, ErrorKind, Read};
@@ -120,6 +120,14 @@ impl Fault {
         match String::from_str(alloc, path) {
             Ok(path) => Fault::LongSettings(path),
             Err(_) => Fault::NoMemory,
+        }
+    }
+
+    /// Returns the fault of a loopback port that a command needs and that the settings in the file at a path leave out.
+    pub fn missing_port(alloc: Global, path: &str, key: Key) -> Fault {
+        Fault::Setting {
+            fault: SettingFault::Missing(key),
+            why: explain_missing_port(alloc, path, key),
         }
     }
 

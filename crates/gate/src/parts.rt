@@ -8,10 +8,10 @@ use control::{Control, ControlPath};
 use faults::{Fault, read_settings};
 use journal::{EventLog, Mappings, Sink, StandardError, environment_filter, filter};
 use log::filter::{Filter, FilteredLog};
-use nat_types::GatewayId;
 use settings::Settings;
-use settings_file::{OnLoopback, port_clash};
+use settings_file::{OnLoopback, missing_port, port_clash};
 use sockets::{CONTROL_TOKEN, LoopbackPorts, SocketFault, Sockets, Way, Ways, first_unbound};
+use std::alloc::Global;
 use std::fs::{File, Files};
 use std::net::{Net, SocketAddr};
 use std::rt::Env;
@@ -54,7 +54,7 @@ impl<'a, R: Files<File = File> + Net + Eprint + Env + AllocGlobal> Parts<'a, R> 
             .stop_on
             .map(|text| StopDescriptor::read(alloc, text))
             .transpose()?;
-        check_ports(&settings, start.id, &ways)?;
+        check_ports(alloc, start, &settings, &ways)?;
         let file = settings.gateway(start.id).boot_file.as_str();
         let path = ControlPath::beside(alloc, file)?;
         let disk = boot_file::open(rt, file).map_err(|why| Fault::boot_file(alloc, file, why))?;
@@ -82,18 +82,26 @@ impl<'a, R: Files<File = File> + Net + Eprint + Env + AllocGlobal> Parts<'a, R> 
     }
 }
 
-/// Checks that no two of the ports that a box has on the loopback address are the same.
+/// Checks that the ports that a box needs on the loopback address are there, and that no two of its own are the same.
 ///
 /// # Errors
 ///
-/// The setting with a port that an earlier one has, too.
-fn check_ports(settings: &Settings, id: GatewayId, ways: &Ways) -> Result<(), Fault> {
+/// The first setting of a port that is left out; else that with a port that an earlier one has, too.
+fn check_ports(
+    alloc: Global,
+    start: &Start<'_>,
+    settings: &Settings,
+    ways: &Ways,
+) -> Result<(), Fault> {
     let on = OnLoopback {
         inside: ways.inside == Way::Loopback,
         outside: ways.outside == Way::Loopback,
         link: ways.link == Way::Loopback,
     };
-    match port_clash(settings, id, on) {
+    if let Some(key) = missing_port(settings, start.id, on) {
+        return Err(Fault::missing_port(alloc, start.settings, key));
+    }
+    match port_clash(settings, start.id, on) {
         Some(clash) => Err(Fault::PortClash(clash)),
         None => Ok(()),
     }

@@ -24,10 +24,10 @@ use std::rt::{Clock, Env};
 ///
 /// # Errors
 ///
-/// The first fault of: the settings, the ways, their descriptors, the service manager, the descriptor to stop on, clashing ports, the path of the control
-/// socket, the boot file and its lock, the control socket, the other sockets, the filter of the log, the file of the capture,
-/// the random keys, the next boot number, memory for a gateway, printing the boot number, the head of the capture, printing
-/// the end.
+/// The first fault of: the settings, the ways, their descriptors, the service manager, the descriptor to stop on,
+/// loopback ports that are left out, clashing ports, the path of the control socket, the boot file and its lock, the
+/// control socket, the other sockets, the filter of the log, the file of the capture, the random keys, the next boot
+/// number, memory for a gateway, printing the boot number, the head of the capture, printing the end.
 pub fn run<
     R: Files<File = File> + Net + Clock + RandomSource + Eprint + Env + Input + AllocGlobal,
     O: Write,

@@ -1,18 +1,10 @@
 //! Loopback ports that two places of the same machine can't both bind.
 
-use crate::{Key, Name, Section};
+use crate::{Key, Name, OnLoopback, Section};
 use nat_types::GatewayId;
 use settings::Settings;
 use std::alloc::AllocError;
 use std::fmt;
-
-/// The places of a box that are on loopback sockets.
-#[derive(Clone, Copy)]
-pub struct OnLoopback {
-    pub inside: bool,
-    pub outside: bool,
-    pub link: bool,
-}
 
 /// A key whose loopback port an earlier key has too, in the order of the text.
 #[derive(Clone, Copy)]
@@ -37,7 +29,7 @@ impl fmt::Debug for PortClash {
     }
 }
 
-/// A key of a port, and the port, or None where its place isn't on loopback.
+/// A key of a port, and the port, or None where it is left out or its place isn't on loopback.
 type Row = (Key, Option<u16>);
 
 /// Returns the first key, in the order of the text, whose loopback port an earlier key has too, among the ports that a
@@ -84,10 +76,10 @@ pub fn add_port_clashes(settings: &Settings, found: &mut Vec<Key>) -> Result<(),
     Ok(())
 }
 
-fn row(section: Section, name: Name, port: u16, on_loopback: bool) -> Row {
+fn row(section: Section, name: Name, port: Option<u16>, on_loopback: bool) -> Row {
     let key = Key::new(section, name);
     if on_loopback {
-        (key, Some(port))
+        (key, port)
     } else {
         (key, None)
     }

@@ -6,6 +6,7 @@ use crate::neighbour_cursor::{NeighbourCheck, NeighbourCursor};
 use crate::shown::Shown;
 use crate::unknown::{keys_of, section_named};
 use crate::{Key, Name, Section, neighbours};
+use std::alloc::Global;
 use std::fmt::{self, Display, Formatter};
 use toml::Table;
 
@@ -26,14 +27,25 @@ pub(crate) fn explain_missing(
     let section = key.section.as_str();
     match entry(document, section) {
         None => source.explanation(format_args!("there is no section [{section}]")),
-        Some(value) if value.is_table() => {
-            source.explanation(format_args!("[{section}] has no {text}"))
-        }
+        Some(value) if value.is_table() => explain_left_out(source, key),
         Some(value) => {
             let value = Shown(value);
             source.explanation(format_args!("{section} is {value}; a section, [{section}]"))
         }
     }
+}
+
+/// Explains that a section lacks a key.
+fn explain_left_out(source: Source<'_>, key: Key) -> Option<String> {
+    let name = key.name?;
+    let (section, text) = (key.section.as_str(), name.as_str());
+    source.explanation(format_args!("[{section}] has no {text}"))
+}
+
+/// Returns where a loopback port is left out that a command needs, as `S.toml: [gateway_0] has no link`, for the
+/// settings of the file at a path. Returns None out of memory.
+pub fn explain_missing_port(alloc: Global, path: &str, key: Key) -> Option<String> {
+    explain_left_out(Source { alloc, path }, key)
 }
 
 /// Explains the path of a key that settings don't have.

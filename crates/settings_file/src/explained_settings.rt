@@ -44,7 +44,11 @@ pub(crate) fn explain_shared(source: Source<'_>, values: &Values) -> Option<Stri
     let ports = ports_of(zero, &values.zero);
     explain_equal(source, &ips, &other_ips)
         .or(explain_equal(source, &macs, &macs_of(one, &values.one)))
-        .or(explain_equal(source, &ports, &ports_of(one, &values.one)))
+        .or(explain_equal_ports(
+            source,
+            &ports,
+            &ports_of(one, &values.one),
+        ))
         .or(explain_equal(source, &ips, &virtual_ips))
         .or(explain_equal(source, &other_ips, &virtual_ips))
 }
@@ -58,6 +62,20 @@ fn explain_equal<T: PartialEq + Copy + Display + Drop>(
     for (key, value) in values {
         if let Some(other) = key_of(others, *value) {
             return source.explanation(format_args!("{key} and {other} are both {value}"));
+        }
+    }
+    None
+}
+
+/// Explains that a loopback port of one list stands in another too: the first one.
+fn explain_equal_ports(
+    source: Source<'_>,
+    ports: &[(Key, Option<u16>)],
+    others: &[(Key, Option<u16>)],
+) -> Option<String> {
+    for (key, port) in ports {
+        if let (Some(port), Some(other)) = (*port, key_of(others, *port)) {
+            return source.explanation(format_args!("{key} and {other} are both {port}"));
         }
     }
     None
@@ -90,7 +108,7 @@ fn macs_of(section: Section, gateway: &GatewaySettings) -> [(Key, Mac); 2] {
 }
 
 /// Returns the loopback ports of a gateway.
-fn ports_of(section: Section, gateway: &GatewaySettings) -> [(Key, u16); 3] {
+fn ports_of(section: Section, gateway: &GatewaySettings) -> [(Key, Option<u16>); 3] {
     [
         (Key::new(section, Name::Link), gateway.link),
         (Key::new(section, Name::InsidePort), gateway.inside_port),

@@ -95,15 +95,15 @@ pub(crate) fn virtual_router(document: &Table, section: Section) -> Result<u8, K
     Ok(required_number(document, section, Name::Vrid, VIRTUAL_ROUTERS)? as u8)
 }
 
-/// Returns a loopback port: 1 to 65535.
-pub(crate) fn port(document: &Table, section: Section, name: Name) -> Result<u16, Key>
+/// Returns a loopback port: 1 to 65535, or None where the key is left out.
+pub(crate) fn port(document: &Table, section: Section, name: Name) -> Result<Option<u16>, Key>
     ensures ok { IfOk result
-        (λ n. number_at 1 65535 (table_view document.now) section name ≡ Some n) }
-    ensures low { IfOk result (λ n. 1 ≤ n) }
+        (λ found. optional_at 1 65535 (table_view document.now) section name ≡ Some found) }
+    ensures low { IfOk result (λ found. ForSome found (λ n. 1 ≤ n)) }
     ensures err { IfErr result
-        (IsBadAt section name (number_at 1 65535 (table_view document.now) section name)) }
+        (IsBadAt section name (optional_at 1 65535 (table_view document.now) section name)) }
 {
-    required_number(document, section, name, LOOPBACK_PORTS)
+    optional_number(document, section, name, LOOPBACK_PORTS)
 }
 
 /// Returns the bytes of the longest packet that is sent on a network: 576 to 1500; the default is 1500.
