@@ -40,7 +40,7 @@ impl Display for Quoted<'_> {
                 return f.write_str("..\"");
             }
             count = count.saturating_add(1);
-            f.write_char(visible(character))?;
+            f.write_char(shown_character(character))?;
         }
         f.write_str("\"")
     }
@@ -53,14 +53,14 @@ pub(crate) struct Visible<'a>(pub(crate) &'a str);
 impl Display for Visible<'_> {
     fn fmt<W: fmt::Write>(&self, f: &mut Formatter<W>) -> fmt::Result {
         for character in self.0.chars() {
-            f.write_char(visible(character))?;
+            f.write_char(shown_character(character))?;
         }
         Ok(())
     }
 }
 
 /// Returns the character, or `?` in place of a control character.
-fn visible(character: char) -> char {
+fn shown_character(character: char) -> char {
     if is_control(character) {
         '?'
     } else {
