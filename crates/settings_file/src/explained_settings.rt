@@ -44,11 +44,7 @@ pub(crate) fn explain_shared(source: Source<'_>, values: &Values) -> Option<Stri
     let ports = ports_of(zero, &values.zero);
     explain_equal(source, &ips, &other_ips)
         .or(explain_equal(source, &macs, &macs_of(one, &values.one)))
-        .or(explain_equal_ports(
-            source,
-            &ports,
-            &ports_of(one, &values.one),
-        ))
+        .or(explain_equal_ports(source, &ports, &ports_of(one, &values.one)))
         .or(explain_equal(source, &ips, &virtual_ips))
         .or(explain_equal(source, &other_ips, &virtual_ips))
 }

@@ -155,7 +155,9 @@ fn places_with_ports(settings: &Settings) -> OnLoopback {
     } = settings;
     OnLoopback {
         inside: inside.wire.is_some() || zero.inside_port.is_some() || one.inside_port.is_some(),
-        outside: outside.wire.is_some() || zero.outside_port.is_some() || one.outside_port.is_some(),
+        outside: outside.wire.is_some()
+            || zero.outside_port.is_some()
+            || one.outside_port.is_some(),
         link: zero.link.is_some() || one.link.is_some(),
     }
 }
