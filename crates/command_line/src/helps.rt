@@ -11,33 +11,43 @@ use std::alloc::{AllocError, Global};
 ///
 /// That of a COMMAND that isn't one; `NoMemory`.
 pub fn help(alloc: Global, words: &[String]) -> Result<Option<String>, LineFault> {
-    let [program, word, rest @ ..] = words else {
-        return Ok(None);
-    };
-    if word.as_str() != "help" || rest.len() > 1 {
+    if !asks_help(words) {
         return Ok(None);
     }
-    let asked = asking_help(alloc, program.as_str(), rest)?;
+    let asked = asking_help(alloc, words)?;
     match command(alloc, asked.as_slice()) {
-        Err(LineFault::Refused(error)) if error.kind() == ErrorKind::DisplayHelp => {
-            Ok(Some(format!(in alloc; "{error}")?))
-        }
-        Err(fault) => Err(fault),
         Ok(_) => Ok(None),
+        Err(fault) => help_in(alloc, fault),
     }
 }
 
-/// Returns the words that ask for the help of the program, or of a command.
-fn asking_help(
-    alloc: Global,
-    program: &str,
-    command: &[String],
-) -> Result<Vec<String>, AllocError> {
-    let mut words = Vec::new(alloc);
-    words.push(String::from_str(alloc, program)?)?;
-    for name in command {
-        words.push(String::from_str(alloc, name.as_str())?)?;
+/// Whether the words are `help` or `help COMMAND`, behind the program's name.
+fn asks_help(words: &[String]) -> bool {
+    (words.len() == 2 || words.len() == 3) && words[1].as_str() == "help"
+}
+
+/// Returns the words that ask for the same help by `--help`.
+fn asking_help(alloc: Global, words: &[String]) -> Result<Vec<String>, AllocError> {
+    let mut asked = Vec::new(alloc);
+    for (index, word) in words.iter().enumerate() {
+        if index != 1 {
+            asked.push(String::from_str(alloc, word.as_str())?)?;
+        }
     }
-    words.push(String::from_str(alloc, "--help")?)?;
-    Ok(words)
+    asked.push(String::from_str(alloc, "--help")?)?;
+    Ok(asked)
+}
+
+/// Returns the text of a fault that shows the help.
+///
+/// # Errors
+///
+/// The fault itself, where it shows no help; `NoMemory`.
+fn help_in(alloc: Global, fault: LineFault) -> Result<Option<String>, LineFault> {
+    match &fault {
+        LineFault::Refused(error) if error.kind() == ErrorKind::DisplayHelp => {
+            Ok(Some(format!(in alloc; "{error}")?))
+        }
+        _ => Err(fault),
+    }
 }
