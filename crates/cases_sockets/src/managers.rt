@@ -86,7 +86,7 @@ fn told_over(rt: &HostRuntime, is_gone: bool, news: News) -> io::Result<UnixStre
     }
     other.set_nonblocking(true)?;
     let text = format!(in rt.alloc(); "descriptor:{}", own.as_raw_fd())?;
-    match ServiceManager::read(text.as_str()) {
+    match ServiceManager::read(rt.alloc(), text.as_str()) {
         Ok(manager) => tell(&mut Some(manager), news),
         Err(_) => return Err(ErrorKind::NotFound.into()),
     }
