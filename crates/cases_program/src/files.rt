@@ -36,7 +36,7 @@ pub(crate) fn lengthen(rt: &HostRuntime, case: &mut Case) {
 
 fn lengthened(rt: &HostRuntime, name: &str, count: usize) -> Result<()> {
     let mut text = fs::read_to_string(rt, "S.toml")?;
-    while text.len() < count {
+    for _ in text.len()..count {
         text.push('#')?;
     }
     fs::write(rt, name, text.as_str())?;
