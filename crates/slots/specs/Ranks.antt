@@ -1,5 +1,6 @@
 -- The slots of an endpoint, at most one of each rank.
 use Rattle.std.specs.Prelude.{ℕ, ◌+◌, Bool, true, false, ◌&&◌, Option, Some, None, is_some, is_none, if◌then◌else◌}
+use Rattle.std.specs.Option.{option_or}
 use Rattle.slots.specs.declared.numbers.SlotNumber.{SlotNumber}
 use Rattle.slots.specs.declared.ranks.Rank.{Rank}
 use Rattle.slots.specs.declared.ranks.Rank.TheVariants.{First, Second}
@@ -19,13 +20,9 @@ abbrev pub slot_in : Rank → Places → Option SlotNumber
 slot_in First p = p.first
 slot_in Second p = p.second
 
-abbrev pub some_else : Option SlotNumber → Option SlotNumber → Option SlotNumber
-some_else None other = other
-some_else (Some number) other = Some number
-
 -- the slot of the first rank, else that of the second
 abbrev pub first_slot : Places → Option SlotNumber
-first_slot p = some_else p.first p.second
+first_slot p = option_or p.first p.second
 
 -- the slots with that of this rank replaced
 abbrev pub with_slot : Rank → Option SlotNumber → Places → Places
