@@ -8,10 +8,10 @@ ghost use Rattle.bindings.specs.Entries.{pairs_in};
 ghost use Rattle.bindings.specs.Lists.{key_place};
 ghost use Rattle.bindings.specs.Runs.{first_of, runs_of};
 ghost use Rattle.link.specs.Grammar.{IsWellFormedRun, IsWellFormedPair, IsWellFormedRecord};
-ghost use Rattle.resync.specs.Batch.{is_settled, is_second, record_for, batch_of, CanBeSent};
-ghost use Rattle.resync.specs.Batch.{HasNoPending};
-ghost use Rattle.resync.specs.Cursor.{runs_from, pairs_behind, is_settled_below, to_come, coming};
-ghost use Rattle.resync.specs.Cursor.{ports_ahead};
+ghost use Rattle.resync.specs.Batch.{is_settled, is_second as comes_second, batch_of, CanBeSent};
+ghost use Rattle.resync.specs.Batch.{record_for as record_said, HasNoPending};
+ghost use Rattle.resync.specs.Cursor.{runs_from, pairs_behind, to_come, coming, ports_ahead};
+ghost use Rattle.resync.specs.Cursor.{is_settled_below as settled_below};
 ghost use Rattle.resync.specs.declared.cursor.Cursor.TheVariants as at;
 
 use addresses::Port;
@@ -126,7 +126,7 @@ fn place_of(key: Key) -> u32
 
 /// Whether there is an entry, it is settled, and it is before this key.
 fn is_settled_below(key: Key, entry: Option<Entry>) -> bool
-    ensures { result ≡ is_settled_below key entry }
+    ensures { result ≡ settled_below key entry }
 {
     match entry {
         Some(entry) => is_settled_state(entry.state) && place_of(key_of(entry)) < place_of(key),
@@ -136,7 +136,7 @@ fn is_settled_below(key: Key, entry: Option<Entry>) -> bool
 
 /// Whether the endpoint of a pair has a settled pair before it.
 fn is_second(table: &Table, pair: Pair) -> bool
-    ensures { result ≡ is_second (pairs_in is_settled table.now.entries) pair }
+    ensures { result ≡ comes_second (pairs_in is_settled table.now.entries) pair }
 {
     table.recall();
     let endpoint = endpoint_of(pair);
@@ -147,7 +147,7 @@ fn is_second(table: &Table, pair: Pair) -> bool
 /// Returns the record of a settled pair: a Tell where its endpoint has a settled pair before it,
 /// else a Put.
 fn record_for(table: &Table, pair: Pair) -> Record
-    ensures { result ≡ record_for (pairs_in is_settled table.now.entries) pair }
+    ensures { result ≡ record_said (pairs_in is_settled table.now.entries) pair }
 {
     if is_second(table, pair) {
         Record::Tell(pair)
