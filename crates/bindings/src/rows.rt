@@ -98,14 +98,14 @@ pub(crate) fn list_pairs(
 
 /// Returns the first entry after a key in the order of those that are sought, or the first of all for None. Where there
 /// is none in the store, no entry is looked at.
-pub(crate) fn next_sought(store: &Store, sought: Sought, last: Option<Key>) -> Option<Entry>
-    ensures { result ≡ first_after (is_sought sought) last store.now.entries }
+pub(crate) fn next_sought(store: &Store, sought: Sought, from: Option<Key>) -> Option<Entry>
+    ensures { result ≡ first_after (is_sought sought) from store.now.entries }
 {
     if store.count(sought) == 0 {
         return None;
     }
     store.recall();
-    let mut last = last;
+    let mut last = from;
     while let Some(entry) = store.entry_after(last) {
         if is_sought_state(sought, entry.state) {
             return Some(entry);

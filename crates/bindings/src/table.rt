@@ -233,12 +233,10 @@ impl Table {
         Ok(())
     }
 
-    /// Sets the state of a key's entry, which must not be Doomed. An own pair remains one or becomes Doomed, and so does a
-    /// Held one. A key without an entry changes nothing.
+    /// Sets the state of a key's entry. An own pair remains one or becomes Doomed, and so does a Held one; a Doomed entry
+    /// remains Doomed. A key without an entry changes nothing.
     pub fn set_state(&mut self, key: Key, state: EntryState)
-        requires pair { (entry : Row) → slot_of self.old.entries key ≡ Some entry
-            → is_pair entry.state ≡ true }
-        requires rank { (entry : Row) → slot_of self.old.entries key ≡ Some entry
+        requires { (entry : Row) → slot_of self.old.entries key ≡ Some entry
             → (r : Which) → is_of_rank r state ≡ true → is_of_rank r entry.state ≡ true }
         ensures entries { self.new ≡ with_entry_state self.old key state }
         ensures slots { (entry : Row) → slot_of self.old.entries key ≡ Some entry
