@@ -165,3 +165,37 @@ module _ (es fs : List (Endpoint × Places)) (x : Endpoint) where
         all = (let less = sum-out (λ _ q. slot_count q) (λ _. refl) es x in let same = ap slots_among h in omega (arith, less, same));
       } in
       subst (λ (q : Places). AreRewritten es x q fs) (sym (empty-places p empty)) gone
+
+pub none-from : (o : Option SlotNumber) → is_some o ≡ false → o ≡ None
+none-from None h = refl
+none-from (Some n) h = absurd (cc)
+
+-- an endpoint with a slot is in the list
+pub not-absent : (es : List (Endpoint × Places)) (x : Endpoint) → lookup (endpoint_eq.it x) es ≡ None → 0 < slot_count (look_up es x) → ⊥
+not-absent es x none some =
+    let is : look_up es x ≡ no_places = sym (looked-up es x) ∙ ap (λ o. unwrap_or o no_places) none in
+    let zero = ap slot_count is in
+    omega (arith, zero, some)
+
+-- ---- the counts after one slot more, one in place of another, or one fewer
+
+module _ (es fs : List (Endpoint × Places)) (x : Endpoint) (rank : Rank) where
+  module _ (n : SlotNumber) (r : AreRewritten es x (with_slot rank (Some n) (look_up es x)) fs) where
+    pub more-slots : slot_in rank (look_up es x) ≡ None → (a : Ip) → slots_at a fs ≡ slots_at a es + one_at x.address a
+    more-slots none a = (let all = r.counted a in let one = for-with a x rank n (look_up es x) none in omega (arith, all, one))
+
+    pub more-total : slot_in rank (look_up es x) ≡ None → slots_among fs ≡ slots_among es + 1
+    more-total none = (let all = r.all in let one = count-with rank n (look_up es x) none in omega (arith, all, one))
+
+    pub same-slots : is_some (slot_in rank (look_up es x)) ≡ true → (a : Ip) → slots_at a fs ≡ slots_at a es
+    same-slots some a = (let all = r.counted a in let one = for-again a x rank n (look_up es x) some in omega (arith, all, one))
+
+    pub same-total : is_some (slot_in rank (look_up es x)) ≡ true → slots_among fs ≡ slots_among es
+    same-total some = (let all = r.all in let one = count-again rank n (look_up es x) some in omega (arith, all, one))
+
+  module _ (r : AreRewritten es x (with_slot rank None (look_up es x)) fs) (some : is_some (slot_in rank (look_up es x)) ≡ true) where
+    pub less-slots : (a : Ip) → slots_at a es ≡ slots_at a fs + one_at x.address a
+    less-slots a = (let all = r.counted a in let one = for-without a x rank (look_up es x) some in omega (arith, all, one))
+
+    pub less-total : slots_among es ≡ slots_among fs + 1
+    less-total = (let all = r.all in let one = count-without rank (look_up es x) some in omega (arith, all, one))

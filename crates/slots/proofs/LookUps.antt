@@ -80,3 +80,19 @@ changed-slot es fs x rank slot h r q = ap (slot_in r) (h q) ∙ by (same_endpoin
     by : (b : Bool) → same_endpoint x q ≡ b → slot_in r (cond b (with_slot rank slot (look_up es x)) (look_up es q)) ≡ cond (same_rank rank r && b) slot (slot_in r (look_up es q))
     by true s = slot-with rank r slot (look_up es x) ∙ ap (λ (y : Endpoint). cond (same_rank rank r && true) slot (slot_in r (look_up es y))) (endpoint-eq x q s)
     by false s = ap (λ b. cond b slot (slot_in r (look_up es q))) (sym (neither (same_rank rank r)))
+
+rank-eq : (a b : Rank) → same_rank a b ≡ true → a ≡ b
+rank-eq First First h = refl
+rank-eq First Second h = absurd (cc)
+rank-eq Second First h = absurd (cc)
+rank-eq Second Second h = refl
+
+-- where an endpoint has no slot of a rank, the slots are those without it
+pub absent-slot : (es : List (Endpoint × Places)) (x : Endpoint) (rank : Rank) → slot_in rank (look_up es x) ≡ None
+    → (r : Rank) (q : Endpoint) → slot_in r (look_up es q) ≡ cond (same_rank rank r && same_endpoint x q) None (slot_in r (look_up es q))
+absent-slot es x rank none r q = by (same_rank rank r) (same_endpoint x q) refl refl
+  where
+    by : (a b : Bool) → same_rank rank r ≡ a → same_endpoint x q ≡ b → slot_in r (look_up es q) ≡ cond (a && b) None (slot_in r (look_up es q))
+    by true true f g = ap (λ (y : Rank). slot_in y (look_up es q)) (sym (rank-eq rank r f)) ∙ ap (λ (y : Endpoint). slot_in rank (look_up es y)) (sym (endpoint-eq x q g)) ∙ none
+    by true false f g = refl
+    by false b f g = refl

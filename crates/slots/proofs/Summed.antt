@@ -63,7 +63,7 @@ module _ (f : Endpoint → Places → ℕ) (none : (x : Endpoint) → f x no_pla
           let old = sum_by-cons part e es in
           let new = sum_by-cons part (e.0, p) es in
           let mine = same-part x e.0 p (sym s) in
-          let its = same-part x e.0 e.1 (sym s) ∙ ap (f e.0) held in
+          let its = same-part x e.0 e.1 (sym s) in
           let same = ap (f x) held in
           omega (arith, old, new, mine, its, same)
       by false s h rest =

@@ -7,7 +7,7 @@ use Rattle.bindings.proofs.rows.next_sought.Given as goal
 
 -- the first of all is the first of those that are left
 abbrev pub invariant-loop-entry : goal.invariant-loop-entry
-invariant-loop-entry l = first_passing (is_sought l.sought) (behind l.last l.store.entries) ≡ first_after (is_sought l.sought) l.from l.store.entries
+invariant-loop-entry l = first_passing (is_sought l.sought) (behind l.last l.store.entries) ≡ first_after (is_sought l.sought) l.fn.from l.store.entries
 
 abbrev pub decreases-loop-entry : goal.decreases-loop-entry
 decreases-loop-entry l = length (behind l.last l.store.entries)

@@ -35,11 +35,11 @@ invariant_of-self c =
         count = c.set_in_time.ensures.count ∙ c.self.invariant.1.count ∙ sym limit;
         room = rw limit c.self.invariant.1.room;
       },
-      subst (λ es. IsTally es c.plus.result) (sym (ap entries_of rows ∙ entries-put r i.slots.rows c.self.invariant.0.keyed refl)) (tally-put r.item.entry (entries_of i.slots.rows) i.tally c.plus.result c.self.invariant.2 c.plus.ensures.waiting c.plus.ensures.alone),
+      subst (λ es. IsTally es c.plus-self-inside.result) (sym (ap entries_of rows ∙ entries-put r i.slots.rows c.self.invariant.0.keyed refl)) (tally-put r.item.entry (entries_of i.slots.rows) i.tally c.plus-self-inside.result c.self.invariant.2 c.plus-self-inside.ensures.waiting c.plus-self-inside.ensures.alone),
     )
 
-pub plus-requires : goal.plus-requires
-plus-requires c = (let few = tally-few c.self.inside.slots.rows c.self.inside.tally c.self.invariant.2 c.recall_few.ensures in record { waiting = few.waiting; alone = few.alone })
+pub plus-self-inside-requires : goal.plus-self-inside-requires
+plus-self-inside-requires c = (let few = tally-few c.self.inside.slots.rows c.self.inside.tally c.self.invariant.2 c.recall_few.ensures in record { waiting = few.waiting; alone = few.alone })
 
 pub set_in_time-requires : goal.set_in_time-requires
 set_in_time-requires c = record { count = c.self.invariant.1.count ∙ sym (ap (λ (s : PortSlots Item). s.limit) c.insert-number.ensures.rows) }

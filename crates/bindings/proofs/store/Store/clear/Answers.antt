@@ -16,5 +16,5 @@ invariant_of-self c =
         count = c.self.invariant.1.count ∙ sym limit;
         room = rw limit c.self.invariant.1.room;
       },
-      rw (rows, c.none.ensures) (record { waiting = refl; alone = refl }),
+      rw (rows, c.none-self-inside.ensures) (record { waiting = refl; alone = refl }),
     )

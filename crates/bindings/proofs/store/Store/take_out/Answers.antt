@@ -30,12 +30,12 @@ invariant_of-self c =
     let limit = ap (λ (s : PortSlots Item). s.limit) c.remove.ensures.rows in
     let watched : AreWatched i.alone i.dues.moments c.remove.new.self (vec_capacity i.found) = record { timed = rw rows (without-timed i.alone c.args.key i.dues.moments i.slots.rows c.self.invariant.1.timed); count = c.self.invariant.1.count ∙ sym limit; room = rw limit c.self.invariant.1.room } in
     let keys = rises-distinct 0 (entries_of i.slots.rows) (rises-up 0 i.slots.rows c.self.invariant.0.keyed c.recall.ensures.order) in
-    let waiting = rw c.entry_of_item-pair.ensures at c.minus.ensures.waiting in
-    let alone = rw c.entry_of_item-pair.ensures at c.minus.ensures.alone in (
+    let waiting = rw c.entry_of_item-pair.ensures at c.minus-self-inside.ensures.waiting in
+    let alone = rw c.entry_of_item-pair.ensures at c.minus-self-inside.ensures.alone in (
       rw rows (removed i.slots.rows i.index c.unlist.new.index c.args.key c.in-Some.item c.self.invariant.0 c.recall.ensures.order item (endpoints c.in-Some.item.entry held) listed counts),
       watched,
-      subst (λ es. IsTally es c.minus.result) (sym (ap entries_of rows ∙ entries-without c.args.key i.slots.rows c.self.invariant.0.keyed))
-          (tally-without c.args.key (entries_of i.slots.rows) c.in-Some.item.entry i.tally c.minus.result keys held c.self.invariant.2 waiting alone),
+      subst (λ es. IsTally es c.minus-self-inside.result) (sym (ap entries_of rows ∙ entries-without c.args.key i.slots.rows c.self.invariant.0.keyed))
+          (tally-without c.args.key (entries_of i.slots.rows) c.in-Some.item.entry i.tally c.minus-self-inside.result keys held c.self.invariant.2 waiting alone),
     )
 
 pub invariant_of-self-in_default : goal.invariant_of-self-in_default
