@@ -7,10 +7,11 @@ ghost use Rattle.nat_types.specs.declared.notes.Note.{Note};
 ghost use Rattle.nat_types.specs.declared.pairs.Key.{Key};
 ghost use Rattle.nat_types.specs.declared.pairs.Pair.{Pair};
 ghost use Rattle.spec_trace.specs.Past.{is_synced};
-ghost use Rattle.spec_trace.specs.Trace.{Fits, GoesOn, Kept, Silent};
+ghost use Rattle.spec_trace.specs.Plain as plain;
+ghost use Rattle.spec_trace.specs.Trace.{AtMostTwo, Fits, GoesOn, Kept, OneEndpoint, OnePort, Silent};
 ghost use Rattle.spec_pair.specs.Acts.{Act, AreGot, Hear, HearAnew, MayAct, Send, box_after, letters_by, act_notes};
 ghost use Rattle.spec_pair.specs.Batch.{AreApart, AreThose, LieWithin};
-ghost use Rattle.spec_pair.specs.Box.{AreBack, AreMirrored, AreLoadable, AreSame, revived, Box, In, StandsNext, Letter, empty, nth};
+ghost use Rattle.spec_pair.specs.Box.{AreBack, AreMirrored, AreLoadable, AreSame, revived, Box, In, Parcel, StandsNext, Letter, empty, nth};
 ghost use Rattle.spec_pair.specs.Live.{AreTogether, IsNext, hello_of, hello_sent, unheard, next_letter, next_sent, outstanding};
 ghost use Rattle.spec_pair.specs.Ownership.{AreRising, LeaveRest, Ranges, Run, keyed, left_to, fixed, in_runs, moving};
 ghost use Rattle.spec_pair.specs.Rows.{live_first, held_first, LeadsTo, LeavesPorts, alone, alone_notes, promising, promising_notes, naming, naming_notes, returning, returning_notes, six_ports, asked_no, asked_no_notes, asked_yes, asked_yes_notes, crossing, crossing_notes, doomed, doomed_notes, granting, host, loading, loading_notes, losing, losing_notes, peer_off, peer_off_notes, slot_on, revival, revival_notes, sharing, two_ranges, using, using_notes, wanting};
@@ -19,11 +20,12 @@ ghost use Rattle.spec_pair.specs.Step.{IsOff, IsStep, ReadsOnly, WasSent};
 ghost use Rattle.spec_pair.specs.Talk.{Free, Held, Live, MachineRecord, Slot};
 ghost use Rattle.spec_pair.specs.World.{AreAllowed, Can, EndsBy, MachineEvent, HasOwners, TableHolds, IsKept, IsWorld, Scene, TableTranslates, box_in, after_act, after_event, flip, mail_in, after_events, seen_by, founding, tables_of, with_step};
 
-/// The headline, for any loss, repetition and reordering of datagrams and any crashes and boots that are allowed. No
-/// outside port of an open pair serves another endpoint, no endpoint gets another port, every open pair is held by each
-/// synced gateway, no unsynced gateway uses a pair, and each synced gateway translates with the pairs that it used or
-/// took over. No port is owned by two synced gateways, and once both have taken all that was pushed each port of the
-/// ranges has an owner.
+/// The headline, for any loss, repetition and reordering of datagrams, for ever too, any crashes and boots that are
+/// allowed, and while both gateways make pairs by themselves too. No outside port of an open pair serves another endpoint;
+/// no endpoint gets another port, save where one of the two pairs was alone, and no gateway holds more than two pairs of
+/// it; every open pair is held by each synced gateway, or, while it is private to one of them, by that one; no unsynced
+/// gateway uses a pair, and each synced gateway translates with the pairs that are in use there. No port is owned by two
+/// synced gateways, and once both have taken all that was pushed each port of the ranges has an owner.
 pub fn the_pair_keeps()
     ensures kept { (r : Ranges) (events : List MachineEvent)
         → AreAllowed r events (founding r) →
@@ -53,8 +55,12 @@ pub fn promises()
 /// A scene that can come about keeps what is promised, said of its trace in the order in which the notes were made. A
 /// gateway's box is synced exactly where the trace says so.
 pub fn promises_in_order()
-    ensures fits { (r : Ranges) (s : Scene) (trace : List Note) → IsWorld r s →
-        s.trace ≡ reverse trace → Fits trace }
+    ensures one_port { (r : Ranges) (s : Scene) (trace : List Note) → IsWorld r s →
+        s.trace ≡ reverse trace → OnePort trace }
+    ensures one_endpoint { (r : Ranges) (s : Scene) (trace : List Note) → IsWorld r s →
+        s.trace ≡ reverse trace → OneEndpoint trace }
+    ensures at_most_two { (r : Ranges) (s : Scene) (trace : List Note) → IsWorld r s →
+        s.trace ≡ reverse trace → AtMostTwo (TableHolds (tables_of s)) trace }
     ensures kept { (r : Ranges) (s : Scene) (trace : List Note) → IsWorld r s →
         s.trace ≡ reverse trace → Kept (TableHolds (tables_of s)) trace }
     ensures silent { (r : Ranges) (s : Scene) (trace : List Note) → IsWorld r s →
@@ -64,6 +70,16 @@ pub fn promises_in_order()
     ensures synced { (r : Ranges) (s : Scene) (trace : List Note) (i : GatewayId)
         → IsWorld r s →
         s.trace ≡ reverse trace → (box_in s i).synced ≡ is_synced i (reverse trace) }
+{}
+
+/// Where no pair was ever alone, the promises are those of two gateways that make no pair without the other: the trace
+/// fits, and each open pair, by the words as they are without the note Alone, is held by each synced gateway.
+pub fn promises_without_alone()
+    ensures fits { (r : Ranges) (s : Scene) (trace : List Note) → IsWorld r s →
+        s.trace ≡ reverse trace → plain.IsPlain (reverse trace) → Fits trace }
+    ensures kept { (r : Ranges) (s : Scene) (trace : List Note) → IsWorld r s →
+        s.trace ≡ reverse trace → plain.IsPlain (reverse trace) →
+        plain.Kept (TableHolds (tables_of s)) (reverse trace) }
 {}
 
 /// Where the other gateway is synced, the record that gateway i may take next is the one that the other pushed at that
@@ -184,7 +200,7 @@ pub fn hears_next()
         v.mine.synced ≡ false → v.mine.peer < v.theirs.boot →
         Can r i (hello_sent v) (HearAnew (hello_of v)) }
     ensures heard { (r : Ranges) (i : GatewayId) (v : Scene) (back : List Pair) (os : List Run)
-        (ps : List Pair) (part : Bool) → v.mine.synced ≡ true → v.mine.peer < v.theirs.boot →
+        (ps : List Parcel) (part : Bool) → v.mine.synced ≡ true → v.mine.peer < v.theirs.boot →
         AreBack v.mine.table back → AreRising r.in_ranges 0 os → LeaveRest r i v.mine.owned os →
         AreLoadable r (keyed (left_to r (other i) os)) empty ps →
         AreMirrored (keyed (left_to r (other i) os)) (λ k. revived (v.mine.table k)) ps →
@@ -193,7 +209,7 @@ pub fn hears_next()
         v.mine.peer < v.theirs.boot →
         unheard (after_act r i moment (hello_sent v) (HearAnew (hello_of v))) < unheard v }
     ensures fewer_heard { (r : Ranges) (i : GatewayId) (moment : ℕ) (v : Scene)
-        (back : List Pair) (os : List Run) (ps : List Pair) (part : Bool) →
+        (back : List Pair) (os : List Run) (ps : List Parcel) (part : Bool) →
         v.mine.peer < v.theirs.boot →
         unheard (after_act r i moment (hello_sent v) (Hear (hello_of v) back os ps part))
         < unheard v }
@@ -225,13 +241,14 @@ pub fn unsynced_is_behind()
         v.theirs.taken < length v.mine.sent }
 {}
 
-/// A list of the pairs of a table, each once and on ports of the ranges, may be put into a batch. Each pair is new
-/// where it is loaded, and a gateway that owns the ports `own` has the mirrored table in the end.
+/// A list of the pairs of a table, each once and on ports of the ranges, may be put into a batch, where the second pair of
+/// an endpoint goes as a Tell. Each pair has room where it is loaded, and a gateway that owns the ports `own` has the
+/// mirrored table in the end.
 pub fn batch_loads()
-    ensures loads { (r : Ranges) (own : Key → Bool) (table : Key → Slot) (ps : List Pair) →
-        LieWithin r table → AreThose table ps → AreApart ps → AreLoadable r own empty ps }
-    ensures mirrors { (r : Ranges) (own : Key → Bool) (table : Key → Slot) (ps : List Pair) →
-        LieWithin r table → AreThose table ps → AreApart ps → AreMirrored own table ps }
+    ensures loads { (r : Ranges) (own : Key → Bool) (table : Key → Slot) (xs : List Parcel) →
+        LieWithin r table → AreThose table xs → AreApart own xs → AreLoadable r own empty xs }
+    ensures mirrors { (r : Ranges) (own : Key → Bool) (table : Key → Slot) (xs : List Parcel) →
+        LieWithin r table → AreThose table xs → AreApart own xs → AreMirrored own table xs }
 {}
 
 /// Where ports move and the runs are the owned ports, the runs leave the rest of the ranges to the other gateway.
