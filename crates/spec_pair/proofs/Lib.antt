@@ -29,6 +29,7 @@ mod StepLaws
 mod Batches
 mod Runs
 mod MoreRuns
+mod AloneRuns
 mod Taking
 mod Forged
 mod Counted

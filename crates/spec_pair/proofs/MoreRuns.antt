@@ -138,7 +138,7 @@ promising_leads = record {
 }
 
 -- two pairs are all pairs of a table that holds them and nothing at the other keys
-those_two : (table : Key → Slot) (x y : Parcel) → held (table x.pair.key) ≡ Some x.pair.endpoint → held (table y.pair.key) ≡ Some y.pair.endpoint → ((k : Key) → (x.pair.key ≡ k → ⊥) → (y.pair.key ≡ k → ⊥) → held (table k) ≡ None) → AreThose table (x ∷ y ∷ [])
+pub those_two : (table : Key → Slot) (x y : Parcel) → held (table x.pair.key) ≡ Some x.pair.endpoint → held (table y.pair.key) ≡ Some y.pair.endpoint → ((k : Key) → (x.pair.key ≡ k → ⊥) → (y.pair.key ≡ k → ⊥) → held (table k) ≡ None) → AreThose table (x ∷ y ∷ [])
 those_two table x y at_x at_y none = (
   λ z h. elim h [
     | inl e ↦ subst (λ (w : Parcel). held (table w.pair.key) ≡ Some w.pair.endpoint) (sym e) at_x
@@ -153,7 +153,7 @@ those_two table x y at_x at_y none = (
   ],
 )
 
-within_two : (r : Ranges) (table : Key → Slot) (p q : Pair) → IsTrue (keyed r.in_ranges p.key) → IsTrue (keyed r.in_ranges q.key) → ((k : Key) → (p.key ≡ k → ⊥) → (q.key ≡ k → ⊥) → held (table k) ≡ None) → LieWithin r table
+pub within_two : (r : Ranges) (table : Key → Slot) (p q : Pair) → IsTrue (keyed r.in_ranges p.key) → IsTrue (keyed r.in_ranges q.key) → ((k : Key) → (p.key ≡ k → ⊥) → (q.key ≡ k → ⊥) → held (table k) ≡ None) → LieWithin r table
 within_two r table p q in_p in_q none k e h = elim (cases_key p.key k) [
   | inl at ↦ ap (keyed r.in_ranges) (sym at) ∙ in_p
   | inr np ↦ elim (cases_key q.key k) [

@@ -17,7 +17,8 @@ ghost use Rattle.spec_pair.specs.Ownership.{AreRising, LeaveRest, Ranges, Run, k
 ghost use Rattle.spec_pair.specs.Rows.{live_first, held_first, LeadsTo, LeavesPorts, alone, alone_notes, promising, promising_notes, naming, naming_notes, returning, returning_notes, six_ports, asked_no, asked_no_notes, asked_yes, asked_yes_notes, crossing, crossing_notes, doomed, doomed_notes, granting, host, loading, loading_notes, losing, losing_notes, peer_off, peer_off_notes, slot_on, revival, revival_notes, sharing, two_ranges, using, using_notes, wanting};
 ghost use Rattle.spec_pair.specs.RecordTable.{AreFacts, DoesTake, Facts, act_by_table, becomes_owned};
 ghost use Rattle.spec_pair.specs.Step.{IsOff, IsStep, ReadsOnly, WasSent};
-ghost use Rattle.spec_pair.specs.Talk.{Free, Held, Live, MachineRecord, Slot};
+ghost use Rattle.spec_pair.specs.AloneRows.{made_alone, made_alone_notes, meeting, meeting_notes, pair_b, pair_c, reloading, reloading_notes, tell_crosses, tell_crosses_notes, going_on, going_on_notes, taking_back, taking_back_notes, dying, dying_notes};
+ghost use Rattle.spec_pair.specs.Talk.{Alone, Free, Held, Live, MachineRecord, Pending, Slot};
 ghost use Rattle.spec_pair.specs.World.{AreAllowed, Can, EndsBy, MachineEvent, HasOwners, TableHolds, IsKept, IsWorld, Scene, TableTranslates, box_in, after_act, after_event, flip, mail_in, after_events, seen_by, founding, tables_of, with_step};
 
 /// The headline, for any loss, repetition and reordering of datagrams, for ever too, any crashes and boots that are
@@ -290,6 +291,31 @@ pub fn rows_lead()
     ensures peer_off { LeadsTo two_ranges (loading ++ using ++ peer_off)
         (loading_notes ++ using_notes ++ peer_off_notes)
         (slot_on 20001 (Live (host 5001)) ∷ live_first) [] }
+{}
+
+/// Whole runs in which pairs are made without the other's answer. Both gateways make a pair alone and tell the other
+/// (`met`); pairs of one endpoint, of which the second goes as a Tell in the next batch (`two_ports`); a Tell that crosses a
+/// proposal for its endpoint (`tell_crosses`); proposals that are marked, and refused then (`go_on`); a pair whose deletion
+/// was asked for, and that is marked before the Yes comes (`taken_back`); a pair that is lost with its box (`untold`).
+pub fn alone_rows_lead()
+    ensures met { LeadsTo two_ranges (loading ++ made_alone ++ meeting pair_b)
+        (loading_notes ++ made_alone_notes ++ meeting_notes pair_b)
+        (slot_on 40000 (Held (host 6000)) ∷ live_first)
+        (slot_on 40000 (Live (host 6000)) ∷ held_first) }
+    ensures two_ports { LeadsTo two_ranges (loading ++ made_alone ++ meeting pair_c ++ reloading)
+        (loading_notes ++ made_alone_notes ++ meeting_notes pair_c ++ reloading_notes)
+        (slot_on 40000 (Held (host 5000)) ∷ live_first)
+        (slot_on 40000 (Live (host 5000)) ∷ held_first) }
+    ensures tell_crosses { LeadsTo two_ranges (loading ++ made_alone ++ tell_crosses)
+        (loading_notes ++ made_alone_notes ++ tell_crosses_notes) live_first
+        (slot_on 40000 Free ∷ held_first) }
+    ensures go_on { LeadsTo two_ranges (loading ++ going_on) (loading_notes ++ going_on_notes)
+        (slot_on 20000 (Alone (host 5000)) ∷ []) (slot_on 40000 (Alone (host 5000)) ∷ []) }
+    ensures taken_back { LeadsTo two_ranges (loading ++ using ++ taking_back)
+        (loading_notes ++ using_notes ++ taking_back_notes) live_first held_first }
+    ensures untold { LeadsTo two_ranges (loading ++ made_alone ++ dying)
+        (loading_notes ++ made_alone_notes ++ dying_notes)
+        (slot_on 20000 (Pending false (host 5001)) ∷ []) (slot_on 20000 (Held (host 5001)) ∷ []) }
 {}
 
 /// Whole runs with six ports that move. While a Grant is on its way its ports are nobody's; then they are the asker's.
