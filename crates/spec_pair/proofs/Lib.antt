@@ -37,4 +37,5 @@ mod Living
 mod Behind
 mod Nexting
 mod Hellos
+mod Telling
 pub mod Offered

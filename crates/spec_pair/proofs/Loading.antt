@@ -91,7 +91,7 @@ loaded_shared : (own : Bool) (e : Endpoint) → alone_in (cond own (Live e) (Hel
 loaded_shared true e = refl
 loaded_shared false e = refl
 
-parcel_is : (told told2 : Bool) (p q : Pair) → record_of (record { pair = p; told = told }) ≡ record_of (record { pair = q; told = told2 }) → (let x : Parcel = record { pair = p; told = told } in x) ≡ record { pair = q; told = told2 }
+parcel_is : (told told2 : Bool) (p q : Pair) → record_of (record { pair = p; told = told }) ≡ record_of (record { pair = q; told = told2 }) → parcel p told ≡ parcel q told2
 parcel_is true true p q h =
     let e : Tell p.key p.endpoint ≡ Tell q.key q.endpoint = h in
     let k : p.key ≡ q.key = cc in
