@@ -149,7 +149,7 @@ module _ (r : Ranges) (i : GatewayId) (a : Box) where
     at-unsynced Want = refl
     at-unsynced (Grant ports) = refl
     at-unsynced (Owner first last) = either-way _ (LoadOwner l n first last) (LoadSkip l n (Owner first last)) (Owner first last) refl refl
-    at-unsynced (Tell k e) = either-way _ (LoadPut l n (parcel r i a l n f k e true)) (LoadSkip l n (Tell k e)) (Tell k e) refl refl
+    at-unsynced (Tell k e) = either-way _ (LoadPut l n (parcel k e true)) (LoadSkip l n (Tell k e)) (Tell k e) refl refl
 
     unless-promised : (o : Option ℕ) (q : MachineRecord) → taken_now (act_unless_promised r i a l n f o q) ≡ q ∷ []
     unless-promised None q = at-synced q

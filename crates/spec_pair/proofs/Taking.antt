@@ -158,7 +158,7 @@ module _ (r : Ranges) (i : GatewayId) (a : Box) (l : Letter) (n : ℕ) (f : Fact
         (and_from a.loading (keyed r.in_ranges k && is_free (a.table k)) y (and_from (keyed r.in_ranges k) (is_free (a.table k)) inside (ap is_free free)))) next
 
     tells_it : (k : Key) (e : Endpoint) (b : Bool) → (a.loading && ((keyed r.in_ranges k && is_free (a.table k)) && f.clear)) ≡ b → AreFacts r a (Tell k e) f → StandsNext a l n (Tell k e)
-        → DoesTake r i a l (cond b (LoadPut l n (parcel r i a l n f k e true)) (LoadSkip l n (Tell k e)))
+        → DoesTake r i a l (cond b (LoadPut l n (parcel k e true)) (LoadSkip l n (Tell k e)))
     tells_it k e true h facts next =
         let p = and_parts a.loading ((keyed r.in_ranges k && is_free (a.table k)) && f.clear) h in
         let c = and_parts (keyed r.in_ranges k && is_free (a.table k)) f.clear p.1 in

@@ -58,6 +58,10 @@ is_free (Alone e) = false
 abbrev pub key_of : Protocol → ℕ → Key
 key_of protocol p = record { protocol = protocol; port = record { 0 = p } }
 
+-- the parcel of a Put, or of a Tell
+abbrev pub parcel : Key → Endpoint → Bool → Parcel
+parcel k e told = record { pair = pair_of k e; told = told }
+
 -- A synced gateway's deed at an Accept, by the slot at the record's key. The deeds at Refuse, Ask, Yes and No follow.
 abbrev pub accepted : Key → Slot → Deed
 accepted k (Pending m e) = Agreed k e
@@ -145,10 +149,6 @@ module _ (r : Ranges) where
     act_at_synced (Grant ports) = cond a.wants (TakePorts l n ports f.got) (LosePorts l n ports)
     act_at_synced (Owner first last) = Take l n (Owner first last) (Skip (Owner first last))
     act_at_synced (Tell k e) = Take l n (Tell k e) (told a k e f.clear)
-
-    -- the parcel of a Put, or of a Tell
-    abbrev pub parcel : Key → Endpoint → Bool → Parcel
-    parcel k e told = record { pair = pair_of k e; told = told }
 
     -- the act at a Put, after Begin, on a free key: the pair is loaded where the table has its endpoint nowhere, else
     -- it is passed over

@@ -16,10 +16,10 @@ ListsHold zero one One pair = Contains one pair
 
 -- a pair that is used after the notes may stand beside a pair that is open after them
 abbrev pub DoSuit : List Note → Pair → Pair → Type 0
-DoSuit notes used open =
-    (open.key ≡ used.key → open.endpoint ≡ used.endpoint)
-    × (open.endpoint ≡ used.endpoint → (open.key ≡ used.key → ⊥) →
-    IsTrue (past.was_alone used notes || past.was_alone open notes))
+DoSuit notes used q =
+    (q.key ≡ used.key → q.endpoint ≡ used.endpoint)
+    × (q.endpoint ≡ used.endpoint → (q.key ≡ used.key → ⊥) →
+    IsTrue (past.was_alone used notes || past.was_alone q notes))
 
 -- a pair is held by each synced gateway, or by one to which it is private
 abbrev pub IsHeld : List Pair → List Pair → List Note → Pair → Type 0

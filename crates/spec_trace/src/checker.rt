@@ -199,13 +199,13 @@ fn has(pairs: &[Pair], pair: Pair) -> bool
 
 /// Whether a pair that is used after these notes may stand beside an open one: they share their key
 /// only with their endpoint, and an endpoint alone only where one of them was alone.
-fn do_fit(before: &[Note], used: Pair, open: Pair) -> bool
-    ensures { IsTrue result ↔ DoSuit (reverse before.now) used open }
+fn do_fit(before: &[Note], used: Pair, pair: Pair) -> bool
+    ensures { IsTrue result ↔ DoSuit (reverse before.now) used pair }
 {
-    if open.key == used.key {
-        return open.endpoint == used.endpoint;
+    if pair.key == used.key {
+        return pair.endpoint == used.endpoint;
     }
-    open.endpoint != used.endpoint || was_alone(before, used) || was_alone(before, open)
+    pair.endpoint != used.endpoint || was_alone(before, used) || was_alone(before, pair)
 }
 
 fn fits_all(opens: &[Pair], before: &[Note], used: Pair) -> bool
@@ -216,17 +216,17 @@ fn fits_all(opens: &[Pair], before: &[Note], used: Pair) -> bool
 
 /// Whether an open pair is held by each synced gateway, or by a synced one to which it is private.
 /// `zero` and `one` are the tables of gateway 0 and gateway 1.
-fn is_kept(trace: &[Note], synced: (bool, bool), zero: &[Pair], one: &[Pair], open: Pair) -> bool
+fn is_kept(trace: &[Note], synced: (bool, bool), zero: &[Pair], one: &[Pair], pair: Pair) -> bool
     requires zero { synced.0 ≡ past.is_synced Zero (reverse trace.now) }
     requires one { synced.1 ≡ past.is_synced One (reverse trace.now) }
-    ensures { IsTrue result ↔ IsHeld zero.now one.now (reverse trace.now) open }
+    ensures { IsTrue result ↔ IsHeld zero.now one.now (reverse trace.now) pair }
 {
-    let at_zero = has(zero, open);
-    let at_one = has(one, open);
-    if synced.0 && at_zero && is_private(trace, GatewayId::Zero, open) {
+    let at_zero = has(zero, pair);
+    let at_one = has(one, pair);
+    if synced.0 && at_zero && is_private(trace, GatewayId::Zero, pair) {
         return true;
     }
-    if synced.1 && at_one && is_private(trace, GatewayId::One, open) {
+    if synced.1 && at_one && is_private(trace, GatewayId::One, pair) {
         return true;
     }
     (!synced.0 || at_zero) && (!synced.1 || at_one)

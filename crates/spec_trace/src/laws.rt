@@ -158,15 +158,15 @@ pub fn none_was_alone()
         past.is_agreed i p (reverse t) ≡ plain.is_agreed i p (reverse t) }
     ensures opens { (p : Pair) (t : List Note) → plain.IsPlain (reverse t) →
         past.is_open p (reverse t) ≡ plain.is_open p (reverse t) }
-    ensures kept { (Holds : GatewayId → Pair → Type 0) (t : List Note) →
-        plain.IsPlain (reverse t) → Kept Holds t ↔ plain.Kept Holds (reverse t) }
+    ensures kept { (holds : GatewayId → Pair → Bool) (t : List Note) → plain.IsPlain (reverse t) →
+        Kept (λ i p. IsTrue (holds i p)) t ↔ plain.Kept (λ i p. IsTrue (holds i p)) (reverse t) }
 {}
 
 /// While no pair is private, each open pair is held by each synced gateway, whatever was alone before.
 pub fn none_is_private()
-    ensures { (Holds : GatewayId → Pair → Type 0) (t : List Note) → Kept Holds t →
-        ((i : GatewayId) (p : Pair) → IsPrivate i p t → ⊥) → (p : Pair) → IsOpen p t →
-        (i : GatewayId) → IsSynced i t → Holds i p }
+    ensures { (holds : GatewayId → Pair → Bool) (t : List Note) →
+        Kept (λ i p. IsTrue (holds i p)) t → ((i : GatewayId) (p : Pair) → IsPrivate i p t → ⊥) →
+        (p : Pair) → IsOpen p t → (i : GatewayId) → IsSynced i t → IsTrue (holds i p) }
 {}
 
 /// A trace of One port and One endpoint that is idle is a run of one box. One box is a map from keys to endpoints, one to
