@@ -302,6 +302,15 @@ fn judge(
     }
 }
 
+/// Whether a release of a pair after these notes is an agreed deletion. `alone` says that the other
+/// gateway isn't synced.
+fn is_agreed(before: &[Note], alone: bool, gateway: GatewayId, pair: Pair) -> bool
+    requires { alone ≡ not (past.is_synced (other gateway) (reverse before.now)) }
+    ensures { result ≡ past.is_agreed gateway pair (reverse before.now) }
+{
+    alone || has_released(before, gateway.other(), pair) || is_only_at(before, gateway, pair)
+}
+
 /// Changes the list of open pairs as one note does. `before` has the notes before it, and `alone`
 /// says that the other gateway isn't synced. Answers `NoMemory` where the list can't grow.
 fn follow(
@@ -324,8 +333,7 @@ fn follow(
             Ok(())
         }
         NoteKind::Released(pair) => {
-            let gone = alone || has_released(before, note.by.other(), pair);
-            if gone || is_only_at(before, note.by, pair) {
+            if is_agreed(before, alone, note.by, pair) {
                 remove(opens, pair);
             }
             Ok(())
