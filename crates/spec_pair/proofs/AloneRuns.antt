@@ -35,21 +35,21 @@ made-allowed = (
 then-allowed : (xs ys : List MachineEvent) → AreAllowed two_ranges xs Loaded → AreAllowed two_ranges ys (after_events two_ranges xs Loaded) → AreAllowed two_ranges (loading ++ xs ++ ys) (founding two_ranges)
 then-allowed xs ys a b = allowed_join two_ranges loading (xs ++ ys) (founding two_ranges) loading-allowed (allowed_join two_ranges xs ys Loaded a b)
 
-no_held_one : {e n : Endpoint} (b : Bool) → held_on false (cond b (Alone e) Free) ≡ Some n → ⊥
-no_held_one true h = cc
-no_held_one false h = cc
+no_held_one : (b : Bool) (e n : Endpoint) → held_on false (cond b (Alone e) Free) ≡ Some n → ⊥
+no_held_one true e n h = cc
+no_held_one false e n h = cc
 
-no_held_pending : {e n : Endpoint} (b : Bool) → held_on false (cond b (Pending false e) Free) ≡ Some n → ⊥
-no_held_pending true h = cc
-no_held_pending false h = cc
+no_held_pending : (b : Bool) (e n : Endpoint) → held_on false (cond b (Pending false e) Free) ≡ Some n → ⊥
+no_held_pending true e n h = cc
+no_held_pending false e n h = cc
 
-no_held_three : {e f g n : Endpoint} (b : Bool) → held_on false (cond b (Live e) (cond b (Pending true f) (cond b (Alone g) Free))) ≡ Some n → ⊥
-no_held_three true h = cc
-no_held_three false h = cc
+no_held_three : (b : Bool) (e f g n : Endpoint) → held_on false (cond b (Live e) (cond b (Pending true f) (cond b (Alone g) Free))) ≡ Some n → ⊥
+no_held_three true e f g n h = cc
+no_held_three false e f g n h = cc
 
-no_held_freed : {e n : Endpoint} (b : Bool) → held_on false (cond b Free (cond b (Held e) Free)) ≡ Some n → ⊥
-no_held_freed true h = cc
-no_held_freed false h = cc
+no_held_freed : (b : Bool) (e n : Endpoint) → held_on false (cond b Free (cond b (Held e) Free)) ≡ Some n → ⊥
+no_held_freed true e n h = cc
+no_held_freed false e n h = cc
 
 meeting_b-allowed : AreAllowed two_ranges (meeting pair_b) Single
 unfolding same_key
@@ -62,7 +62,7 @@ meeting_b-allowed = (
       (
         (at_will, λ l h. absurd h, tt),
         (
-          ((refl, refl, (refl, λ x h. no_held_one (same_key k1 x) h), refl, record { up = refl; boot = refl; to = refl; number = refl; record_is = refl }), λ l h. elim h [ inl e ↦ inl e | inr b ↦ absurd b ], tt),
+          ((refl, refl, (refl, λ x h. no_held_one (same_key k1 x) _ _ h), refl, record { up = refl; boot = refl; to = refl; number = refl; record_is = refl }), λ l h. elim h [ inl e ↦ inl e | inr b ↦ absurd b ], tt),
           (
             ((refl, refl, refl, refl), λ l h. absurd h, tt),
             (
@@ -70,7 +70,7 @@ meeting_b-allowed = (
               (
                 ((refl, refl, (true, refl), refl, record { up = refl; boot = refl; to = refl; number = refl; record_is = refl }), λ l h. elim h [ inl e ↦ inl e | inr b ↦ absurd b ], tt),
                 (
-                  ((refl, refl, (refl, λ x h. no_held_three (same_key (udp 20000) x) h), refl, record { up = refl; boot = refl; to = refl; number = refl; record_is = refl }), λ l h. elim h [ inl e ↦ inl e | inr b ↦ absurd b ], tt),
+                  ((refl, refl, (refl, λ x h. no_held_three (same_key (udp 20000) x) _ _ _ _ h), refl, record { up = refl; boot = refl; to = refl; number = refl; record_is = refl }), λ l h. elim h [ inl e ↦ inl e | inr b ↦ absurd b ], tt),
                   (
                     (at_will, λ l h. absurd h, tt),
                     (
@@ -99,7 +99,7 @@ meeting_c-allowed = (
       (
         (at_will, λ l h. absurd h, tt),
         (
-          ((refl, refl, (refl, λ x h. no_held_one (same_key k1 x) h), refl, record { up = refl; boot = refl; to = refl; number = refl; record_is = refl }), λ l h. elim h [ inl e ↦ inl e | inr b ↦ absurd b ], tt),
+          ((refl, refl, (refl, λ x h. no_held_one (same_key k1 x) _ _ h), refl, record { up = refl; boot = refl; to = refl; number = refl; record_is = refl }), λ l h. elim h [ inl e ↦ inl e | inr b ↦ absurd b ], tt),
           (
             ((refl, refl, refl, refl), λ l h. absurd h, tt),
             (
@@ -107,7 +107,7 @@ meeting_c-allowed = (
               (
                 ((refl, refl, (true, refl), refl, record { up = refl; boot = refl; to = refl; number = refl; record_is = refl }), λ l h. elim h [ inl e ↦ inl e | inr b ↦ absurd b ], tt),
                 (
-                  ((refl, refl, (refl, λ x h. no_held_three (same_key (udp 20000) x) h), refl, record { up = refl; boot = refl; to = refl; number = refl; record_is = refl }), λ l h. elim h [ inl e ↦ inl e | inr b ↦ absurd b ], tt),
+                  ((refl, refl, (refl, λ x h. no_held_three (same_key (udp 20000) x) _ _ _ _ h), refl, record { up = refl; boot = refl; to = refl; number = refl; record_is = refl }), λ l h. elim h [ inl e ↦ inl e | inr b ↦ absurd b ], tt),
                   (
                     (at_will, λ l h. absurd h, tt),
                     (
@@ -184,9 +184,9 @@ kept_apart = (
   ((λ y h. absurd h), tt),
 )
 
-only_held : {e n : Endpoint} (b : Bool) → held_on true (cond b (Held e) Free) ≡ Some n → ⊥
-only_held true h = cc
-only_held false h = cc
+only_held : (b : Bool) (e n : Endpoint) → held_on true (cond b (Held e) Free) ≡ Some n → ⊥
+only_held true e n h = cc
+only_held false e n h = cc
 
 reloading-allowed : AreAllowed two_ranges reloading Met
 unfolding same_key
@@ -207,7 +207,7 @@ reloading-allowed = (
               (
                 ((refl, refl, refl, (λ x h. cc), record { up = refl; boot = refl; to = refl; number = refl; record_is = refl }, refl), λ l h. elim h [ inl e ↦ inl e | inr b ↦ absurd b ], tt),
                 (
-                  ((refl, refl, refl, (λ x h. only_held (same_key (udp 20000) x) h), record { up = refl; boot = refl; to = refl; number = refl; record_is = refl }, refl), λ l h. elim h [ inl e ↦ inl e | inr b ↦ absurd b ], tt),
+                  ((refl, refl, refl, (λ x h. only_held (same_key (udp 20000) x) _ _ h), record { up = refl; boot = refl; to = refl; number = refl; record_is = refl }, refl), λ l h. elim h [ inl e ↦ inl e | inr b ↦ absurd b ], tt),
                   (
                     ((refl, refl, record { up = refl; boot = refl; to = refl; number = refl; record_is = refl }), λ l h. elim h [ inl e ↦ inl e | inr b ↦ absurd b ], tt),
                     tt,
@@ -244,7 +244,7 @@ crosses-allowed = (
     (
       ((refl, refl, (refl, refl, λ x h. cc), refl), λ l h. absurd h, tt),
       (
-        ((refl, refl, (refl, λ x h. no_held_pending (same_key k1 x) h), refl, record { up = refl; boot = refl; to = refl; number = refl; record_is = refl }), λ l h. elim h [ inl e ↦ inl e | inr b ↦ absurd b ], tt),
+        ((refl, refl, (refl, λ x h. no_held_pending (same_key k1 x) _ _ h), refl, record { up = refl; boot = refl; to = refl; number = refl; record_is = refl }), λ l h. elim h [ inl e ↦ inl e | inr b ↦ absurd b ], tt),
         (
           (at_will, λ l h. absurd h, tt),
           (
@@ -333,6 +333,7 @@ going_is true e = refl
 going_is false e = refl
 
 pub going_leads : LeadsTo two_ranges (loading ++ going_on) (loading_notes ++ going_on_notes) (slot_on 20000 (Alone (host 5000)) ∷ []) (slot_on 40000 (Alone (host 5000)) ∷ [])
+unfolding same_key
 going_leads = record {
   allowed = allowed_join two_ranges loading going_on (founding two_ranges) loading-allowed going-allowed;
   trace_is = refl;
@@ -361,7 +362,7 @@ taking-allowed = (
                 (
                   (at_will, λ l h. absurd h, tt),
                   (
-                    ((refl, refl, (refl, λ x h. no_held_freed (same_key (udp 20000) x) h), refl, record { up = refl; boot = refl; to = refl; number = refl; record_is = refl }), λ l h. elim h [ inl e ↦ inl e | inr b ↦ absurd b ], tt),
+                    ((refl, refl, (refl, λ x h. no_held_freed (same_key (udp 20000) x) _ _ h), refl, record { up = refl; boot = refl; to = refl; number = refl; record_is = refl }), λ l h. elim h [ inl e ↦ inl e | inr b ↦ absurd b ], tt),
                     (
                       (at_will, λ l h. absurd h, tt),
                       (
@@ -389,6 +390,7 @@ back_one true e = refl
 back_one false e = refl
 
 pub taking_leads : LeadsTo two_ranges (loading ++ using ++ taking_back) (loading_notes ++ using_notes ++ taking_back_notes) live_first held_first
+unfolding same_key
 taking_leads = record {
   allowed = paired-allowed taking_back taking-allowed;
   trace_is = refl;

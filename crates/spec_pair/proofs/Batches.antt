@@ -32,13 +32,13 @@ module _ (r : Ranges) (own : Key → Bool) where
 
   -- a pair that is put leaves room for the next, where they are apart
   room_after : (told : Bool) (table : Key → Slot) (p q : Pair) → (p.key ≡ q.key → ⊥) → (q.endpoint ≡ p.endpoint → (told ≡ true) × (own q.key ≡ own p.key → ⊥)) → HasRoomFor told (own q.key) table q.endpoint → HasRoomFor told (own q.key) (with_pair own table p) q.endpoint
-  room_after true table p q ne off room k h = elim (cases_key p.key k) [
+  room_after true table p q ne off room = λ k h. elim (cases_key p.key k) [
     | inl e ↦
         let l : (own q.key ≡ own p.key) × (p.endpoint ≡ q.endpoint) = loaded_on p.key (own q.key) p.endpoint q.endpoint (ap (held_on (own q.key)) (sym (set_same table p.key (loaded_slot own p.key p.endpoint) k e)) ∙ h) in
         (off (sym l.1)).1 l.0
     | inr nk ↦ room k (ap (held_on (own q.key)) (sym (set_other table p.key (loaded_slot own p.key p.endpoint) k nk)) ∙ h)
   ]
-  room_after false table p q ne off room k h = elim (cases_key p.key k) [
+  room_after false table p q ne off room = λ k h. elim (cases_key p.key k) [
     | inl e ↦
         let same_end : q.endpoint ≡ p.endpoint = one_some q.endpoint p.endpoint (sym h ∙ ap held (set_same table p.key (loaded_slot own p.key p.endpoint) k e) ∙ held_loaded p.key p.endpoint) in
         let bad : false ≡ true = (off same_end).0 in cc
@@ -76,8 +76,8 @@ module _ (r : Ranges) (own : Key → Bool) where
 
   -- the empty table has room for each parcel
   room_empty : (told own_it : Bool) (e : Endpoint) → HasRoomFor told own_it empty e
-  room_empty true own_it e k h = cc
-  room_empty false own_it e k h = cc
+  room_empty true own_it e = λ k h. cc
+  room_empty false own_it e = λ k h. cc
 
   pub batch_new : (table : Key → Slot) (ps : List Parcel) → LieWithin r table → AreThose table ps → AreApart own ps → AreLoadable r own empty ps
   batch_new table ps inside those apart = are_new empty ps apart (λ q h. (refl, room_empty q.told (own q.pair.key) q.pair.endpoint, inside q.pair.key q.pair.endpoint (those.0 q h)))

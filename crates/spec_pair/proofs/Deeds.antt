@@ -1,5 +1,5 @@
 -- Each deed of a gateway keeps both tables and what is under way as the ports' phases say.
-use Rattle.std.proofs.Common.{◌≡◌, true, false, not, List, [], ◌∷◌, ◌++◌, IsTrue, Some, None, refl, sym, ap, subst, ◌∙◌, inl, inr, ◌⊎◌, append-nil}
+use Rattle.std.proofs.Common.{◌≡◌, Bool, true, false, not, List, [], ◌∷◌, ◌++◌, IsTrue, Some, None, refl, sym, ap, subst, ◌∙◌, inl, inr, ◌⊎◌, append-nil}
 use Rattle.std.proofs.lemmas.Bool.{not-true, not-false}
 use Rattle.nat_types.proofs.Offered.{same-eq}
 use Rattle.nat_types.specs.Same.{other}

@@ -75,7 +75,7 @@ revived_one : (b : Bool) (e : Endpoint) → revived (cond b (Closing false e) (c
 revived_one true e = refl
 revived_one false e = refl
 
-pub revived_two : (b c : Bool) (e f : Endpoint) → revived (cond b (Pending false e) (cond c (Live f) (cond c (Pending f) Free))) ≡ cond b (Live e) (cond c (Live f) Free)
+pub revived_two : (b c : Bool) (e f : Endpoint) → revived (cond b (Pending false e) (cond c (Live f) (cond c (Pending false f) Free))) ≡ cond b (Live e) (cond c (Live f) Free)
 revived_two true c e f = refl
 revived_two false true e f = refl
 revived_two false false e f = refl
