@@ -1,12 +1,11 @@
 -- Runs in which pairs are made alone and told of.
-use Rattle.std.proofs.Common.{◌≡◌, ◌==◌, Bool, true, false, cond, List, [], ◌∷◌, ◌++◌, Some, None, refl, sym, ap, subst, ◌∙◌, inl, inr, lit<, IsTrue, arith}
+use Rattle.std.proofs.Common.{◌≡◌, ◌==◌, Bool, true, false, cond, List, [], ◌∷◌, ◌++◌, Some, None, refl, sym, ap, ◌∙◌, inl, inr, lit<}
 use Rattle.nat_types.proofs.Offered.{key-false}
 use Rattle.nat_types.specs.Same.{same_key}
 use Rattle.nat_types.specs.declared.gateways.GatewayId.TheVariants.{Zero, One}
 use Rattle.nat_types.specs.declared.pairs.Endpoint.{Endpoint}
 use Rattle.nat_types.specs.declared.pairs.Key.{Key}
-use Rattle.nat_types.specs.declared.pairs.Pair.{Pair}
-use Rattle.spec_pair.specs.AloneRows.{pair_b, pair_c, pair_d, made_alone, made_alone_notes, meeting, meeting_notes, told_c, reloading, reloading_notes, tell_crosses, tell_crosses_notes, going_on, going_on_notes, taking_back, taking_back_notes, dying, dying_notes}
+use Rattle.spec_pair.specs.AloneRows.{pair_b, pair_c, made_alone, made_alone_notes, meeting, meeting_notes, told_c, reloading, reloading_notes, tell_crosses, tell_crosses_notes, going_on, going_on_notes, taking_back, taking_back_notes, dying, dying_notes}
 use Rattle.spec_pair.specs.Batch.{AreThose, AreApart, LieWithin}
 use Rattle.spec_pair.specs.Box.{AreBack, Parcel, is_back, revived}
 use Rattle.spec_pair.specs.Ownership.{in_run}

@@ -1,5 +1,5 @@
 -- A list of the table's pairs, loaded at the other, gives the mirrored table.
-use Rattle.std.proofs.Common.{◌≡◌, ℕ, List, [], ◌∷◌, Option, Some, None, cond, Bool, not, ◌&&◌, ◌||◌, IsTrue, true, false, refl, sym, ap, subst, ◌∙◌, inl, inr, ◌⊎◌}
+use Rattle.std.proofs.Common.{◌≡◌, ℕ, List, [], ◌∷◌, Some, None, cond, Bool, not, ◌&&◌, ◌||◌, IsTrue, true, false, refl, sym, ap, subst, ◌∙◌, inl, inr}
 use Rattle.nat_types.specs.Same.{other, same}
 use Rattle.nat_types.specs.declared.gateways.GatewayId.{GatewayId}
 use Rattle.nat_types.specs.declared.gateways.GatewayId.TheVariants.{Zero, One}
@@ -9,7 +9,7 @@ use Rattle.nat_types.specs.declared.pairs.Pair.{Pair}
 use Rattle.spec_pair.specs.Batch.{AreApart, AreThose, LieWithin}
 use Rattle.spec_pair.specs.Box.{In, Parcel, with_pair, HasRoomFor, HasRoom, empty, loaded_slot, load, AreLoadable, mirrored, AreMirrored}
 use Rattle.spec_pair.specs.Ownership.{Ranges, Run, in_run, in_runs, cut, cuts, fixed, moving, LeaveRest}
-use Rattle.spec_pair.specs.Talk.{Slot, Free, Live, Held, held, held_on, set_at, pair_of}
+use Rattle.spec_pair.specs.Talk.{Slot, Free, Live, Held, held, held_on, pair_of}
 use Rattle.spec_pair.proofs.Inversions.{some_or_none}
 use Rattle.spec_pair.proofs.Set.{set_same, set_other, cases_key}
 

@@ -1,6 +1,6 @@
 -- What the notes of a deed change in which pairs are open, which are let go, and which go on or are private at a gateway.
 use Rattle.std.proofs.Common.{◌≡◌, ℕ, Bool, true, false, ◌&&◌, ◌||◌, cond, List, ◌∷◌, IsTrue, ◌↔◌, Option, Some, None, refl, sym, ap, ◌∙◌, inl, inr}
-use Rattle.std.proofs.lemmas.Bool.{cases_Bool, both_ways, and_left, and_right, and_from, and_parts, or_cases, or_left, or_right}
+use Rattle.std.proofs.lemmas.Bool.{cases_Bool, both_ways, and_from, and_parts, or_cases, or_left, or_right}
 use Rattle.nat_types.proofs.Offered.{same-self, pair-eq, pair-self, pair-false}
 use Rattle.nat_types.specs.Same.{same, same_pair}
 use Rattle.nat_types.specs.declared.gateways.GatewayId.{GatewayId}

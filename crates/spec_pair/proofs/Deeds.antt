@@ -11,7 +11,7 @@ use Rattle.spec_pair.proofs.Phase.{owns, MayDoOwned, Phase, Nothing, Proposed, T
 use Rattle.spec_pair.specs.Talk.{Slot, Free, Pending, Doomed, Live, Closing, Held, Alone, held, mark, MachineRecord, Install, Accept, Refuse, Ask, Yes, No, Begin, Put, Done, Want, Grant, Owner, Tell, is_on, on, set_at, Deed, Propose, Close, Use, Mark, MakeAlone, Report, DropAlone, Agree, Yield, Reject, Adopt, Decline, Agreed, Rejected, Rebuffed, Leave, Stay, Left, Parted, Stayed, Pass, Skip, IsLost, taken_by, pushed_by, table_after}
 use Rattle.spec_pair.specs.World.{after_act}
 use Rattle.spec_pair.proofs.Excuses.{excused_give_up}
-use Rattle.spec_pair.proofs.Inversions.{when_free, when_live, when_alone, when_pending, when_install, when_tell, when_accept, when_refuse, when_ask, when_yes, when_no, shared_named, held_named, named-refuse, owner-apart, other-apart, named-apart, flight-apart, accepted-apart, given-apart, never_accepted, never_given, one_some}
+use Rattle.spec_pair.proofs.Inversions.{when_free, when_live, when_alone, when_pending, when_install, when_tell, when_accept, when_refuse, when_ask, when_yes, when_no, owner-apart, other-apart, named-apart, flight-apart, accepted-apart, given-apart, never_accepted, never_given, one_some}
 use Rattle.spec_pair.proofs.Set.{set_same, set_other, on_here, on_elsewhere, other-owns, cases_key, apart_owns, alike_owns}
 use Rattle.spec_pair.proofs.Turned.{side_set, side_stay, slot_is, flight_is, Room, one_set, beside_set, room_same, room_new, room_agreed, turned, self, apart, push_here, push_else}
 

@@ -5,7 +5,7 @@ use Rattle.nat_types.proofs.Offered.{key-true, key-false}
 use Rattle.nat_types.specs.Same.{same_key, same}
 use Rattle.nat_types.specs.declared.pairs.Endpoint.{Endpoint}
 use Rattle.nat_types.specs.declared.pairs.Key.{Key}
-use Rattle.spec_pair.proofs.Phase.{Phase, Nothing, Proposed, Told, Accepted, Refused, GivenUp, GivenUpRefused, Shared, Asked, Staying, Leaving, Apart, from_owner, to_owner, accepted, has_accept, Excused, flight_at}
+use Rattle.spec_pair.proofs.Phase.{Phase, Nothing, Accepted, GivenUp, from_owner, to_owner, accepted, has_accept, Excused, flight_at}
 use Rattle.spec_pair.specs.Talk.{MachineRecord, Install, Accept, Refuse, Ask, Yes, No, Begin, Put, Done, Want, Grant, Owner, Tell, on, set_at}
 use Rattle.spec_pair.proofs.Set.{set_same, set_other, cases_key}
 

@@ -1,5 +1,5 @@
 -- A synced gateway hears a greater boot of its peer.
-use Rattle.std.proofs.Common.{◌≡◌, ℕ, suc, length, Bool, true, false, not, ◌&&◌, ◌||◌, ◌+◌, cond, List, [], ◌∷◌, ◌++◌, ◌<◌, ◌≤◌, IsTrue, Option, Some, None, refl, sym, ap, subst, ◌∙◌, inl, inr, ◌⊎◌, append-nil, arith, le_refl}
+use Rattle.std.proofs.Common.{◌≡◌, ℕ, suc, length, Bool, true, false, not, ◌&&◌, ◌||◌, ◌+◌, cond, List, [], ◌∷◌, ◌++◌, ◌<◌, ◌≤◌, IsTrue, Option, Some, None, refl, sym, ap, subst, ◌∙◌, inl, inr, append-nil, arith, le_refl}
 use Rattle.std.proofs.lemmas.Bool.{both_ways, cases_Bool, and_from, and_right}
 use Rattle.nat_types.proofs.Offered.{same-self, same-eq, pair-eq, pair-self}
 use Rattle.nat_types.specs.Same.{same, other, same_pair}
@@ -14,7 +14,7 @@ use Rattle.spec_pair.specs.Acts.{Hear, PeerOff}
 use Rattle.spec_pair.specs.Box.{Box, Letter, Parcel, In, nth, empty, load, mirrored, revived, is_back, retakes, hears, put_off, batch}
 use Rattle.spec_pair.proofs.Beside.{side_beside}
 use Rattle.spec_pair.proofs.Invariant.{bit, gifts, View, Awaits, Side, Inv, is_proper}
-use Rattle.spec_pair.proofs.Phase.{owns, Phase, Nothing, Accepted, Shared, shared, named, single, owner_slot, alone_in, closing, covered, is_given_up, slot_at, flight_at}
+use Rattle.spec_pair.proofs.Phase.{owns, Phase, Nothing, Accepted, Shared, shared, named, single, owner_slot, alone_in, closing, is_given_up, slot_at, flight_at}
 use Rattle.spec_pair.specs.Ownership.{Ranges, Run, keyed, left_to}
 use Rattle.spec_pair.specs.Talk.{Slot, Free, Pending, Doomed, Live, Closing, Held, Alone, held, pair_of, translated}
 use Rattle.spec_pair.proofs.Traced.{GoesAt, PrivateAt}
@@ -23,9 +23,9 @@ use Rattle.spec_pair.proofs.Acts.{same-not}
 use Rattle.spec_pair.proofs.Covers.{goes_other, private_other, or_flip, still}
 use Rattle.spec_pair.proofs.Grants.{proper-phase}
 use Rattle.spec_pair.proofs.Granting.{bit_true, bit_false}
-use Rattle.spec_pair.proofs.Inversions.{shared_slot, shared_named, held_named, alone_held, covered_cases, covered_shared, some_or_none, one_some, none_some}
+use Rattle.spec_pair.proofs.Inversions.{shared_slot, held_named, alone_held, covered_cases, covered_shared, some_or_none, one_some, none_some}
 use Rattle.spec_pair.proofs.HandOver.{free_at}
-use Rattle.spec_pair.proofs.Set.{cases_endpoint, cases_key, cases_gateway, other-owns}
+use Rattle.spec_pair.proofs.Set.{cases_endpoint, cases_gateway, other-owns}
 
 flag : {A : Type 0} (b : Bool) → b ≡ true → b ≡ false → A
 flag b h g = absurd (both_ways b g h)

@@ -1,6 +1,5 @@
 -- What a slot, or a record under way, says of its port's phase.
 use Rattle.std.proofs.Common.{◌≡◌, Bool, true, false, cond, List, [], ◌∷◌, Option, Some, None, refl, sym, ap, ◌∙◌, inl, inr, ◌⊎◌}
-use Rattle.std.proofs.lemmas.Bool.{cases_Bool}
 use Rattle.nat_types.specs.declared.pairs.Endpoint.{Endpoint}
 use Rattle.nat_types.specs.declared.pairs.Key.{Key}
 use Rattle.spec_pair.proofs.Phase.{Phase, Nothing, Proposed, Told, Accepted, Refused, GivenUp, GivenUpRefused, Shared, Asked, Staying, Leaving, Apart, owner_slot, other_slot, from_owner, to_owner, named, shared, single, alone_in, closing, closed_in, first_of, covered, accepted, is_given_up, slot_at, flight_at, refuse, accept, give_up, set_apart, leave, stay}

@@ -8,7 +8,7 @@ use Rattle.nat_types.specs.declared.pairs.Pair.{Pair}
 use Rattle.spec_trace.specs.Past.{is_synced, is_open, goes_on, is_private, IsHeldApart}
 use Rattle.spec_pair.specs.Acts.{Act, Do, Take, Hear, HandIn, Ignore, HearAnew, PeerOff, LoadBegin, LoadOwner, LoadPut, LoadDone, LoadSkip, WantPorts, GrantPorts, TakePorts, LosePorts, Send, LoneNew, LoneUse, LoneDrop, Crash, Boot}
 use Rattle.spec_pair.specs.Box.{Box, Letter}
-use Rattle.spec_pair.proofs.Invariant.{bit, gifts, IsLone, Real, View, Side, Inv}
+use Rattle.spec_pair.proofs.Invariant.{bit, gifts, Real, View, Side, Inv}
 use Rattle.spec_pair.specs.Ownership.{Ranges, keyed}
 use Rattle.spec_pair.proofs.Phase.{owns, owner_slot, alone_in, slot_at}
 use Rattle.spec_pair.proofs.Inversions.{covered_cases, shared_slot, alone_held}

@@ -1,5 +1,5 @@
 -- The invariant after a crash, after a boot, and where an unsynced gateway hears a greater boot.
-use Rattle.std.proofs.Common.{◌≡◌, ℕ, Bool, true, false, not, cond, List, ◌∷◌, Some, None, ◌<◌, ◌≤◌, refl, sym, ap, ◌∙◌, inl, inr, arith, zero-le}
+use Rattle.std.proofs.Common.{◌≡◌, ℕ, Bool, true, false, not, cond, List, ◌∷◌, Some, ◌<◌, ◌≤◌, refl, sym, ap, ◌∙◌, inl, inr, arith, zero-le}
 use Rattle.std.proofs.lemmas.Bool.{cases_eq, both_ways, cases_Bool, and_from, and_parts, not_from_false, false_from_ne_true}
 use Rattle.nat_types.proofs.Offered.{same-self, same-eq}
 use Rattle.nat_types.specs.Same.{same, other}
@@ -7,7 +7,6 @@ use Rattle.nat_types.specs.declared.gateways.GatewayId.{GatewayId}
 use Rattle.nat_types.specs.declared.notes.NoteKind.TheVariants.{Crashed, Booted}
 use Rattle.nat_types.specs.declared.notes.Note.{Note}
 use Rattle.nat_types.specs.declared.pairs.Key.{Key}
-use Rattle.nat_types.specs.declared.pairs.Pair.{Pair}
 use Rattle.spec_trace.specs.Past.{is_synced, is_open, goes_on, is_private, is_in_use, is_only_at}
 use Rattle.spec_pair.specs.Acts.{Crash, Boot, HearAnew}
 use Rattle.spec_pair.specs.Box.{Letter, empty, hears_anew}

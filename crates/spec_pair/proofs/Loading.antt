@@ -16,7 +16,7 @@ use Rattle.spec_pair.proofs.Beside.{side_beside, view_beside}
 use Rattle.spec_pair.proofs.Invariant.{Within, Fresh, Naming, Part, Loads, Real, View, Awaits, Side, Inv}
 use Rattle.spec_pair.proofs.Phase.{owns, Phase, closing, covered, alone_in}
 use Rattle.spec_pair.specs.Ownership.{Ranges, Run, keyed, left_to, cut, cuts, in_run, last_named, AreRising, IsRisingRun}
-use Rattle.spec_pair.specs.Talk.{Slot, Free, Live, Held, held, held_on, translated, MachineRecord, Put, Owner, Tell, set_at, note, Done, Begin, IsUnbound, IsUnboundOn}
+use Rattle.spec_pair.specs.Talk.{Slot, Free, Live, Held, held, held_on, translated, MachineRecord, Put, Owner, Tell, set_at, note, Done, Begin}
 use Rattle.spec_pair.proofs.Traced.{Covers, LetsGo, GoesAt, PrivateAt, WereAlone, TwoAlone}
 use Rattle.spec_pair.specs.World.{Scene, Can, after_act}
 use Rattle.spec_pair.proofs.Acts.{same-not}

@@ -15,11 +15,11 @@ use Rattle.spec_pair.specs.Box.{with_table}
 use Rattle.spec_pair.proofs.Beside.{side_beside}
 use Rattle.spec_pair.proofs.Invariant.{IsLone, Awaits, Side, Inv, is_proper}
 use Rattle.spec_pair.specs.Ownership.{Ranges, keyed}
-use Rattle.spec_pair.specs.Talk.{Slot, Free, Live, Held, held, translated, set_at, pair_of, note}
+use Rattle.spec_pair.specs.Talk.{Slot, Free, Live, held, translated, set_at, pair_of, note}
 use Rattle.spec_pair.proofs.Traced.{GoesAt, PrivateAt}
 use Rattle.spec_pair.specs.World.{Scene, Can, after_act}
 use Rattle.spec_pair.proofs.Acts.{same-not}
-use Rattle.spec_pair.proofs.Covers.{still, goes_in, goes_out, goes_other, private_quiet, private_out, private_other}
+use Rattle.spec_pair.proofs.Covers.{still, goes_in, goes_out, goes_other, private_out, private_other}
 use Rattle.spec_pair.proofs.Phase.{alone_in}
 use Rattle.spec_pair.proofs.Inversions.{translated_held, one_some, none_some, alone_held}
 use Rattle.spec_pair.proofs.Set.{set_same, set_other, cases_key}
@@ -103,10 +103,12 @@ module _ (r : Ranges) where
       let x : IsLone r i s.mine s.theirs s.trace = alone_of i s v can.0.0 can.0.1 in
       let has : held (s.mine.table k) ≡ Some e = translated_held (s.mine.table k) e can.0.2 in
       lone_step i s s.mine.table (note i moment (Used (pair_of k e)) ∷ s.trace) v can.0.0 x (λ j. refl)
-      ((λ q o h. one_some q.endpoint e (sym (x.covers q o) ∙ ap (λ z. held (s.mine.table z)) h ∙ has)), v.one_port)
-      ((λ q o same_e other_key.
-          let named_q : pair_of q.key e ≡ q = ap (λ z. pair_of q.key z) (sym same_e) in
-          ap (λ (y : Pair). was_alone (pair_of k e) s.trace || was_alone y s.trace) (sym named_q) ∙ x.two k q.key e (λ h. other_key (sym h)) has (x.covers q o ∙ ap (λ z. Some z) same_e)), v.one_endpoint)
+      ((λ q o h. one_some q.endpoint e (sym (x.covers q o) ∙ ap (λ z. held (s.mine.table z)) h ∙ has)), v.one_port) (
+        (λ q o same_e other_key.
+            let named_q : pair_of q.key e ≡ q = ap (λ z. pair_of q.key z) (sym same_e) in
+            ap (λ (y : Pair). was_alone (pair_of k e) s.trace || was_alone y s.trace) (sym named_q) ∙ x.two k q.key e (λ h. other_key (sym h)) has (x.covers q o ∙ ap (λ z. Some z) same_e)),
+        v.one_endpoint,
+      )
       ((v.here.synced_is ∙ can.0.0), v.silent)
       (goes_in moment i s.mine.table s.mine.table s.trace k e (v.here.goes (v.here.up_synced can.0.0)) can.0.2 (λ q ne. refl) (λ n h. one_some n e (sym h ∙ can.0.2)))
       (v.here.private (v.here.up_synced can.0.0))

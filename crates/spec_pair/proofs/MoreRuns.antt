@@ -6,7 +6,7 @@ use Rattle.nat_types.specs.declared.gateways.GatewayId.TheVariants.{Zero, One}
 use Rattle.nat_types.specs.declared.pairs.Key.{Key}
 use Rattle.nat_types.specs.declared.pairs.Pair.{Pair}
 use Rattle.spec_pair.specs.Batch.{AreThose, AreApart, LieWithin}
-use Rattle.spec_pair.specs.Box.{AreBack, In, Parcel, is_back, revived}
+use Rattle.spec_pair.specs.Box.{AreBack, Parcel, is_back, revived}
 use Rattle.spec_pair.specs.Ownership.{keyed, Ranges, in_run, left_to}
 use Rattle.spec_pair.specs.Rows.{parcel_p, parcel_q, live_first, held_first, LeadsTo, LeavesPorts, alone, alone_notes, promising, promising_notes, returning, returning_notes, naming, naming_notes, loading, loading_notes, using, using_notes, peer_off, peer_off_notes, pair_p, pair_q, udp, host, slot_on, two_ranges, range_of, six_ports, run_of}
 use Rattle.spec_pair.specs.Talk.{Slot, Live, Free, held, Held, Pending}

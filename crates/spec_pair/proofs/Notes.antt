@@ -12,11 +12,11 @@ use Rattle.nat_types.specs.declared.pairs.Endpoint.{Endpoint}
 use Rattle.nat_types.specs.declared.pairs.Key.{Key}
 use Rattle.nat_types.specs.declared.pairs.Pair.{Pair}
 use Rattle.spec_trace.specs.Past.{is_synced, has_released, is_only_at, is_agreed, was_alone, OnePort, OneEndpoint, Silent}
-use Rattle.spec_pair.proofs.Phase.{owns, MayDoOwned, Phase, Nothing, Proposed, Told, Accepted, Refused, GivenUp, GivenUpRefused, Shared, Asked, Staying, Leaving, Apart, owner_slot, other_slot, named, shared, single, closing, closed_in, alone_in, covered, accept, give_up, refuse, set_apart, leave, stay, is_given_up, flight_at, Talks, phase_after}
+use Rattle.spec_pair.proofs.Phase.{owns, MayDoOwned, Phase, Nothing, Proposed, Told, Accepted, Refused, GivenUp, GivenUpRefused, Shared, Asked, Staying, Leaving, Apart, owner_slot, named, shared, single, closing, closed_in, alone_in, covered, accept, give_up, refuse, set_apart, leave, stay, is_given_up, flight_at, Talks, phase_after}
 use Rattle.spec_pair.specs.Talk.{Slot, Free, Pending, Doomed, Live, Closing, Held, Alone, held, mark, translated, MachineRecord, Install, Accept, Refuse, Ask, Yes, No, Tell, is_on, on, set_at, pair_of, Deed, Propose, Close, Use, Mark, MakeAlone, Report, DropAlone, Agree, Yield, Reject, Adopt, Decline, Agreed, Rejected, Rebuffed, Leave, Stay, Left, Parted, Stayed, Pass, Skip, taken_by, table_after, noted_by, note}
 use Rattle.spec_pair.proofs.Traced.{Covers, LetsGo, GoesAt, PrivateAt, WereAlone, TwoAlone}
 use Rattle.spec_pair.proofs.Covers.{covers_set, covers_release, covers_agreed, covers_use, lets_go_set, lets_go_release, lets_go_retake, lets_go_use, lets_go_alone, lets_go_close, goes_quiet, goes_other, goes_in, goes_out, private_quiet, private_other, private_in, private_out, were_set, were_later, alone_now, two_set, two_less, two_later}
-use Rattle.spec_pair.proofs.Inversions.{when_free, when_live, when_alone, when_install, when_tell, when_refuse, when_ask, when_yes, shared_named, held_named, shared_slot, translated_held, alone_held, translated_covered, translated_open, covered_named, covered_cases, covered_shared, covered_single, covered_apart, covered_accept, covered_refuse, covered_stay, covered_given, uncovered, owner-accept, owner-refuse, owner-apart, other-apart, named-apart, owner-leave, owner-stay, shared-refuse, shared-stay, named-give_up, shared-give_up, closing-give_up, single-give_up, shared-leave, when_accept, when_no, mark-closed, marked_alone, one_some, none_some}
+use Rattle.spec_pair.proofs.Inversions.{when_free, when_live, when_alone, when_install, when_tell, when_refuse, when_ask, when_yes, held_named, translated_held, alone_held, translated_covered, translated_open, covered_named, covered_cases, covered_shared, covered_single, covered_apart, covered_accept, covered_refuse, covered_stay, covered_given, uncovered, owner-accept, owner-refuse, owner-apart, other-apart, named-apart, owner-leave, owner-stay, shared-refuse, shared-stay, named-give_up, shared-give_up, closing-give_up, single-give_up, shared-leave, when_accept, when_no, mark-closed, marked_alone, one_some, none_some}
 use Rattle.spec_pair.proofs.Set.{set_same, set_other, on_here, other-owns, cases_key, cases_gateway, apart_owns}
 use Rattle.spec_pair.proofs.Turned.{slot_is, self}
 
@@ -298,9 +298,9 @@ module _ (owner : Key → GatewayId) (moment : ℕ) where
         let m : (alone_in (mark (mine k)) ≡ Some e) × (held (mine k) ≡ Some e) × (translated (mine k) ≡ None) × (alone_in (mine k) ≡ None) = marked_alone (mine k) e may.1 in
         were_set ph (note i moment (kinds.Alone (pair_of k e)) ∷ t) k (set_apart (ph k)) (were_later ph (note i moment (kinds.Alone (pair_of k e))) t x)
         (λ n h.
-            let is : alone_in (mark (mine k)) ≡ Some n = ap (λ s. alone_in (mark s)) (own_slot k inn w may.0) ∙ ap alone_in (sym (owner-apart (ph k))) ∙ h in
-            let en : e ≡ n = one_some e n (sym m.0 ∙ is) in
-            ap (λ y. was_alone (pair_of k y) (note i moment (kinds.Alone (pair_of k e)) ∷ t)) (sym en) ∙ alone_now moment i (pair_of k e) t)
+        let is : alone_in (mark (mine k)) ≡ Some n = ap (λ s. alone_in (mark s)) (own_slot k inn w may.0) ∙ ap alone_in (sym (owner-apart (ph k))) ∙ h in
+        let en : e ≡ n = one_some e n (sym m.0 ∙ is) in
+        ap (λ y. was_alone (pair_of k y) (note i moment (kinds.Alone (pair_of k e)) ∷ t)) (sym en) ∙ alone_now moment i (pair_of k e) t)
     were_deed (MakeAlone k e) t w may x =
         were_set ph (note i moment (kinds.Alone (pair_of k e)) ∷ t) k (Apart e) (were_later ph (note i moment (kinds.Alone (pair_of k e))) t x)
         (λ n h. ap (λ y. was_alone (pair_of k y) (note i moment (kinds.Alone (pair_of k e)) ∷ t)) (sym (one_some e n h)) ∙ alone_now moment i (pair_of k e) t)
@@ -328,8 +328,8 @@ module _ (owner : Key → GatewayId) (moment : ℕ) where
     two_new : (k : Key) (e : Endpoint) (after_act : Phase) (t : List Note) → Talks owner i mine out theirs inn ph → IsTrue (owns owner i k) → ((q : Key) → held (mine q) ≡ Some e → ⊥) → named after_act ≡ Some e → shared after_act ≡ None → TwoAlone owner ph t → TwoAlone owner (set_at ph k after_act) t
     two_new k e after_act t w own unbound names shares x = two_set owner ph t k after_act x
         (λ q n far h g.
-            let en : e ≡ n = one_some e n (sym names ∙ h) in
-            absurd (unbound q (ap held (slot_is owner ph i mine out q false (ph q) w.here (apart_owns owner i k q far ∙ ap not own) refl) ∙ g ∙ ap (λ y. Some y) (sym en))))
+        let en : e ≡ n = one_some e n (sym names ∙ h) in
+        absurd (unbound q (ap held (slot_is owner ph i mine out q false (ph q) w.here (apart_owns owner i k q far ∙ ap not own) refl) ∙ g ∙ ap (λ y. Some y) (sym en))))
         (λ q n far h g. absurd (none_some (shared after_act) n shares g))
 
     -- a pair that is accepted where the table doesn't have its endpoint stands beside no own one
@@ -337,8 +337,8 @@ module _ (owner : Key → GatewayId) (moment : ℕ) where
     two_agreed ph1 k e p after_act t now off unbound names shares x = two_set owner ph1 t k after_act x
         (λ q n far h g. x k q n far (ap named now ∙ names n h) g)
         (λ q n far h g.
-            let own : owns owner i q ≡ true = apart_owns owner i k q (λ z. far (sym z)) ∙ ap not off in
-            absurd (unbound q own (h ∙ ap (λ y. Some y) (shares n g))))
+        let own : owns owner i q ≡ true = apart_owns owner i k q (λ z. far (sym z)) ∙ ap not off in
+        absurd (unbound q own (h ∙ ap (λ y. Some y) (shares n g))))
 
     accept_shares : (p : Phase) (e : Endpoint) → ((m : Bool) × (p ≡ Proposed m e)) ⊎ (p ≡ GivenUp e) → (n : Endpoint) → shared (accept p) ≡ Some n → n ≡ e
     accept_shares p e (inl h) n g = one_some n e (sym g ∙ ap (λ x. shared (accept x)) h.1)
@@ -415,10 +415,12 @@ module _ (owner : Key → GatewayId) (moment : ℕ) where
     port_deed (Propose k e) t w may c f = f
     port_deed (Close k e) t w may c f = (tt, f)
     port_deed (Use k e) t w may c f =
-        let here : named (ph k) ≡ Some e = used_named k e w may in
-        ((λ q o h.
-            let there : named (ph q.key) ≡ Some q.endpoint = covered_named (is_synced (owner q.key) t) (ph q.key) q.endpoint (c q o) in
-            one_some q.endpoint e (sym there ∙ ap (λ x. named (ph x)) h ∙ here)), f)
+        let here : named (ph k) ≡ Some e = used_named k e w may in (
+          (λ q o h.
+              let there : named (ph q.key) ≡ Some q.endpoint = covered_named (is_synced (owner q.key) t) (ph q.key) q.endpoint (c q o) in
+              one_some q.endpoint e (sym there ∙ ap (λ x. named (ph x)) h ∙ here)),
+          f,
+        )
     port_deed (Mark k e) t w may c f = (tt, f)
     port_deed (MakeAlone k e) t w may c f = (tt, f)
     port_deed (Report k e) t w may c f = f
@@ -443,21 +445,23 @@ module _ (owner : Key → GatewayId) (moment : ℕ) where
     endpoint_deed (Propose k e) t w may c were two f = f
     endpoint_deed (Close k e) t w may c were two f = (tt, f)
     endpoint_deed (Use k e) t w may c were two f =
-        let here : named (ph k) ≡ Some e = used_named k e w may in
-        ((λ q o same_e other_key.
-            let b : Bool = is_synced (owner q.key) t in
-            let its : covered b (ph q.key) ≡ Some e = c q o ∙ ap (λ x. Some x) same_e in
-            let there : named (ph q.key) ≡ Some e = covered_named b (ph q.key) e its in
-            elim (cases_gateway (owner k) (owner q.key)) [
-              | inl alike ↦ absurd (other_key (sym (w.one_each k q.key e alike here there)))
-              | inr far ↦
-                  let named_q : pair_of q.key e ≡ q = ap (λ x. pair_of q.key x) (sym same_e) in
-                  ap (λ (x : Pair). was_alone (pair_of k e) t || was_alone x t) (sym named_q)
-                  ∙ elim (covered_cases b (ph q.key) e its) [
-                    | inl both ↦ two k q.key e far here both
-                    | inr one ↦ or_right (was_alone (pair_of k e) t) (was_alone (pair_of q.key e) t) (were q.key e one.2)
-                  ]
-            ]), f)
+        let here : named (ph k) ≡ Some e = used_named k e w may in (
+          (λ q o same_e other_key.
+              let b : Bool = is_synced (owner q.key) t in
+              let its : covered b (ph q.key) ≡ Some e = c q o ∙ ap (λ x. Some x) same_e in
+              let there : named (ph q.key) ≡ Some e = covered_named b (ph q.key) e its in
+              elim (cases_gateway (owner k) (owner q.key)) [
+                | inl alike ↦ absurd (other_key (sym (w.one_each k q.key e alike here there)))
+                | inr far ↦
+                    let named_q : pair_of q.key e ≡ q = ap (λ x. pair_of q.key x) (sym same_e) in
+                    ap (λ (x : Pair). was_alone (pair_of k e) t || was_alone x t) (sym named_q)
+                    ∙ elim (covered_cases b (ph q.key) e its) [
+                      | inl both ↦ two k q.key e far here both
+                      | inr one ↦ or_right (was_alone (pair_of k e) t) (was_alone (pair_of q.key e) t) (were q.key e one.2)
+                    ]
+              ]),
+          f,
+        )
     endpoint_deed (Mark k e) t w may c were two f = (tt, f)
     endpoint_deed (MakeAlone k e) t w may c were two f = (tt, f)
     endpoint_deed (Report k e) t w may c were two f = f

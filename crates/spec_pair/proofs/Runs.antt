@@ -9,7 +9,7 @@ use Rattle.nat_types.specs.declared.pairs.Endpoint.{Endpoint}
 use Rattle.nat_types.specs.declared.pairs.Key.{Key}
 use Rattle.nat_types.specs.declared.pairs.Pair.{Pair}
 use Rattle.spec_pair.specs.Batch.{AreThose, AreApart, LieWithin}
-use Rattle.spec_pair.specs.Box.{AreBack, In, Parcel, is_back, revived}
+use Rattle.spec_pair.specs.Box.{AreBack, Parcel, is_back, revived}
 use Rattle.spec_pair.specs.Ownership.{keyed, Ranges, has, in_run, left_to}
 use Rattle.spec_pair.specs.Rows.{parcel_p, live_first, held_first, pair_p, crossing, peer_off, using, wanting, asked_yes_notes, LeavesPorts, granting, loading_notes, granted, udp, revival_notes, asked_no_notes, pair_q, range_of, asked_no, loading, sharing, in_six, six_ports, slot_on, two_ranges, revival, losing_notes, host, peer_off_notes, LeadsTo, crossing_notes, losing, using_notes, asked_yes, doomed_notes, doomed}
 use Rattle.spec_pair.specs.Talk.{Slot, Live, Closing, Free, Doomed, held, Held, pair_of, Pending}

@@ -1,9 +1,9 @@
 -- A Tell is never refused: its key is the sender's and has no entry, and its endpoint has no Held pair.
-use Rattle.std.proofs.Common.{◌≡◌, ℕ, Bool, true, false, not, ◌&&◌, ◌+◌, ◌≤◌, cond, List, [], ◌∷◌, Some, None, refl, sym, ap, ◌∙◌, inl, inr, arith}
+use Rattle.std.proofs.Common.{◌≡◌, ℕ, true, false, not, ◌&&◌, ◌+◌, cond, List, [], ◌∷◌, Some, sym, ap, ◌∙◌, inl, inr, arith}
 use Rattle.std.proofs.lemmas.Bool.{and_from, both_ways, cases_Bool, not-true}
 use Rattle.std.proofs.Math.Logic.{∥∥₁_elim}
 use Rattle.std.proofs.Props.{props}
-use Rattle.nat_types.specs.Same.{same, other}
+use Rattle.nat_types.specs.Same.{other}
 use Rattle.nat_types.specs.declared.gateways.GatewayId.{GatewayId}
 use Rattle.nat_types.specs.declared.gateways.GatewayId.TheVariants.{Zero, One}
 use Rattle.nat_types.specs.declared.notes.Note.{Note}
@@ -12,14 +12,14 @@ use Rattle.nat_types.specs.declared.pairs.Key.{Key}
 use Rattle.spec_pair.specs.Box.{Box, In, Letter, StandsNext}
 use Rattle.spec_pair.specs.Ownership.{Ranges, keyed}
 use Rattle.spec_pair.specs.RecordTable.{AreFacts, Facts, is_free, is_senders, told}
-use Rattle.spec_pair.specs.Talk.{Slot, Free, Pending, Doomed, Live, Closing, Held, Alone, MachineRecord, Tell, Adopt, Decline, IsUnboundOn, held, held_on, on}
+use Rattle.spec_pair.specs.Talk.{Slot, Free, Held, MachineRecord, Tell, Adopt, Decline, IsUnboundOn, held, held_on, on}
 use Rattle.spec_pair.specs.World.{IsWorld, Scene, flip, seen_by}
 use Rattle.spec_pair.proofs.Acts.{view_of, next_is}
 use Rattle.spec_pair.proofs.Granting.{bit_true}
 use Rattle.spec_pair.proofs.Invariant.{Inv, View, bit, gifts}
 use Rattle.spec_pair.proofs.Inversions.{never_held, shared_named, when_tell}
 use Rattle.spec_pair.proofs.Mirror.{inv_flip}
-use Rattle.spec_pair.proofs.Phase.{owns, Phase, Nothing, Told, named, shared, slot_at}
+use Rattle.spec_pair.proofs.Phase.{owns, Nothing, Told, named, shared, slot_at}
 use Rattle.spec_pair.proofs.Props.{inv_world}
 use Rattle.spec_pair.proofs.Set.{on_here, other-owns, cases_gateway, apart_owns}
 use Rattle.spec_pair.proofs.Turned.{self}

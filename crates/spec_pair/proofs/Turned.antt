@@ -1,13 +1,12 @@
 -- Each deed of one gateway keeps both gateways as the ports' phases say.
 use Rattle.std.proofs.Common.{◌≡◌, Bool, true, false, not, List, [], ◌∷◌, ◌++◌, Some, None, refl, sym, ap, ◌∙◌, inl, inr, ◌⊎◌, append-nil}
-use Rattle.std.proofs.lemmas.Bool.{both_ways}
 use Rattle.nat_types.proofs.Offered.{key-true, key-false}
 use Rattle.nat_types.specs.Same.{other, same_key}
 use Rattle.nat_types.specs.declared.gateways.GatewayId.{GatewayId}
 use Rattle.nat_types.specs.declared.gateways.GatewayId.TheVariants.{Zero, One}
 use Rattle.nat_types.specs.declared.pairs.Endpoint.{Endpoint}
 use Rattle.nat_types.specs.declared.pairs.Key.{Key}
-use Rattle.spec_pair.proofs.Phase.{owns, Phase, Accepted, GivenUp, accepted, named, is_given_up, owner_slot, other_slot, slot_at, flight_at, has_accept, Excused, Matches, Talks}
+use Rattle.spec_pair.proofs.Phase.{owns, Phase, Accepted, GivenUp, accepted, named, is_given_up, slot_at, flight_at, has_accept, Excused, Matches, Talks}
 use Rattle.spec_pair.specs.Talk.{Slot, held, MachineRecord, is_on, on, set_at, IsUnbound}
 use Rattle.spec_pair.specs.World.{after_act}
 use Rattle.spec_pair.proofs.Excuses.{excused_set, excused_push, has_accept-more, calm}

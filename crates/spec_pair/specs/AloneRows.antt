@@ -149,8 +149,8 @@ install_0 = letter_of 1 1 2 (Install pair_p.key pair_p.endpoint ∷ [])
 abbrev pub refuse_0 : Letter
 refuse_0 = letter_of 1 1 0 (Install pair_c.key pair_c.endpoint ∷ Refuse pair_p.key ∷ [])
 
--- Both propose for one endpoint and get no answer. Both go on alone with their pairs; the proposals are then refused, and
--- each has its pair alone.
+-- Both propose for one endpoint and get no answer. Both go on alone with their pairs; the proposals are then refused,
+-- and each has its pair alone.
 abbrev pub going_on : List MachineEvent
 going_on =
     zero_at 400 (Do (Propose pair_p.key pair_p.endpoint))
@@ -196,8 +196,8 @@ tell_again = letter_of 1 1 4 (Tell pair_p.key pair_p.endpoint ∷ [])
 abbrev pub accept_again : Letter
 accept_again = letter_of 1 1 2 (Accept pair_p.key ∷ [])
 
--- Gateway 0 asks to close the pair, and goes on with it alone before the Yes comes: the pair isn't deleted, is alone then,
--- and is told of again.
+-- Gateway 0 asks to close the pair, and goes on with it alone before the Yes comes: the pair isn't deleted, is alone
+-- then, and is told of again.
 abbrev pub taking_back : List MachineEvent
 taking_back =
     zero_at 30371 (Do (Close pair_p.key pair_p.endpoint))
@@ -238,8 +238,8 @@ pair_d = pair_of (udp 20000) (host 5001)
 abbrev pub install_d : Letter
 install_d = letter_of 2 1 0 (Install pair_d.key pair_d.endpoint ∷ [])
 
--- Gateway 0 crashes after it told of its pair, and gateway 1 hears gateway 0's next boot before the Tell: the pair is lost
--- with its box, and its port serves another host.
+-- Gateway 0 crashes after it told of its pair, and gateway 1 hears gateway 0's next boot before the Tell: the pair is
+-- lost with its box, and its port serves another host.
 abbrev pub dying : List MachineEvent
 dying =
     zero_at 480 (Do (Report pair_p.key pair_p.endpoint))

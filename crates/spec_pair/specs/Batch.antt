@@ -7,8 +7,8 @@ use Rattle.spec_pair.specs.Box.{In, Parcel}
 use Rattle.spec_pair.specs.Ownership.{Ranges, keyed}
 use Rattle.spec_pair.specs.Talk.{Slot, held}
 
--- The keys of the list are distinct. A parcel whose endpoint stands before it goes as a Tell, and the two are on different
--- sides: `own` says which keys are owned by the gateway that is loaded.
+-- The keys of the list are distinct. A parcel whose endpoint stands before it goes as a Tell, and the two are on
+-- different sides: `own` says which keys are owned by the gateway that is loaded.
 abbrev pub AreApart : (Key → Bool) → List Parcel → Type 0
 AreApart own [] = Unit {0}
 AreApart own (x ∷ xs) =

@@ -120,7 +120,8 @@ module _ (r : Ranges) where
   installed i a k e found =
       cond (is_senders a k && is_free (a.table k)) (proposed i k e found) (Reject k e)
 
-  -- the deed at a Tell: where its key isn't the sender's or has an entry, or its endpoint has a Held pair, it is refused
+  -- the deed at a Tell: where its key isn't the sender's or has an entry, or its endpoint has a Held pair, it is
+  -- refused
   abbrev pub told : Box → Key → Endpoint → Bool → Deed
   told a k e clear =
       cond ((is_senders a k && is_free (a.table k)) && clear) (Adopt k e) (Decline k e)

@@ -12,9 +12,9 @@ use Rattle.nat_types.specs.declared.pairs.Endpoint.{Endpoint}
 use Rattle.nat_types.specs.declared.pairs.Key.{Key}
 use Rattle.nat_types.specs.declared.pairs.Pair.{Pair}
 
--- What a gateway's table has at an outside port: nothing, or an endpoint in one of six states. A marked Pending or Closing
--- pair goes on by itself, though the other's answer is awaited. An Alone pair is one of which the other has nothing, and
--- of which nothing is under way.
+-- What a gateway's table has at an outside port: nothing, or an endpoint in one of six states. A marked Pending or
+-- Closing pair goes on by itself, though the other's answer is awaited. An Alone pair is one of which the other has
+-- nothing, and of which nothing is under way.
 pub data Slot : Type 0 where
   Free : Slot
   Pending : (marked : Bool) (endpoint : Endpoint) → Slot
@@ -78,7 +78,8 @@ pub data MachineRecord : Type 0 where
   Want : MachineRecord
   Grant : (ports : List ℕ) → MachineRecord
   Owner : (first last : ℕ) → MachineRecord
-  -- The sender goes on with a pair alone, and tells of it. In a batch it is the Put of a pair whose endpoint has another.
+  -- The sender goes on with a pair alone, and tells of it. In a batch it is the Put of a pair whose endpoint has
+  -- another.
   Tell : (key : Key) (endpoint : Endpoint) → MachineRecord
 
 -- whether a record of the running protocol is on this port
@@ -112,8 +113,8 @@ pub data Deed : Type 0 where
   Propose : (key : Key) (endpoint : Endpoint) → Deed
   Close : (key : Key) (endpoint : Endpoint) → Deed
   Use : (key : Key) (endpoint : Endpoint) → Deed
-  -- without the other's answer: the gateway marks a pair of which an answer is awaited, makes a pair alone, tells of one
-  -- that is alone, or drops one
+  -- without the other's answer: the gateway marks a pair of which an answer is awaited, makes a pair alone, tells of
+  -- one that is alone, or drops one
   Mark : (key : Key) (endpoint : Endpoint) → Deed
   MakeAlone : (key : Key) (endpoint : Endpoint) → Deed
   Report : (key : Key) (endpoint : Endpoint) → Deed
@@ -126,7 +127,8 @@ pub data Deed : Type 0 where
   -- a Tell comes: it is accepted, or refused
   Adopt : (key : Key) (endpoint : Endpoint) → Deed
   Decline : (key : Key) (endpoint : Endpoint) → Deed
-  -- an Accept of the own pair comes; a Refuse of one that isn't marked; or a Refuse of a marked one, which is alone then
+  -- an Accept of the own pair comes; a Refuse of one that isn't marked; or a Refuse of a marked one, which is alone
+  -- then
   Agreed : (key : Key) (endpoint : Endpoint) → Deed
   Rejected : (key : Key) → Deed
   Rebuffed : (key : Key) (endpoint : Endpoint) → Deed

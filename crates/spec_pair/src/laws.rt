@@ -23,11 +23,12 @@ ghost use Rattle.spec_pair.specs.Talk.{Adopt, Alone, Free, Held, Live, MachineRe
 ghost use Rattle.spec_pair.specs.World.{AreAllowed, Can, EndsBy, MachineEvent, HasOwners, TableHolds, IsKept, IsWorld, Scene, TableTranslates, box_in, after_act, after_event, flip, mail_in, after_events, seen_by, founding, tables_of, with_step};
 
 /// The headline, for any loss, repetition and reordering of datagrams, for ever too, any crashes and boots that are
-/// allowed, and while both gateways make pairs by themselves too. No outside port of an open pair serves another endpoint;
-/// no endpoint gets another port, save where one of the two pairs was alone, and no gateway holds more than two pairs of
-/// it; every open pair is held by each synced gateway, or, while it is private to one of them, by that one; no unsynced
-/// gateway uses a pair, and each synced gateway translates with the pairs that are in use there. No port is owned by two
-/// synced gateways, and once both have taken all that was pushed each port of the ranges has an owner.
+/// allowed, and while both gateways make pairs by themselves too. No outside port of an open pair serves another
+/// endpoint; no endpoint gets another port, save where one of the two pairs was alone, and no gateway holds more than
+/// two pairs of it; every open pair is held by each synced gateway, or, while it is private to one of them, by that
+/// one; no unsynced gateway uses a pair, and each synced gateway translates with the pairs that are in use there. No
+/// port is owned by two synced gateways, and once both have taken all that was pushed each port of the ranges has an
+/// owner.
 pub fn the_pair_keeps()
     ensures kept { (r : Ranges) (events : List MachineEvent)
         → AreAllowed r events (founding r) →
@@ -252,9 +253,9 @@ pub fn unsynced_is_behind()
         v.theirs.taken < length v.mine.sent }
 {}
 
-/// A list of the pairs of a table, each once and on ports of the ranges, may be put into a batch, where the second pair of
-/// an endpoint goes as a Tell. Each pair has room where it is loaded, and a gateway that owns the ports `own` has the
-/// mirrored table in the end.
+/// A list of the pairs of a table, each once and on ports of the ranges, may be put into a batch, where the second
+/// pair of an endpoint goes as a Tell. Each pair has room where it is loaded, and a gateway that owns the ports `own`
+/// has the mirrored table in the end.
 pub fn batch_loads()
     ensures loads { (r : Ranges) (own : Key → Bool) (table : Key → Slot) (xs : List Parcel) →
         LieWithin r table → AreThose table xs → AreApart own xs → AreLoadable r own empty xs }
@@ -304,9 +305,10 @@ pub fn rows_lead()
 {}
 
 /// Whole runs in which pairs are made without the other's answer. Both gateways make a pair alone and tell the other
-/// (`met`); pairs of one endpoint, of which the second goes as a Tell in the next batch (`two_ports`); a Tell that crosses a
-/// proposal for its endpoint (`tell_crosses`); proposals that are marked, and refused then (`go_on`); a pair whose deletion
-/// was asked for, and that is marked before the Yes comes (`taken_back`); a pair that is lost with its box (`untold`).
+/// (`met`); pairs of one endpoint, of which the second goes as a Tell in the next batch (`two_ports`); a Tell that
+/// crosses a proposal for its endpoint (`tell_crosses`); proposals that are marked, and refused then (`go_on`); a pair
+/// whose deletion was asked for, and that is marked before the Yes comes (`taken_back`); a pair that is lost with its
+/// box (`untold`).
 pub fn alone_rows_lead()
     ensures met { LeadsTo two_ranges (loading ++ made_alone ++ meeting pair_b)
         (loading_notes ++ made_alone_notes ++ meeting_notes pair_b)

@@ -9,7 +9,7 @@ use Rattle.nat_types.specs.declared.notes.NoteKind.TheVariants.{Used, Released, 
 use Rattle.nat_types.specs.declared.notes.Note.{Note}
 use Rattle.nat_types.specs.Same.{same, other, same_pair}
 use Rattle.spec_trace.specs.Past.{synced_after, is_synced, released_after, has_released, is_in_use, private_after, is_private, is_only_at, is_agreed, open_after, is_open, is_alone_word, was_alone, goes_after, goes_on, DoFit, FitsAt, Fits, OnePortAt, OnePort, OneEndpointAt, OneEndpoint, SilentAt, Silent, IsHeldApart, rest_of, UsesAt, UsedInLife, IdleAt, Idle}
-use Rattle.spec_trace.specs.Position.{is_state_word, is_state, SyncedSays, is_pair_word, is_on_pair, LetGoSays, InUseSays, is_private_word, is_of_privacy, PrivateSays, OnlyAtSays, AgreedSays, Deletes, Loses, OpenSays, WasAloneSays, Each, FitsHere, FitsSays, OnePortHere, OnePortSays, OneEndpointHere, OneEndpointSays, SilentHere, SilentSays, HeldApartSays, KeptSays, is_boot_word, is_of_life, GoesOnSays, UseSays, IdleHere, IdleSays}
+use Rattle.spec_trace.specs.Position.{is_state_word, is_state, SyncedSays, is_pair_word, is_on_pair, LetGoSays, InUseSays, is_private_word, is_of_privacy, PrivateSays, OnlyAtSays, AgreedSays, Deletes, Loses, OpenSays, WasAloneSays, Each, FitsHere, FitsSays, OnePortHere, OnePortSays, OneEndpointHere, OneEndpointSays, SilentHere, SilentSays, KeptSays, is_boot_word, is_of_life, GoesOnSays, UseSays, IdleHere, IdleSays}
 use Rattle.nat_types.proofs.Offered.{same-eq, same-true, pair-eq, pair-true}
 use Rattle.spec_trace.proofs.Places.{at_within, at_old, at_last, at_cases, take_old, take_here, last_of, Says, says, last_unique, none_unique, reverse_more}
 

@@ -244,7 +244,9 @@ fn are_kept(
     requires one { synced.1 ≡ past.is_synced One (reverse trace.now) }
     ensures { IsTrue result ↔ All (IsHeld zero.now one.now (reverse trace.now)) opens.now }
 {
-    opens.iter().all(|open| is_kept(trace, synced, zero, one, *open))
+    opens
+        .iter()
+        .all(|open| is_kept(trace, synced, zero, one, *open))
 }
 
 fn remove(opens: &mut Vec<Pair>, pair: Pair)

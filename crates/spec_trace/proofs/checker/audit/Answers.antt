@@ -1,11 +1,10 @@
-use Rattle.std.proofs.Common.{◌<◌, length, take, reverse, List, IsTrue, sym, ◌∙◌, subst, arith}
+use Rattle.std.proofs.Common.{◌<◌, length, take, reverse, List, arith}
 use Rattle.std.specs.List.{All}
 use Rattle.std.proofs.lemmas.Bool.{both_ways}
 use Rattle.std.proofs.lemmas.Result.{err_from_is_err_and}
 use Rattle.nat_types.specs.declared.notes.Note.{Note}
-use Rattle.nat_types.specs.declared.pairs.Pair.{Pair}
 use Rattle.spec_trace.specs.Audit.{IsHeld, Going}
-use Rattle.spec_trace.proofs.Notes.{gateway_is, going_on, going_next, going_end, charged, isnt_kept, is_kept}
+use Rattle.spec_trace.proofs.Notes.{going_on, going_next, going_end, charged, isnt_kept, is_kept}
 use Rattle.spec_trace.proofs.checker.audit.Goals as goal
 
 pub returns-in_err-judge-clause-fault : goal.returns-in_err-judge-clause-fault
