@@ -1,5 +1,5 @@
 -- What the checker of traces does at each note.
-use Rattle.std.proofs.Common.{◌≡◌, inl, ℕ, ◌+◌, ◌-◌, ◌<◌, ◌≤◌, Bool, true, false, not, ◌&&◌, ◌||◌, cond, List, [], ◌∷◌, ◌++◌, length, take, get_or, filter, reverse, IsTrue, ◌↔◌, refl, sym, ap, subst, ◌∙◌, arith}
+use Rattle.std.proofs.Common.{◌≡◌, ℕ, ◌+◌, ◌-◌, ◌<◌, ◌≤◌, Bool, true, false, not, ◌&&◌, cond, List, [], ◌∷◌, ◌++◌, length, take, get_or, filter, reverse, IsTrue, ◌↔◌, refl, sym, ap, subst, ◌∙◌, arith}
 use Rattle.std.specs.List.{All, Contains}
 use Rattle.std.proofs.lemmas.List.{take_all}
 use Rattle.std.proofs.lemmas.List.Elements.{All-contains, Contains-get_or}
@@ -9,11 +9,11 @@ use Rattle.nat_types.specs.declared.pairs.Pair.{Pair}
 use Rattle.nat_types.specs.declared.notes.NoteKind.{NoteKind}
 use Rattle.nat_types.specs.declared.notes.NoteKind.TheVariants.{Used, Released, Crashed}
 use Rattle.nat_types.specs.declared.notes.Note.{Note}
-use Rattle.nat_types.specs.Same.{same_pair, other}
+use Rattle.nat_types.specs.Same.{same_pair}
 use Rattle.nat_types.proofs.Offered.{pair-eq}
 use Rattle.spec_trace.specs.declared.checker.AuditFault.{AuditFault}
 use Rattle.spec_trace.specs.declared.checker.AuditFault.TheVariants.{NoMemory, NotFits, NotKept, NotSilent}
-use Rattle.spec_trace.specs.Past.{is_open, synced_after, is_synced, has_released, is_only_at, is_agreed, open_after, OnePortAt, OneEndpointAt, SilentAt, OnePort, OneEndpoint, Silent, Kept}
+use Rattle.spec_trace.specs.Past.{is_open, synced_after, is_synced, is_only_at, is_agreed, open_after, OnePortAt, OneEndpointAt, SilentAt, OnePort, OneEndpoint, Silent, Kept}
 use Rattle.spec_trace.specs.Audit.{ListsHold, DoSuit, IsHeld, FitsUnlessAlone, FirstNotFits, FirstNotSilent, FaultSays, AreOpen, Judged, Going, by_gateway}
 use Rattle.spec_trace.proofs.Lists.{push_iff, has_iff, without_iff, less_iff, reverse_take}
 
@@ -113,12 +113,3 @@ going_next opens zero one xs i n lt here g = subst (λ (t : List Note). Going op
 -- what is known after the first i notes is known of the whole trace, where it has no more
 pub going_end : (opens : List Pair) (zero one : Bool) (xs : List Note) (i : ℕ) → length xs ≤ i → Going opens zero one (reverse (take i xs)) → Going opens zero one (reverse xs)
 going_end opens zero one xs i le g = subst (λ (t : List Note). Going opens zero one (reverse t)) (take_all i xs le) g
-
--- a release is agreed where the other gateway isn't synced or has let the pair go, or the pair is only at the one
-pub agreed_is : (i : GatewayId) (p : Pair) (t : List Note) (alone gone : Bool) → alone ≡ not (is_synced (other i) t) → gone ≡ has_released (other i) p t → is_agreed i p t ≡ ((alone || gone) || is_only_at i p t)
-agreed_is i p t alone gone a b = ap (λ x. (x || has_released (other i) p t) || is_only_at i p t) (sym a) ∙ ap (λ x. (alone || x) || is_only_at i p t) (sym b)
-
--- whether an open pair is held, by what two tables have
-pub is_held : (zero one : List Pair) (t : List Note) (p : Pair) (z o : Bool) → z ≡ is_synced Zero t → o ≡ is_synced One t → (IsTrue z → Contains zero p) → (IsTrue o → Contains one p) → IsHeld zero one t p
-is_held zero one t p z o a b have_zero have_one Zero s = inl (have_zero (a ∙ s))
-is_held zero one t p z o a b have_zero have_one One s = inl (have_one (b ∙ s))

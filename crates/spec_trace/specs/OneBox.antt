@@ -1,6 +1,6 @@
--- One box: a map from keys to endpoints, carried along a run of moves. It is one to one, save for the endpoints of pairs
--- that were alone. Of the two gateways a run uses which of them are synced, which deletions are agreed, which pairs are
--- lost with a box and which were alone, and when each gateway used and last released a pair.
+-- One box: a map from keys to endpoints, carried along a run of moves. It is one to one, save for the endpoints of
+-- pairs that were alone. Of the two gateways a run uses which of them are synced, which deletions are agreed, which
+-- pairs are lost with a box and which were alone, and when each gateway used and last released a pair.
 use Rattle.std.specs.Prelude.{◌≡◌, ℕ, ◌+◌, ◌≤◌, Bool, false, not, ◌&&◌, ◌||◌, cond, List, [], ◌∷◌, IsTrue, Option, Some, None, reverse}
 use Rattle.nat_types.specs.declared.gateways.GatewayId.{GatewayId}
 use Rattle.nat_types.specs.declared.pairs.Pair.{Pair}

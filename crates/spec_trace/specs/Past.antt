@@ -23,7 +23,8 @@ synced_after gateway by Synced was = cond (same gateway by) true was
 synced_after gateway by Crashed was = cond (same gateway by) false was
 synced_after gateway by (Booted number) was = cond (same gateway by) false was
 
--- Synced: the last note of the gateway among Synced, Crashed and Booted is Synced. With no such note, gateway 0 is synced.
+-- Synced: the last note of the gateway among Synced, Crashed and Booted is Synced. With no such note, gateway 0 is
+-- synced.
 abbrev pub is_synced : GatewayId → List Note → Bool
 is_synced gateway [] = same gateway Zero
 is_synced gateway (note ∷ notes) = synced_after gateway note.by note.what (is_synced gateway notes)
@@ -157,7 +158,8 @@ abbrev pub Fits : List Note → Type 0
 Fits [] = Unit {0}
 Fits (note ∷ notes) = FitsAt note.what notes × Fits notes
 
--- One port at a note: the pair that it uses has the endpoint of each pair on its key that is open after the notes before.
+-- One port at a note: the pair that it uses has the endpoint of each pair on its key that is open after the notes
+-- before.
 abbrev pub OnePortAt : NoteKind → List Note → Type 0
 OnePortAt (Used pair) notes =
     (q : Pair) → IsTrue (is_open q notes) → q.key ≡ pair.key → q.endpoint ≡ pair.endpoint

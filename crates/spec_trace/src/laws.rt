@@ -22,7 +22,8 @@ pub fn tests_are_equality()
     ensures pair { (p q : Pair) → IsTrue (same_pair p q) ↔ (p ≡ q) }
 {}
 
-/// A gateway is synced exactly where its last note among Synced, Crashed and Booted is Synced, or it has none and is gateway 0.
+/// A gateway is synced exactly where its last note among Synced, Crashed and Booted is Synced, or it has none and is
+/// gateway 0.
 pub fn synced_by_position()
     ensures { (i : GatewayId) (t : List Note) → IsSynced i t ↔ SyncedSays i t }
 {}
@@ -32,10 +33,10 @@ pub fn released_by_position()
     ensures { (i : GatewayId) (p : Pair) (t : List Note) → HasLetGo i p t ↔ LetGoSays i p t }
 {}
 
-/// A pair is in use at a gateway exactly where the gateway is synced and its last note on the pair, in its present life,
-/// is there and isn't Released. A pair is private to a gateway exactly where its last note on the pair among Alone,
-/// Retaken and Released, in its present life, is Alone. It is only at that gateway (`only`) exactly where, besides, it
-/// isn't in use at the other.
+/// A pair is in use at a gateway exactly where the gateway is synced and its last note on the pair, in its present
+/// life, is there and isn't Released. A pair is private to a gateway exactly where its last note on the pair among
+/// Alone, Retaken and Released, in its present life, is Alone. It is only at that gateway (`only`) exactly where,
+/// besides, it isn't in use at the other.
 pub fn private_by_position()
     ensures in_use { (i : GatewayId) (p : Pair) (t : List Note) →
         IsInUse i p t ↔ InUseSays i p t }
@@ -50,14 +51,14 @@ pub fn alone_by_position()
     ensures { (p : Pair) (t : List Note) → WasAlone p t ↔ WasAloneSays p t }
 {}
 
-/// A release is an agreed deletion exactly where the other gateway isn't synced, or has let the pair go, or where the pair
-/// is private to the one and not in use at the other.
+/// A release is an agreed deletion exactly where the other gateway isn't synced, or has let the pair go, or where the
+/// pair is private to the one and not in use at the other.
 pub fn agreed_by_position()
     ensures { (i : GatewayId) (p : Pair) (t : List Note) → IsAgreed i p t ↔ AgreedSays i p t }
 {}
 
-/// A pair is open exactly where there is a use of it, and after that use no agreed deletion of it and no crash with which
-/// it is lost.
+/// A pair is open exactly where there is a use of it, and after that use no agreed deletion of it and no crash with
+/// which it is lost.
 pub fn open_by_position()
     ensures { (p : Pair) (t : List Note) → IsOpen p t ↔ OpenSays p t }
 {}
@@ -68,13 +69,14 @@ pub fn fits_by_position()
     ensures { (t : List Note) → Fits t ↔ FitsSays t }
 {}
 
-/// One port holds of a trace exactly where a used pair has the endpoint of each pair on its key that is open just before.
+/// One port holds of a trace exactly where a used pair has the endpoint of each pair on its key that is open just
+/// before.
 pub fn one_port_by_position()
     ensures { (t : List Note) → OnePort t ↔ OnePortSays t }
 {}
 
-/// One endpoint holds of a trace exactly where a used pair shares only its endpoint with a pair that is open just before
-/// if one of the two was alone.
+/// One endpoint holds of a trace exactly where a used pair shares only its endpoint with a pair that is open just
+/// before if one of the two was alone.
 pub fn one_endpoint_by_position()
     ensures { (t : List Note) → OneEndpoint t ↔ OneEndpointSays t }
 {}
@@ -84,8 +86,8 @@ pub fn silent_by_position()
     ensures { (t : List Note) → Silent t ↔ SilentSays t }
 {}
 
-/// The tables are kept exactly where each synced gateway holds each open pair, or the pair is private to a synced gateway
-/// that holds it. A synced gateway holds at most two pairs of one endpoint (`two`).
+/// The tables are kept exactly where each synced gateway holds each open pair, or the pair is private to a synced
+/// gateway that holds it. A synced gateway holds at most two pairs of one endpoint (`two`).
 pub fn kept_by_position()
     ensures kept { (holds : GatewayId → Pair → Bool) (t : List Note) →
         Kept (λ i p. IsTrue (holds i p)) t ↔ KeptSays (λ i p. IsTrue (holds i p)) t }
@@ -147,8 +149,8 @@ pub fn one_more_sentence()
         Idle (t ++ n ∷ []) ↔ past.IdleAt n.by n.at n.what (reverse t) × Idle t }
 {}
 
-/// In a trace without a note Alone no pair is private, One port and One endpoint together are Fits, and the words Agreed
-/// deletion, Open and Kept are what they are without that note.
+/// In a trace without a note Alone no pair is private, One port and One endpoint together are Fits, and the words
+/// Agreed deletion, Open and Kept are what they are without that note.
 pub fn none_was_alone()
     ensures private { (i : GatewayId) (p : Pair) (t : List Note) → plain.IsPlain (reverse t) →
         IsPrivate i p t → ⊥ }
@@ -169,16 +171,16 @@ pub fn none_is_private()
         (p : Pair) → IsOpen p t → (i : GatewayId) → IsSynced i t → IsTrue (holds i p) }
 {}
 
-/// A trace of One port and One endpoint that is idle is a run of one box. One box is a map from keys to endpoints, one to
-/// one save for pairs that were alone. A use is of a pair in the map, which is allotted just before where the map doesn't
-/// have it. An agreed deletion drops the pair, which has then rested at each synced gateway. A crash loses the pairs that
-/// are lost with that box.
+/// A trace of One port and One endpoint that is idle is a run of one box. One box is a map from keys to endpoints, one
+/// to one save for pairs that were alone. A use is of a pair in the map, which is allotted just before where the map
+/// doesn't have it. An agreed deletion drops the pair, which has then rested at each synced gateway. A crash loses the
+/// pairs that are lost with that box.
 pub fn is_one_box()
     ensures { (t : List Note) → OnePort t → OneEndpoint t → Idle t → IsOneBox t }
 {}
 
-/// The map of any run of one box has exactly the open pairs, and is one to one save for pairs that were alone. So One port
-/// and One endpoint hold of the notes of any run.
+/// The map of any run of one box has exactly the open pairs, and is one to one save for pairs that were alone. So One
+/// port and One endpoint hold of the notes of any run.
 pub fn one_box_says()
     ensures opens { (m : Map) (t : List Note) → IsRun m (reverse t) → (p : Pair) →
         m p ≡ past.is_open p (reverse t) }
