@@ -1,5 +1,5 @@
 -- The states of a table's entries and the records of the link, as slots and records of the machine.
-use Rattle.std.specs.Prelude.{map}
+use Rattle.std.specs.Prelude.{false, map}
 use Rattle.nat_types.specs.declared.pairs.Endpoint.{Endpoint}
 use Rattle.nat_types.specs.declared.pairs.EntryState.{EntryState}
 use Rattle.nat_types.specs.declared.pairs.EntryState.TheVariants.{Pending, Doomed, Live, Closing, Held}
@@ -9,10 +9,10 @@ use Rattle.spec_pair.specs.Talk as machine
 
 -- the slot of an entry, by its state and its endpoint
 abbrev pub slot_in : EntryState → Endpoint → machine.Slot
-slot_in Pending e = machine.Pending e
+slot_in Pending e = machine.Pending false e
 slot_in Doomed e = machine.Doomed e
 slot_in Live e = machine.Live e
-slot_in Closing e = machine.Closing e
+slot_in Closing e = machine.Closing false e
 slot_in Held e = machine.Held e
 
 -- the machine's record for a record of the link
