@@ -60,9 +60,10 @@ pub(crate) fn rank_of_state(state: EntryState) -> Option<Rank>
     match state {
         EntryState::Doomed => None,
         EntryState::Held => Some(Rank::Second),
-        EntryState::Pending { .. } | EntryState::Live | EntryState::Closing { .. } | EntryState::Alone => {
-            Some(Rank::First)
-        }
+        EntryState::Pending { .. }
+        | EntryState::Live
+        | EntryState::Closing { .. }
+        | EntryState::Alone => { Some(Rank::First) }
     }
 }
 
@@ -165,9 +166,10 @@ pub(crate) fn woken_state(state: EntryState) -> EntryState
     ensures { result ≡ woken state }
 {
     match state {
-        EntryState::Pending { .. } | EntryState::Live | EntryState::Closing { .. } | EntryState::Alone => {
-            EntryState::Live
-        }
+        EntryState::Pending { .. }
+        | EntryState::Live
+        | EntryState::Closing { .. }
+        | EntryState::Alone => { EntryState::Live }
         EntryState::Doomed => EntryState::Doomed,
         EntryState::Held => EntryState::Held,
     }

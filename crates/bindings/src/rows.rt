@@ -6,7 +6,9 @@ ghost use Rattle.bindings.specs.Lists.{first_after};
 ghost use Rattle.bindings.specs.Dues.{idle_among, is_idle_key};
 ghost use Rattle.bindings.specs.Ports.{is_free_in, is_vacant};
 
-use crate::entries::{endpoint_of, is_pair_state, is_translating, key_of, may_go_state, rank_of_state};
+use crate::entries::{
+    endpoint_of, is_pair_state, is_translating, key_of, may_go_state, rank_of_state,
+};
 use crate::store::Store;
 use crate::tallies::{Sought, is_sought_state};
 use crate::{Entry, TableFault};

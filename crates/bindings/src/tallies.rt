@@ -71,8 +71,12 @@ impl Tally {
         ensures alone { result.alone ≡ self.now.alone - one_if is_alone state }
     {
         Tally {
-            waiting: self.waiting.saturating_sub(usize::from(is_waiting_state(state))),
-            alone: self.alone.saturating_sub(usize::from(is_alone_state(state))),
+            waiting: self
+                .waiting
+                .saturating_sub(usize::from(is_waiting_state(state))),
+            alone: self
+                .alone
+                .saturating_sub(usize::from(is_alone_state(state))),
         }
     }
 }

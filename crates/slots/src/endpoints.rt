@@ -59,7 +59,11 @@ fn places_of<S: BuildHasher>(map: &IndexMap<Endpoint, Places, S>, endpoint: Endp
 }
 
 /// Gives an endpoint these slots, of which there is one at least, in place of those that it had.
-fn insert<S: BuildHasher>(map: &mut IndexMap<Endpoint, Places, S>, endpoint: Endpoint, places: Places)
+fn insert<S: BuildHasher>(
+    map: &mut IndexMap<Endpoint, Places, S>,
+    endpoint: Endpoint,
+    places: Places,
+)
     requires spare { 0 < spare map.old }
     requires some { 0 < slot_count places }
     ensures rewritten { AreRewritten map.old.entries endpoint places map.new.entries }
@@ -73,7 +77,11 @@ fn insert<S: BuildHasher>(map: &mut IndexMap<Endpoint, Places, S>, endpoint: End
 }
 
 /// Replaces the slots of an endpoint that has some. An endpoint of which none is left takes no memory.
-fn rewrite<S: BuildHasher>(map: &mut IndexMap<Endpoint, Places, S>, endpoint: Endpoint, places: Places)
+fn rewrite<S: BuildHasher>(
+    map: &mut IndexMap<Endpoint, Places, S>,
+    endpoint: Endpoint,
+    places: Places,
+)
     requires { 0 < slot_count (look_up map.old.entries endpoint) }
     ensures rewritten { AreRewritten map.old.entries endpoint places map.new.entries }
     ensures served { AreServed map.old.entries → AreServed map.new.entries }

@@ -33,9 +33,9 @@ invariant_of-self c =
         room = rw c.put_state.ensures.limit c.self.invariant.1.room;
       },
       (let keys = rises-distinct 0 (entries_of i.slots.rows) (rises-up 0 i.slots.rows c.self.invariant.0.keyed c.recall.ensures.order) in
-      let entries = (turned i.slots c.put_state.new.slots i.index c.unlist_turned.new.index c.args.key c.args.state c.in-Some.entry c.self.invariant.0 c.recall.ensures.order held (pair c.in-Some.entry held) (endpoints c.in-Some.entry held) c.put_state.ensures.some c.unlist_turned.ensures.slots c.unlist_turned.ensures.counts).1 in
-      subst (λ es. IsTally es c.plus-self-inside.result) (sym entries)
-      (tally-turned c.args.key c.args.state (entries_of i.slots.rows) c.in-Some.entry i.tally c.minus.result c.plus-self-inside.result keys held c.self.invariant.2 c.minus.ensures.waiting c.minus.ensures.alone c.plus-self-inside.ensures.waiting c.plus-self-inside.ensures.alone)),
+          let entries = (turned i.slots c.put_state.new.slots i.index c.unlist_turned.new.index c.args.key c.args.state c.in-Some.entry c.self.invariant.0 c.recall.ensures.order held (pair c.in-Some.entry held) (endpoints c.in-Some.entry held) c.put_state.ensures.some c.unlist_turned.ensures.slots c.unlist_turned.ensures.counts).1 in
+          subst (λ es. IsTally es c.plus-self-inside.result) (sym entries)
+          (tally-turned c.args.key c.args.state (entries_of i.slots.rows) c.in-Some.entry i.tally c.minus.result c.plus-self-inside.result keys held c.self.invariant.2 c.minus.ensures.waiting c.minus.ensures.alone c.plus-self-inside.ensures.waiting c.plus-self-inside.ensures.alone)),
     )
 
 pub plus-self-inside-requires : goal.plus-self-inside-requires
