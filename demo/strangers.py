@@ -296,7 +296,7 @@ def start_again(current, box, words, user, wanted):
     parent = os.getpid()
     done = subprocess.run(words, cwd=box.folder, capture_output=True, text=True, timeout=10,
                           preexec_fn=lambda: box.space.begin(parent, user))
-    said = done.stderr.strip().splitlines()[-1:]
+    said = [line for line in done.stderr.splitlines() if line.startswith("natpair")][-1:]
     current.say(f"a second start of box {box.number} ends with {done.returncode}: {' '.join(said)}")
     if done.returncode != 1 or wanted not in done.stderr:
         raise SystemExit(f"demo: a second start isn't refused as it should be: {done.stderr}")
