@@ -19,15 +19,23 @@ fn folder_of(path: &str) -> &str {
 }
 
 /// Opens the folder that a path's file lies in.
-fn open_folder<R: Files<File = File>>(rt: &R, path: &str) -> Result<File, FileFault> {
+fn open_folder<R: Files<File = File>>(rt: &R, path: &str) -> io::Result<File> {
     let mut options = OpenOptions::new();
     options.read(true);
-    options.open(rt, folder_of(path)).map_err(not_opened)
+    options.open(rt, folder_of(path))
 }
 
 /// Returns the fault of a file that can't be opened.
 fn not_opened(error: io::Error) -> FileFault {
     FileFault::NoFile(error.kind())
+}
+
+/// Returns the fault of a file that can't be made. `NoFile` is that of a folder that isn't there.
+fn not_made(error: io::Error) -> FileFault {
+    match error.kind() {
+        ErrorKind::NotFound => FileFault::NoFile(ErrorKind::NotFound),
+        cause => FileFault::NotMade(cause),
+    }
 }
 
 /// Opens a boot file, and locks it until the disk is dropped. Nothing of the file is read or written before.
@@ -37,7 +45,7 @@ fn not_opened(error: io::Error) -> FileFault {
 /// `NoFile`; `InUse` where the file is locked already, by another process or by this one; `NotLocked` where the system can't
 /// lock it.
 pub fn open<R: Files<File = File>>(rt: &R, path: &str) -> Result<FileDisk<File>, FileFault> {
-    let folder = open_folder(rt, path)?;
+    let folder = open_folder(rt, path).map_err(not_opened)?;
     let mut options = OpenOptions::new();
     options.read(true).write(true);
     let file = options.open(rt, path).map_err(not_opened)?;
@@ -57,10 +65,10 @@ pub fn open<R: Files<File = File>>(rt: &R, path: &str) -> Result<FileDisk<File>,
 ///
 /// # Errors
 ///
-/// `NoFile` where the folder can't be opened or no file can be made there; `Exists`; `NotWritten`, also where other bytes
-/// are read back; `NoMemory`. After each of them no file of that name was made.
+/// `NoFile` where the folder isn't there; `Exists`; `NotMade` where no file can be made there; `NotWritten`; `Altered`;
+/// `NotLinked`; `NoMemory`. After each of them no file of that name was made.
 pub fn create<R: Files<File = File> + AllocGlobal>(rt: &R, path: &str) -> Result<(), FileFault> {
-    let folder = open_folder(rt, path)?;
+    let folder = open_folder(rt, path).map_err(not_made)?;
     if rt.symlink_metadata(path).is_ok() {
         return Err(FileFault::Exists);
     }
@@ -83,13 +91,13 @@ fn make<R: Files<File = File>>(
     let mut options = OpenOptions::new();
     options.mode(OWNER_ONLY);
     options.read(true).write(true).create_new(true);
-    let file = options.open(rt, temporary).map_err(not_opened)?;
+    let file = options.open(rt, temporary).map_err(not_made)?;
     let mut disk = FileDisk::new(file, folder);
     write_zero(&mut disk)?;
     if let Err(error) = rt.hard_link(temporary, path) {
         return Err(match error.kind() {
             ErrorKind::AlreadyExists => FileFault::Exists,
-            _ => FileFault::NotWritten,
+            cause => FileFault::NotLinked(cause),
         });
     }
     if disk.sync().is_err() {
@@ -107,6 +115,7 @@ fn write_zero<D: Disk>(disk: &mut D) -> Result<(), FileFault> {
     let mut buffer = [0; 32];
     match disk.read(&mut buffer) {
         Ok(32) if buffer == zero_file() => Ok(()),
-        _ => Err(FileFault::NotWritten),
+        Ok(_) => Err(FileFault::Altered),
+        Err(_) => Err(FileFault::NotWritten),
     }
 }

@@ -3,7 +3,7 @@
 use crate::telling::{digest_of, write_pairs, write_refusal, write_step};
 use anyhow::Result;
 use cases_words::{Actor, Case};
-use faults::Fault;
+use faults::{Fault, TextFile};
 use frame_sim::{AuditFault, Step, World, audit};
 use gateway::Outcome;
 use nat_types::{GatewayId, NoMemory, WorldEvent};
@@ -46,7 +46,8 @@ fn text_at(rt: &HostRuntime, name: &str, kind: &str) -> Result<String> {
 
 /// Reads the job of two texts. The function has no contract, so that its caller has little to prove.
 fn read(alloc: Global, settings: &str, script: &str) -> Result<Job, Fault> {
-    read_job(alloc, settings, script)
+    let settings = TextFile::new("settings", settings);
+    read_job(alloc, settings, TextFile::new("script", script))
 }
 
 /// Founds a new world. The function has no contract, so that its caller has little to prove.

@@ -1,7 +1,7 @@
 //! The audit of a script's world: whether its trace and tables are those of a pair that keeps its promises.
 
 use cases_words::Case;
-use faults::Fault;
+use faults::{Fault, TextFile};
 use frame_sim::{AuditFault, World, audit};
 use nat_types::{GatewayId, NoMemory, WorldEvent};
 use settings::Settings;
@@ -23,7 +23,8 @@ pub(crate) fn audited(settings: &str, script: &str, after_each: bool, case: &mut
 /// Reads a settings text and a script as a job. The function has no contract, which keeps the proofs of its callers
 /// small.
 fn read(alloc: Global, settings: &str, script: &str) -> Result<Job, Fault> {
-    read_job(alloc, settings, script)
+    let settings = TextFile::new("settings", settings);
+    read_job(alloc, settings, TextFile::new("script", script))
 }
 
 /// Returns a new world of these settings. The function has no contract, for the same reason.

@@ -5,7 +5,7 @@ use crate::reading::settings_in;
 use crate::rows::settled;
 use cases_words::{Actor, Case, unbuffered};
 use checks::{CheckOptions, check, compare};
-use faults::{Fault, read_text, report_at};
+use faults::{Fault, TextFile, read_text, report_at};
 use gate::digest;
 use nat_types::GatewayId;
 use std::io::Write;
@@ -43,7 +43,7 @@ fn check_options(options: &str) -> CheckOptions<'_> {
 }
 
 /// Returns the sample with all edits, which are pairs of an old line and its new text.
-fn all_edited(sample: &str, case: &mut Case) -> String {
+pub(crate) fn all_edited(sample: &str, case: &mut Case) -> String {
     let copied = String::from_str(case.alloc, sample);
     let mut text = case.or_empty(copied);
     for _ in 0..case.left() / 2 {
@@ -69,7 +69,8 @@ fn say<O: Write>(
                 Ok(text) => text,
                 Err(fault) => return Ok(report_at(rt.alloc(), &fault, EDITED, errors)),
             };
-            check(rt, text.as_str(), &check_options(options), output)
+            let file = TextFile::new(EDITED, text.as_str());
+            check(rt, file, &check_options(options), output)
         }
     }
 }

@@ -4,11 +4,11 @@ use crate::reading::settings_in;
 use cases_words::{Actor, Case};
 use nat_types::GatewayId;
 use settings::Settings;
-use settings_file::{Key, OnLoopback, port_clash, port_clash_of_both};
+use settings_file::{OnLoopback, PortClash, port_clash, port_clash_of_both};
 
-fn say(clash: Option<Key>, case: &mut Case) {
+fn say(clash: Option<PortClash>, case: &mut Case) {
     match clash {
-        Some(key) => case.say(" ", key),
+        Some(clash) => case.say(" ", clash.key),
         None => case.put(" none"),
     }
 }
@@ -22,7 +22,7 @@ fn say_clashes(settings: &Settings, on: OnLoopback, case: &mut Case) {
 }
 
 /// Returns the places that are on loopback: inside for `i`, outside for `o`, link for `l`.
-fn places_in(places: &str) -> OnLoopback {
+pub(crate) fn places_in(places: &str) -> OnLoopback {
     OnLoopback {
         inside: places.contains('i'),
         outside: places.contains('o'),

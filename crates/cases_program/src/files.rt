@@ -27,6 +27,22 @@ fn written(rt: &HostRuntime, text: &str) -> Result<()> {
     Ok(())
 }
 
+/// Writes the file NAME, where the line is `NAME COUNT`: S.toml with a comment behind it, COUNT bytes in all.
+pub(crate) fn lengthen(rt: &HostRuntime, case: &mut Case) {
+    let name = case.name();
+    let count = case.count();
+    case.keep(lengthened(rt, name.as_str(), count));
+}
+
+fn lengthened(rt: &HostRuntime, name: &str, count: usize) -> Result<()> {
+    let mut text = fs::read_to_string(rt, "S.toml")?;
+    while text.len() < count {
+        text.push('#')?;
+    }
+    fs::write(rt, name, text.as_str())?;
+    Ok(())
+}
+
 /// Prints the bytes of a file.
 pub(crate) fn show(rt: &HostRuntime, case: &mut Case) {
     let bytes = fs::read(rt, case.word());

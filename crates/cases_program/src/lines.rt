@@ -5,7 +5,7 @@ use crate::memories::Memory;
 use crate::rows::{settled, status_of};
 use anyhow::Result;
 use cases_words::{Actor, Case};
-use faults::Fault;
+use faults::{Fault, TextFile};
 use simulation::{Capture, read_job, run_loop, run_loop_job};
 use std::alloc::Global;
 
@@ -60,6 +60,8 @@ fn run(rt: &HostRuntime, settings: &str, script: &str, memory: Option<Memory>, c
     let alloc = case.alloc;
     let plain = plain(rt, settings, script);
     let (mut output, mut errors) = (Vec::new(alloc), Vec::new(alloc));
+    let settings = TextFile::new("settings", settings);
+    let script = TextFile::new("script", script);
     let status = match memory {
         Some(memory) => through(alloc, settings, script, memory, &mut output),
         None => run_loop(rt, settings, script, None, &mut output),
@@ -75,8 +77,8 @@ fn run(rt: &HostRuntime, settings: &str, script: &str, memory: Option<Memory>, c
 /// Runs a script through a channel in memory.
 fn through(
     alloc: Global,
-    settings: &str,
-    script: &str,
+    settings: TextFile<'_>,
+    script: TextFile<'_>,
     mut memory: Memory,
     output: &mut Vec<u8>,
 ) -> std::result::Result<u8, Fault> {

@@ -1,7 +1,7 @@
 //! Settings read from a text.
 use cases_words::Case;
 use settings::Settings;
-use settings_file::SettingFault;
+use settings_file::{Explainer, SettingFault};
 use std::alloc::Global;
 
 /// Returns the settings that a text says. The function has no contract, which keeps the proofs of
@@ -17,7 +17,16 @@ pub(crate) fn say(text: &str, case: &mut Case) {
             drop(settings);
             case.put("read");
         }
-        Err(fault) => case.say("settings ", fault),
+        Err(fault) => tell(text, &fault, case),
     }
     case.end();
+}
+
+/// Prints a fault of a text, and on a second line what is wrong there.
+fn tell(text: &str, fault: &SettingFault, case: &mut Case) {
+    case.say("settings ", fault);
+    let mut explainer = Explainer::new(case.alloc, "settings.toml", text);
+    if let Some(why) = explainer.explain(fault) {
+        case.say("\n  ", why.as_str());
+    }
 }

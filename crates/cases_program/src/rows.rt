@@ -4,7 +4,7 @@ use crate::audits;
 use crate::files::text_at;
 use crate::narrow::Narrow;
 use cases_words::{Actor, Case, unbuffered};
-use faults::{Fault, read_text, report};
+use faults::{Fault, TextFile, read_text, report};
 use simulation::{Progress, run_sim};
 use std::alloc::{AllocError, Global};
 use std::io::Write;
@@ -94,6 +94,8 @@ pub(crate) fn status_of<O: Write>(
     output: &mut O,
     errors: &mut Vec<u8>,
 ) -> u8 {
+    let settings = TextFile::new("settings", settings);
+    let script = TextFile::new("script", script);
     let status = run_sim(rt, settings, script, None, &mut Nobody, output);
     settled(rt.alloc(), status, errors)
 }

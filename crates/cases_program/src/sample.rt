@@ -31,7 +31,7 @@ fn interface(case: &mut Case, text: &str, it: &InterfaceSettings, router: Option
     case.say("]\nvirtual = \"", it.virtual_ip);
     case.say("\"\nprefix = ", it.prefix_length);
     case.say("\nvrid = ", it.virtual_router);
-    case.say("\nwire = ", it.wire);
+    port(case, "\nwire = ", it.wire);
     if let Some(router) = router {
         case.say("\nrouter = \"", router);
         case.put("\"");
@@ -60,10 +60,18 @@ fn gateway(case: &mut Case, number: u8, it: &GatewaySettings) {
 
 fn places(case: &mut Case, it: &GatewaySettings) {
     case.say("\nboot_file = \"", it.boot_file.as_str());
-    case.say("\"\nlink = ", it.link);
-    case.say("\ninside_port = ", it.inside_port);
-    case.say("\noutside_port = ", it.outside_port);
+    case.put("\"");
+    port(case, "\nlink = ", it.link);
+    port(case, "\ninside_port = ", it.inside_port);
+    port(case, "\noutside_port = ", it.outside_port);
     case.end();
+}
+
+/// Prints a port behind a text, or nothing where there is none.
+fn port(case: &mut Case, text: &str, it: Option<u16>) {
+    if let Some(port) = it {
+        case.say(text, port);
+    }
 }
 
 fn neighbour(case: &mut Case, host: &Neighbour) {

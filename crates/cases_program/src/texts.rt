@@ -10,6 +10,7 @@ use crate::clashes::Clashes;
 use crate::disks::Disks;
 use crate::edits::Edits;
 use crate::lists::Lists;
+use crate::ports::Ports;
 use crate::reading::settings_in;
 use crate::tasks::Tasks;
 use crate::{boots, sample};
@@ -67,6 +68,7 @@ fn try_texts(rt: &HostRuntime, sample: &str, read: &Settings, case: &mut Case) -
     play(rt, "settings.cases", Edits { sample }, case)?;
     play(rt, "lists.cases", Lists { sample }, case)?;
     play(rt, "clashes.cases", Clashes { sample }, case)?;
+    play(rt, "ports.cases", Ports { sample }, case)?;
     say_digest(read, case);
     Ok(())
 }

@@ -2,7 +2,7 @@
 
 use crate::rows::tell;
 use crate::tasks::words_of;
-use crate::{files, listening};
+use crate::{files, listening, made_faults};
 use anyhow::{Context, Result};
 use cases_words::{Actor, Case};
 use commands::act;
@@ -20,7 +20,9 @@ impl Actor for Words {
     /// A line is the words of a command line, or one of these:
     ///
     /// - `+ NAME;OLD;NEW` writes the file NAME: S.toml with its first line OLD replaced by NEW
+    /// - `& NAME COUNT` writes the file NAME: S.toml with a comment behind it, COUNT bytes in all
     /// - `= NAME` prints the bytes of the file NAME
+    /// - `~ NAME` prints what is reported of a fault that is made by hand (`made_faults`)
     /// - `? PORT WORDS` is the words, and then the bytes of the first datagram that came to a UDP port on the loopback address
     /// - `! FILE WORDS` is the words while a box runs on the boot file FILE
     /// - `@ FILE WORDS` is the words, and then what was said at the control socket beside the boot file FILE, where nobody
@@ -31,7 +33,9 @@ impl Actor for Words {
         case.title("== ", "\n");
         match case.word() {
             "+" => files::write(&self.rt, case),
+            "&" => files::lengthen(&self.rt, case),
             "=" => files::show(&self.rt, case),
+            "~" => made_faults::tell(&self.rt, case),
             "?" => heard(&self.rt, case),
             "!" => held(&self.rt, case),
             "@" => unheard(&self.rt, case),

@@ -15,27 +15,33 @@ const ON_LOOPBACK: Ways = Ways {
     link: Way::Loopback,
 };
 
-/// The ports of the boxes, in the order of their list. The hub's link leads nowhere.
-const PORTS: [LoopbackPorts; 4] = [
+/// The ports of the boxes, in the order of their list, and of a box whose settings leave them out. The hub's link leads
+/// nowhere.
+const PORTS: [LoopbackPorts; 5] = [
     LoopbackPorts {
-        link: (27_001, 27_002),
-        inside: (27_011, 27_101),
-        outside: (27_021, 27_102),
+        link: Some((27_001, 27_002)),
+        inside: Some((27_011, 27_101)),
+        outside: Some((27_021, 27_102)),
     },
     LoopbackPorts {
-        link: (27_002, 27_001),
-        inside: (27_012, 27_101),
-        outside: (27_022, 27_102),
+        link: Some((27_002, 27_001)),
+        inside: Some((27_012, 27_101)),
+        outside: Some((27_022, 27_102)),
     },
     LoopbackPorts {
-        link: (27_003, 27_004),
-        inside: (27_101, 27_011),
-        outside: (27_102, 27_021),
+        link: Some((27_003, 27_004)),
+        inside: Some((27_101, 27_011)),
+        outside: Some((27_102, 27_021)),
     },
     LoopbackPorts {
-        link: (27_005, 27_006),
-        inside: (27_015, 27_016),
-        outside: (27_025, 27_026),
+        link: Some((27_005, 27_006)),
+        inside: Some((27_015, 27_016)),
+        outside: Some((27_025, 27_026)),
+    },
+    LoopbackPorts {
+        link: None,
+        inside: None,
+        outside: None,
     },
 ];
 
@@ -95,13 +101,14 @@ fn way_in(case: &mut Case, descriptor: Option<u16>) -> Way {
     case.or(read, Way::Loopback)
 }
 
-/// Returns the place of a box in their list.
+/// Returns the place of a box in the list of ports.
 pub(crate) fn number_of(name: &str) -> usize {
     match name {
         "zero" => 0,
         "one" => 1,
         "hub" => 2,
         "other" => 3,
+        "portless" => 4,
         _ => usize::MAX,
     }
 }

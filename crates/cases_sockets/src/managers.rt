@@ -11,7 +11,8 @@ use std::os::unix::net::UnixStream;
 
 /// Reads a text as a service manager's descriptor, which isn't open, and prints its number, or `none`.
 pub(crate) fn read_manager(case: &mut Case) {
-    match ServiceManager::read(case.word()) {
+    let alloc = case.alloc;
+    match ServiceManager::read(alloc, case.word()) {
         Err(Fault::ManagerNotOpen(number)) => case.say("  descriptor ", number),
         Err(_) => case.put("  none"),
         Ok(_) => case.fault(),
@@ -85,7 +86,7 @@ fn told_over(rt: &HostRuntime, is_gone: bool, news: News) -> io::Result<UnixStre
     }
     other.set_nonblocking(true)?;
     let text = format!(in rt.alloc(); "descriptor:{}", own.as_raw_fd())?;
-    match ServiceManager::read(text.as_str()) {
+    match ServiceManager::read(rt.alloc(), text.as_str()) {
         Ok(manager) => tell(&mut Some(manager), news),
         Err(_) => return Err(ErrorKind::NotFound.into()),
     }

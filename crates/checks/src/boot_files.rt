@@ -2,12 +2,13 @@
 
 use crate::findings::Findings;
 use boot_store::slot_number;
+use faults::{BootCause, Cause};
 use nat_types::GatewayId;
 use settings::Settings;
 use settings_file::{Key, Name, Section};
 use std::alloc::AllocError;
 use std::fs::{self, File, Files, OpenFile, TryLockError};
-use std::io::{self, Read};
+use std::io::{self, ErrorKind, Read};
 use std::os::unix::fs::PermissionsExt;
 
 /// The size of a slot of a boot file, in bytes. A boot file has two slots.
@@ -16,8 +17,8 @@ const SLOT: usize = 16;
 /// The state of a boot file.
 #[derive(Clone, Copy)]
 struct BootFile {
-    /// The number of the last start, or None where both slots are invalid.
-    number: Option<u64>,
+    /// The number of the last start, or why there is none.
+    number: Result<u64, BootCause>,
     /// The mode bits, or None where they are unknown.
     mode: Option<u32>,
     /// Whether a box runs on the file.
@@ -36,11 +37,16 @@ pub(crate) fn report_boot_file<R: Files<File = File>>(
         GatewayId::One => Section::GatewayOne,
     };
     let key = Key::new(section, Name::BootFile);
-    match inspect(rt, settings.gateway(id).boot_file.as_str()) {
-        Err(_) => findings.fault(format_args!("file 1 NoFile {key}")),
-        Ok(None) => report_number(None, key, findings),
+    let path = settings.gateway(id).boot_file.as_str();
+    match inspect(rt, path) {
+        Err(error) => {
+            let cause = Cause(error.kind());
+            findings.fault(format_args!("file 1 NoFile {key}"))?;
+            findings.reason(format_args!("{path}: {cause}"))
+        }
+        Ok(None) => report_number(Err(BootCause::NotRegular), path, key, findings),
         Ok(Some(found)) => {
-            report_number(found.number, key, findings)?;
+            report_number(found.number, path, key, findings)?;
             report_use(found, key, findings)
         }
     }
@@ -65,22 +71,40 @@ fn inspect<R: Files<File = File>>(rt: &R, path: &str) -> io::Result<Option<BootF
 }
 
 /// Reads the greater number of a file's valid slots.
-fn read_number(file: &mut File) -> Option<u64> {
+fn read_number(file: &mut File) -> Result<u64, BootCause> {
     let mut bytes = [0; 2 * SLOT];
-    file.read_exact(&mut bytes).ok()?;
+    if let Err(error) = file.read_exact(&mut bytes) {
+        return Err(match error.kind() {
+            ErrorKind::UnexpectedEof => BootCause::Short,
+            _ => BootCause::Failed,
+        });
+    }
     match (slot_number(&bytes[..SLOT]), slot_number(&bytes[SLOT..])) {
-        (None, number) | (number, None) => number,
-        (Some(one), Some(other)) => Some(one.max(other)),
+        (None, None) => Err(BootCause::Invalid),
+        (None, Some(number)) | (Some(number), None) => Ok(number),
+        (Some(one), Some(other)) => Ok(one.max(other)),
     }
 }
 
-/// Reports the number of the last start. A number with which no box starts is a fault.
-fn report_number(number: Option<u64>, key: Key, findings: &mut Findings) -> Result<(), AllocError> {
+/// Reports the number of the last start. A number with which no box starts, and none, is a fault.
+fn report_number(
+    number: Result<u64, BootCause>,
+    path: &str,
+    key: Key,
+    findings: &mut Findings,
+) -> Result<(), AllocError> {
     match number {
-        None => findings.fault(format_args!("boot 2 Damaged {key}")),
-        Some(u64::MAX) => findings.fault(format_args!("boot 3 BootsUsedUp {key}")),
-        Some(0) => findings.note(format_args!("{key}: no start yet")),
-        Some(boot) => findings.note(format_args!("{key}: the last start was boot {boot}")),
+        Err(cause) => {
+            findings.fault(format_args!("boot 2 Damaged {key}"))?;
+            findings.reason(format_args!("{path}: {cause}"))
+        }
+        Ok(u64::MAX) => {
+            let cause = BootCause::UsedUp;
+            findings.fault(format_args!("boot 3 BootsUsedUp {key}"))?;
+            findings.reason(format_args!("{path}: {cause}"))
+        }
+        Ok(0) => findings.note(format_args!("{key}: no start yet")),
+        Ok(boot) => findings.note(format_args!("{key}: the last start was boot {boot}")),
     }
 }
 

@@ -1,7 +1,7 @@
 //! The comparison of the settings of two files.
 
 use crate::{differing_keys, may_differ};
-use faults::{Fault, read_text, report_at};
+use faults::{Fault, TextFile, read_settings_text, report_at, settings_in};
 use settings::Settings;
 use std::alloc::Global;
 use std::fs::Files;
@@ -26,8 +26,8 @@ pub fn compare<R: Files + AllocGlobal, W: Write, E: Write>(
     let (Some(first), Some(second)) = (first, second) else {
         return Ok(1);
     };
-    let first = settings_in(alloc, first.as_str(), one, errors);
-    let second = settings_in(alloc, second.as_str(), other, errors);
+    let first = settings_of(alloc, TextFile::new(one, first.as_str()), errors);
+    let second = settings_of(alloc, TextFile::new(other, second.as_str()), errors);
     match (first, second) {
         (Some(first), Some(second)) => write_differences(alloc, &first, &second, output),
         _ => Ok(1),
@@ -36,7 +36,7 @@ pub fn compare<R: Files + AllocGlobal, W: Write, E: Write>(
 
 /// Reads the text of a file, or reports why there is none.
 fn text_at<R: Files + AllocGlobal, E: Write>(rt: &R, path: &str, errors: &mut E) -> Option<String> {
-    match read_text(rt, path) {
+    match read_settings_text(rt, path) {
         Ok(text) => Some(text),
         Err(fault) => {
             report_at(rt.alloc(), &fault, path, errors);
@@ -45,17 +45,12 @@ fn text_at<R: Files + AllocGlobal, E: Write>(rt: &R, path: &str, errors: &mut E)
     }
 }
 
-/// Reads the settings in the text of the file at a path, or reports why there are none.
-fn settings_in<E: Write>(
-    alloc: Global,
-    text: &str,
-    path: &str,
-    errors: &mut E,
-) -> Option<Settings> {
-    match settings_file::read(alloc, text) {
+/// Reads the settings in the text of a file, or reports why there are none.
+fn settings_of<E: Write>(alloc: Global, file: TextFile<'_>, errors: &mut E) -> Option<Settings> {
+    match settings_in(alloc, file) {
         Ok(settings) => Some(settings),
         Err(fault) => {
-            report_at(alloc, &Fault::from(fault), path, errors);
+            report_at(alloc, &fault, file.path, errors);
             None
         }
     }

@@ -1,6 +1,6 @@
 //! The lines of a check, with the number of its faults and warnings.
 
-use faults::Fault;
+use faults::{Fault, Reason};
 use std::alloc::{AllocError, Global};
 use std::fmt::Display;
 use std::io::Write;
@@ -28,6 +28,16 @@ impl Findings {
     pub(crate) fn fault<D: Display + Drop>(&mut self, what: D) -> Result<(), AllocError> {
         self.faults = self.faults.saturating_add(1);
         writeln!(self.text, "fault: {what}")
+    }
+
+    /// Adds a line for where the last fault lies and why.
+    pub(crate) fn reason<D: Display + Drop>(&mut self, what: D) -> Result<(), AllocError> {
+        writeln!(self.text, "  {what}")
+    }
+
+    /// Adds the second line of a fault.
+    pub(crate) fn reason_of(&mut self, fault: &Fault) -> Result<(), AllocError> {
+        write!(self.text, "{}", Reason(fault))
     }
 
     /// Adds a line for a warning.

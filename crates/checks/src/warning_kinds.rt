@@ -33,6 +33,8 @@ pub enum WarningKind {
     Twice,
     /// Another key before it has this loopback port.
     SamePort,
+    /// The loopback port is left out, and another one of its place isn't.
+    PortLeftOut,
 }
 
 impl WarningKind {
@@ -62,6 +64,8 @@ impl WarningKind {
             WarningKind::Twice => "this neighbour stands there before; the first counts",
             WarningKind::SamePort =>
                 "another key has this port: loop refuses it, and gate with both on loopback",
+            WarningKind::PortLeftOut =>
+                "left out, and another port of its place isn't: loop refuses it, and gate with the place on loopback",
         }
     }
 }

@@ -3,7 +3,7 @@
 use crate::{Warning, WarningKind};
 use addresses::Ip;
 use settings::{GatewaySettings, Neighbour, PortRange, Settings};
-use settings_file::{Key, Name, Section, add_port_clashes, is_network_address};
+use settings_file::{Key, Name, Section, add_left_out_ports, add_port_clashes, is_network_address};
 use std::alloc::{AllocError, Global};
 
 /// The longest path of a boot file beside which the control socket's path isn't too long, in bytes: the 107 of a
@@ -11,7 +11,7 @@ use std::alloc::{AllocError, Global};
 const MAX_BOOT_FILE_PATH: usize = 107 - ".control/socket".len();
 
 /// Returns all warnings of settings: those of the networks, of each gateway, of both gateways and of the neighbours,
-/// then the ports that two keys have.
+/// then the loopback ports that two keys have, and those that are left out beside others of their place.
 ///
 /// # Errors
 ///
@@ -24,13 +24,20 @@ pub fn warnings_of(alloc: Global, settings: &Settings) -> Result<Vec<Warning>, A
     add_warnings(&gateway_warnings(Section::GatewayOne, one), &mut found)?;
     add_warnings(&pair_warnings(zero, one), &mut found)?;
     add_neighbours(settings.neighbours.as_slice(), &mut found)?;
-    let mut clashes = Vec::new(alloc);
+    let (mut clashes, mut left_out) = (Vec::new(alloc), Vec::new(alloc));
     add_port_clashes(settings, &mut clashes)?;
-    for key in clashes.as_slice() {
-        let kind = WarningKind::SamePort;
+    add_keys(clashes.as_slice(), WarningKind::SamePort, &mut found)?;
+    add_left_out_ports(settings, &mut left_out)?;
+    add_keys(left_out.as_slice(), WarningKind::PortLeftOut, &mut found)?;
+    Ok(found)
+}
+
+/// Adds a warning of one kind at each of some keys.
+fn add_keys(keys: &[Key], kind: WarningKind, found: &mut Vec<Warning>) -> Result<(), AllocError> {
+    for key in keys {
         found.push(Warning { key: *key, kind })?;
     }
-    Ok(found)
+    Ok(())
 }
 
 /// Adds the warnings that aren't None.

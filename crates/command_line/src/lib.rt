@@ -4,6 +4,7 @@
 mod commands;
 mod faults;
 mod filters;
+mod helps;
 mod options;
 mod outlines;
 mod tasks;
@@ -12,6 +13,7 @@ mod versions;
 mod words;
 
 pub use faults::{LineFault, ValueFault};
+pub use helps::help;
 pub use tasks::{Task, command};
 pub use versions::VERSION;
 pub use words::{

@@ -4,7 +4,7 @@ use crate::asking::{pairs, status};
 use crate::files::{check, create_boot_file, run_loop, run_sim};
 use crate::versions::write_version;
 use crate::words::{peer_off, side, stop};
-use command_line::{GateWords, Task, WayWords, command};
+use command_line::{GateWords, Task, WayWords, command, help};
 use faults::{Fault, report};
 use gate::{Start, WayTexts};
 use journal::Format;
@@ -30,14 +30,25 @@ pub fn act<
     O: Write,
     E: Write,
 >(rt: &R, words: &[String], output: &mut O, errors: &mut E, is_terminal: bool) -> u8 {
-    let task = match command(rt.alloc(), words) {
-        Ok(task) => task,
+    let status = match help(rt.alloc(), words) {
+        Ok(Some(text)) => write_help(text.as_str(), output),
+        Ok(None) => match command(rt.alloc(), words) {
+            Ok(task) => carry_out(rt, &task, output, errors, is_terminal),
+            Err(fault) => return fault.report(rt.alloc(), errors),
+        },
         Err(fault) => return fault.report(rt.alloc(), errors),
     };
-    match carry_out(rt, &task, output, errors, is_terminal) {
+    match status {
         Ok(status) => status,
         Err(fault) => report(rt.alloc(), &fault, errors),
     }
+}
+
+/// Writes the help, and returns the exit status.
+fn write_help<O: Write>(text: &str, output: &mut O) -> Result<u8, Fault> {
+    output.write_all(text.as_bytes())?;
+    output.flush()?;
+    Ok(0)
 }
 
 /// Carries out a task, and returns the exit status.

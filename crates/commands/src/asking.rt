@@ -1,8 +1,8 @@
 //! The commands that ask a running box: `status` and `pairs`.
 
-use crate::words::{MAX_REPLY, ask, control_path};
+use crate::words::{MAX_REPLY, ask, control_path, other_reply};
 use command_line::{PairsWords, StatusFormat, StatusWords};
-use control::{ControlPath, Reply, Word};
+use control::{ControlPath, NoSocket, Reply, Word};
 use faults::Fault;
 use nat_types::Key;
 use reports::{JsonText, MetricsText, Page, PairFilter, PairLines, PlainText, Report};
@@ -43,7 +43,8 @@ pub(crate) fn status<R: Files + Net + Clock + AllocGlobal, O: Write>(
 ///
 /// # Errors
 ///
-/// The fault of the last time: `NotSynced`, or why the box couldn't be asked.
+/// The fault of the last time: `NotSynced`, or why the box couldn't be asked. A fault that doesn't pass by itself, as that
+/// the socket may not be used, is returned at once.
 fn await_synced<R: Net + Clock + AllocGlobal>(
     rt: &R,
     path: &ControlPath,
@@ -57,11 +58,20 @@ fn await_synced<R: Net + Clock + AllocGlobal>(
         let is_last = passed.is_none_or(|passed| limit <= passed);
         match check_synced(rt, path) {
             Ok(()) => return Ok(()),
-            Err(fault) if is_last => return Err(fault),
+            Err(fault) if is_last || !may_pass(&fault) => return Err(fault),
             Err(_) => thread::sleep(rt, Duration::from_millis(POLL_INTERVAL_MS)),
         }
     }
     check_synced(rt, path)
+}
+
+/// Whether a fault may pass by itself: the box isn't synced, doesn't answer, or isn't there yet.
+fn may_pass(fault: &Fault) -> bool {
+    match fault {
+        Fault::NotSynced | Fault::NotAnswered { .. } => true,
+        Fault::NoControl { cause, .. } => matches!(cause, NoSocket::NoBox | NoSocket::Closed),
+        _ => false,
+    }
 }
 
 /// Checks that a box is synced.
@@ -77,7 +87,7 @@ fn check_synced<R: Net + AllocGlobal>(rt: &R, path: &ControlPath) -> Result<(), 
 fn ask_report<R: Net + AllocGlobal>(rt: &R, path: &ControlPath) -> Result<Report, Fault> {
     match ask(rt, path, Word::Status, &mut [0; MAX_REPLY])? {
         Reply::Report(bytes) => Ok(Report::read(bytes)?),
-        _ => Err(Fault::no_control(rt.alloc(), path)),
+        _ => Err(other_reply(rt, path)),
     }
 }
 
@@ -115,6 +125,6 @@ fn ask_page<R: Net + AllocGlobal>(
 ) -> Result<Page, Fault> {
     match ask(rt, path, Word::Pairs(after), &mut [0; MAX_REPLY])? {
         Reply::Page(bytes) => Ok(Page::read(bytes)?),
-        _ => Err(Fault::no_control(rt.alloc(), path)),
+        _ => Err(other_reply(rt, path)),
     }
 }

@@ -4,7 +4,7 @@ use crate::meters::Meter;
 use boot_file::create;
 use checks::{CheckOptions, compare};
 use command_line::{CheckWords, RunWords};
-use faults::{Fault, read_text};
+use faults::{Fault, TextFile, read_settings_text, read_text};
 use std::fs::{File, Files};
 use std::io::Write;
 use std::net::Net;
@@ -29,7 +29,7 @@ pub(crate) fn check<R: Files<File = File> + AllocGlobal, O: Write, E: Write>(
     if let Some(other) = &words.other {
         return compare(rt, settings, other.as_str(), output, errors);
     }
-    let text = read_text(rt, settings)?;
+    let text = read_settings_text(rt, settings)?;
     let options = CheckOptions {
         id: words.id,
         strict: words.strict,
@@ -37,7 +37,7 @@ pub(crate) fn check<R: Files<File = File> + AllocGlobal, O: Write, E: Write>(
         outside: words.outside.as_deref(),
         link: words.link.as_deref(),
     };
-    checks::check(rt, text.as_str(), &options, output)
+    checks::check(rt, TextFile::new(settings, text.as_str()), &options, output)
 }
 
 /// Runs a script, writes to a terminal how much of it is done, and returns the exit status.
@@ -48,13 +48,13 @@ pub(crate) fn run_sim<R: Files<File = File> + Clock + AllocGlobal, O: Write, E: 
     errors: &mut E,
     is_terminal: bool,
 ) -> Result<u8, Fault> {
-    let settings = read_text(rt, words.settings.as_str())?;
+    let settings = read_settings_text(rt, words.settings.as_str())?;
     let script = read_text(rt, words.script.as_str())?;
     let mut meter = Meter::start(rt, errors, is_terminal);
     simulation::run_sim(
         rt,
-        settings.as_str(),
-        script.as_str(),
+        TextFile::new(words.settings.as_str(), settings.as_str()),
+        TextFile::new(words.script.as_str(), script.as_str()),
         words.capture.as_deref(),
         &mut meter,
         output,
@@ -67,12 +67,12 @@ pub(crate) fn run_loop<R: Files<File = File> + Net + Clock + AllocGlobal, O: Wri
     words: &RunWords,
     output: &mut O,
 ) -> Result<u8, Fault> {
-    let settings = read_text(rt, words.settings.as_str())?;
+    let settings = read_settings_text(rt, words.settings.as_str())?;
     let script = read_text(rt, words.script.as_str())?;
     simulation::run_loop(
         rt,
-        settings.as_str(),
-        script.as_str(),
+        TextFile::new(words.settings.as_str(), settings.as_str()),
+        TextFile::new(words.script.as_str(), script.as_str()),
         words.capture.as_deref(),
         output,
     )

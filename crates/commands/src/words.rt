@@ -1,8 +1,8 @@
 //! The commands that say a word to a running box: `peer-off`, `stop` and `side`.
 
 use command_line::PeerOffWords;
-use control::{ControlPath, Reply, Word};
-use faults::{Fault, read_text};
+use control::{ControlPath, NoSocket, Reply, Word};
+use faults::{Fault, read_settings};
 use nat_types::{GatewayId, Side};
 use std::fs::Files;
 use std::net::Net;
@@ -17,7 +17,7 @@ pub(crate) fn control_path<R: Files + AllocGlobal>(
     id: GatewayId,
 ) -> Result<ControlPath, Fault> {
     let alloc = rt.alloc();
-    let settings = settings_file::read(alloc, read_text(rt, settings)?.as_str())?;
+    let settings = read_settings(rt, settings)?;
     Ok(ControlPath::beside(alloc, settings.gateway(id).boot_file.as_str())?)
 }
 
@@ -25,14 +25,25 @@ pub(crate) fn control_path<R: Files + AllocGlobal>(
 ///
 /// # Errors
 ///
-/// `NoControl` where the box replies nothing, or nothing that is a reply; `NoMemory`.
+/// `NoControl`; `NotAnswered`; `NoMemory`.
 pub(crate) fn ask<'b, R: Net + AllocGlobal>(
     rt: &R,
     path: &ControlPath,
     word: Word,
     buffer: &'b mut [u8; MAX_REPLY],
 ) -> Result<Reply<'b>, Fault> {
-    control::ask(rt, path, word, buffer).map_err(|_| Fault::no_control(rt.alloc(), path))
+    let is_word = !matches!(word, Word::Status | Word::Pairs(_));
+    control::ask(rt, path, word, buffer).map_err(|fault| Fault::unanswered(
+        rt.alloc(),
+        path,
+        fault,
+        is_word,
+    ))
+}
+
+/// Returns the fault of a reply that isn't one to the word.
+pub(crate) fn other_reply<R: AllocGlobal>(rt: &R, path: &ControlPath) -> Fault {
+    Fault::no_control(rt.alloc(), path, NoSocket::OtherReply)
 }
 
 /// Says to a box that a boot of the other one is off: the boot of a number, or the one that the box knows. Only a boot with a
@@ -49,7 +60,7 @@ pub(crate) fn peer_off<R: Files + Net + AllocGlobal>(
     match ask(rt, &path, word, &mut [0; MAX_REPLY])? {
         Reply::Heard => Ok(()),
         Reply::Refused(refusal) => Err(Fault::PeerOff(refusal)),
-        _ => Err(Fault::no_control(rt.alloc(), &path)),
+        _ => Err(other_reply(rt, &path)),
     }
 }
 
@@ -86,5 +97,5 @@ fn say<R: Files + Net + AllocGlobal>(
     word: Word,
 ) -> Result<(), Fault> {
     let path = control_path(rt, settings, id)?;
-    control::say(rt, &path, word).map_err(|_| Fault::no_control(rt.alloc(), &path))
+    control::say(rt, &path, word).map_err(|fault| Fault::unanswered(rt.alloc(), &path, fault, true))
 }

@@ -7,8 +7,8 @@ mod replies;
 mod server;
 mod words;
 
-pub use client::{NoSocket, ask, say};
-pub use paths::{ControlPath, MAX_PATH_LENGTH, PathFault};
+pub use client::{AskFault, NoSocket, ask, say};
+pub use paths::{ControlPath, MAX_BOOT_FILE_LENGTH, MAX_PATH_LENGTH, PathFault};
 pub use replies::{HEARD, PAGE, PeerOffRefusal, REPORT, Reply, refusal_bytes};
 pub use server::Control;
 pub use words::{Word, WordBytes};

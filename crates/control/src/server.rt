@@ -36,7 +36,15 @@ pub struct Control {
 
 impl From<AllocError> for NoSocket {
     fn from(_: AllocError) -> NoSocket {
-        NoSocket
+        NoSocket::Failed(ErrorKind::OutOfMemory)
+    }
+}
+
+/// Makes a folder that only its owner may enter, or closes the folder that is there to all others.
+fn make_folder<R: Files>(rt: &R, folder: &str) -> io::Result<()> {
+    match rt.create_dir_with_mode(folder, OWNER_ONLY) {
+        Err(error) if error.kind() != ErrorKind::AlreadyExists => Err(error),
+        _ => rt.set_permissions(folder, Permissions::from_mode(OWNER_ONLY)),
     }
 }
 
@@ -47,7 +55,7 @@ impl Control {
     ///
     /// # Errors
     ///
-    /// Where the folder can't be closed to other users, the socket can't be bound, or memory runs out.
+    /// Where the folder can't be made or closed to other users, the socket can't be bound, or memory runs out.
     pub fn open<R: Files + Net + AllocGlobal>(
         rt: &R,
         path: &ControlPath,
@@ -55,8 +63,7 @@ impl Control {
     ) -> Result<Control, NoSocket> {
         let clients = Vec::with_capacity(rt.alloc(), MAX_CLIENTS)?;
         let (folder, socket) = (path.folder.as_str(), path.socket.as_str());
-        let _is_there = rt.create_dir_with_mode(folder, OWNER_ONLY);
-        rt.set_permissions(folder, Permissions::from_mode(OWNER_ONLY))?;
+        make_folder(rt, folder)?;
         let _is_missing = rt.remove_file(socket);
         Ok(Control {
             listener: UnixListener::bind(rt, socket)?,

@@ -4,6 +4,7 @@ use faults::Fault;
 use platform::{Inherited, is_readable, stdin_has_ended};
 use rounds::EndSignal;
 use sockets::Way;
+use std::alloc::Global;
 use std::os::fd::{AsRawFd, RawFd};
 
 /// An inherited descriptor that ends the box once it can be read, as a `signalfd` of SIGTERM. It is never read.
@@ -15,10 +16,10 @@ impl StopDescriptor {
     ///
     /// # Errors
     ///
-    /// `NoStop` where the text is no descriptor; `StopNotOpen`.
-    pub(crate) fn read(text: &str) -> Result<StopDescriptor, Fault> {
+    /// `NoStop` where the text is no descriptor; `StopNotOpen`; `NoMemory`.
+    pub(crate) fn read(alloc: Global, text: &str) -> Result<StopDescriptor, Fault> {
         let Some(Way::Descriptor(number)) = Way::read(text) else {
-            return Err(Fault::NoStop);
+            return Err(Fault::no_stop(alloc, text));
         };
         match Inherited::open(number) {
             Ok(descriptor) => Ok(StopDescriptor(descriptor.as_raw_fd())),

@@ -5,13 +5,13 @@ use crate::{ServiceManager, Start};
 use boot_file::FileDisk;
 use captures::{CaptureFile, Reader};
 use control::{Control, ControlPath};
-use faults::{Fault, read_text};
+use faults::{Fault, read_settings};
 use journal::{EventLog, Mappings, Sink, StandardError, environment_filter, filter};
 use log::filter::{Filter, FilteredLog};
-use nat_types::GatewayId;
 use settings::Settings;
-use settings_file::{OnLoopback, SettingFault, port_clash};
+use settings_file::{OnLoopback, missing_port, port_clash};
 use sockets::{CONTROL_TOKEN, LoopbackPorts, SocketFault, Sockets, Way, Ways, first_unbound};
+use std::alloc::Global;
 use std::fs::{File, Files};
 use std::net::{Net, SocketAddr};
 use std::rt::Env;
@@ -43,18 +43,24 @@ impl<'a, R: Files<File = File> + Net + Eprint + Env + AllocGlobal> Parts<'a, R> 
     /// The first fault, in the order of these lines.
     pub(crate) fn open(rt: &'a R, start: &Start<'a>) -> Result<Parts<'a, R>, Fault> {
         let alloc = rt.alloc();
-        let settings = settings_file::read(alloc, read_text(rt, start.settings)?.as_str())?;
-        let ways = start.ways.read()?;
+        let settings = read_settings(rt, start.settings)?;
+        let ways = start.ways.read(alloc)?;
         ways.check_descriptors()?;
-        let manager = start.notify.map(ServiceManager::read).transpose()?;
-        let stop = start.stop_on.map(StopDescriptor::read).transpose()?;
-        check_ports(&settings, start.id, &ways)?;
+        let manager = start
+            .notify
+            .map(|text| ServiceManager::read(alloc, text))
+            .transpose()?;
+        let stop = start
+            .stop_on
+            .map(|text| StopDescriptor::read(alloc, text))
+            .transpose()?;
+        check_ports(alloc, start, &settings, &ways)?;
         let file = settings.gateway(start.id).boot_file.as_str();
         let path = ControlPath::beside(alloc, file)?;
         let disk = boot_file::open(rt, file).map_err(|why| Fault::boot_file(alloc, file, why))?;
-        let Ok(control) = Control::open(rt, &path, CONTROL_TOKEN) else {
-            return Err(Fault::no_control(alloc, &path));
-        };
+        let control = Control::open(rt, &path, CONTROL_TOKEN).map_err(|cause| Fault::no_control(
+            alloc, &path, cause,
+        ))?;
         let wire = open_sockets(rt, &ways, LoopbackPorts::of(&settings, start.id), control)?;
         let sink = Sink::new(StandardError(rt), start.format);
         let filtered = FilteredLog::new(sink, read_filter(rt, start.log)?);
@@ -76,19 +82,27 @@ impl<'a, R: Files<File = File> + Net + Eprint + Env + AllocGlobal> Parts<'a, R> 
     }
 }
 
-/// Checks that no two of the ports that a box has on the loopback address are the same.
+/// Checks that the ports that a box needs on the loopback address are there, and that no two of its own are the same.
 ///
 /// # Errors
 ///
-/// The setting with a port that an earlier one has, too.
-fn check_ports(settings: &Settings, id: GatewayId, ways: &Ways) -> Result<(), Fault> {
+/// The first setting of a port that is left out; else that with a port that an earlier one has, too.
+fn check_ports(
+    alloc: Global,
+    start: &Start<'_>,
+    settings: &Settings,
+    ways: &Ways,
+) -> Result<(), Fault> {
     let on = OnLoopback {
         inside: ways.inside == Way::Loopback,
         outside: ways.outside == Way::Loopback,
         link: ways.link == Way::Loopback,
     };
-    match port_clash(settings, id, on) {
-        Some(key) => Err(Fault::Setting(SettingFault::CantWork(key))),
+    if let Some(key) = missing_port(settings, start.id, on) {
+        return Err(Fault::missing_port(alloc, start.settings, key));
+    }
+    match port_clash(settings, start.id, on) {
+        Some(clash) => Err(Fault::PortClash(clash)),
         None => Ok(()),
     }
 }
@@ -103,9 +117,9 @@ fn open_sockets<R: Net + AllocGlobal>(
     match Sockets::open(rt, ways, ports, control) {
         Ok(sockets) => Ok(sockets),
         Err(SocketFault::NoMemory) => Err(Fault::NoMemory),
-        Err(SocketFault::NoSocket) => Err(match first_unbound(rt, ways, ports) {
-            Some(end) => Fault::NoSocket(SocketAddr::from(end)),
-            None => Fault::NoSockets,
+        Err(SocketFault::NoSocket(cause)) => Err(match first_unbound(rt, ways, ports) {
+            Some((end, cause)) => Fault::NoSocket(SocketAddr::from(end), cause),
+            None => Fault::NoSockets(cause),
         }),
     }
 }

@@ -24,10 +24,10 @@ use std::rt::{Clock, Env};
 ///
 /// # Errors
 ///
-/// The first fault of: the settings, the ways, their descriptors, the service manager, the descriptor to stop on, clashing ports, the path of the control
-/// socket, the boot file and its lock, the control socket, the other sockets, the filter of the log, the file of the capture,
-/// the random keys, the next boot number, memory for a gateway, printing the boot number, the head of the capture, printing
-/// the end.
+/// The first fault of: the settings, the ways, their descriptors, the service manager, the descriptor to stop on,
+/// loopback ports that are left out, clashing ports, the path of the control socket, the boot file and its lock, the
+/// control socket, the other sockets, the filter of the log, the file of the capture, the random keys, the next boot
+/// number, memory for a gateway, printing the boot number, the head of the capture, printing the end.
 pub fn run<
     R: Files<File = File> + Net + Clock + RandomSource + Eprint + Env + Input + AllocGlobal,
     O: Write,
@@ -41,7 +41,10 @@ pub fn run<
         log,
         capture,
     } = Parts::open(rt, start)?;
-    let (identity, mut gateway) = begin(rt, &mut disk, &settings, start.id, start.found)?;
+    let boot_file = settings.gateway(start.id).boot_file.as_str();
+    let (identity, mut gateway) = begin(rt, &mut disk, &settings, start.id, start.found).map_err(
+        |fault| fault.of_boot_file(rt, boot_file),
+    )?;
     writeln!(output, "boot {}", identity.boot)?;
     output.flush()?;
     log.write(0, Entry::Boot(identity.boot));

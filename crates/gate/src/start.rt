@@ -4,6 +4,7 @@ use faults::Fault;
 use journal::Format;
 use nat_types::GatewayId;
 use sockets::{Way, Ways};
+use std::alloc::Global;
 
 /// What an operator sets for the run of a box, by options of the command line.
 #[derive(Clone, Copy, Debug)]
@@ -46,12 +47,20 @@ impl WayTexts<'_> {
     ///
     /// # Errors
     ///
-    /// `NoWay` for the first text that is no way.
-    pub(crate) fn read(self) -> Result<Ways, Fault> {
+    /// `NoWay` for the first text that is no way; `NoMemory`.
+    pub(crate) fn read(self, alloc: Global) -> Result<Ways, Fault> {
         Ok(Ways {
-            inside: Way::read(self.inside).ok_or(Fault::NoWay("inside"))?,
-            outside: Way::read(self.outside).ok_or(Fault::NoWay("outside"))?,
-            link: Way::read(self.link).ok_or(Fault::NoWay("link"))?,
+            inside: read_way(alloc, "inside", self.inside)?,
+            outside: read_way(alloc, "outside", self.outside)?,
+            link: read_way(alloc, "link", self.link)?,
         })
+    }
+}
+
+/// Reads the way of a place.
+fn read_way(alloc: Global, place: &'static str, text: &str) -> Result<Way, Fault> {
+    match Way::read(text) {
+        Some(way) => Ok(way),
+        None => Err(Fault::no_way(alloc, place, text)),
     }
 }

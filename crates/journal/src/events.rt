@@ -52,7 +52,7 @@ impl<L: Journal> EventLog<L> {
             let Some(mappings) = &mut self.mappings else {
                 return;
             };
-            if let Some(entry) = mappings.entry_of(&note.what) {
+            if let Some(entry) = mappings.take_note(&note.what) {
                 self.write(note.at, entry);
             }
         }
@@ -73,7 +73,7 @@ impl<L: Journal> EventLog<L> {
     /// Writes how many packets a capture has left out, unless there are none.
     pub fn write_left_out(&self, packets: u64) {
         if packets > 0 {
-            let metadata = Metadata::new(Level::Warn, "natpair::capture");
+            let metadata = Metadata::new(Level::Warn, Origin::Own.target());
             let left_out = LeftOutPackets { packets };
             self.log.log(&Record::new(metadata, left_out, left_out, ()));
         }

@@ -64,9 +64,9 @@ impl Mappings {
         Ok(Mappings { have_begun })
     }
 
-    /// Returns the begin or the end of a mapping that a gateway's note tells, if any. A mapping begins with the first packet that
-    /// is translated with it, and ends with its release.
-    pub(crate) fn entry_of(&mut self, what: &NoteKind) -> Option<Entry> {
+    /// Takes a gateway's note, and returns the begin or the end of a mapping that the note tells, if any. A mapping begins with
+    /// the first packet that is translated with it, and ends with its release.
+    pub(crate) fn take_note(&mut self, what: &NoteKind) -> Option<Entry> {
         match what {
             NoteKind::Used(pair) => {
                 let had_begun = self.replace(pair.key, true);

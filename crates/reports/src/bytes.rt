@@ -27,7 +27,7 @@ impl Display for ReadFault {
     fn fmt<W: fmt::Write>(&self, f: &mut Formatter<W>) -> fmt::Result {
         match self {
             ReadFault::OtherVersion(version) => write!(f, "version {version} isn't known"),
-            ReadFault::BadBytes => f.write_str("no such bytes are written"),
+            ReadFault::BadBytes => f.write_str("the answer is cut off or damaged"),
         }
     }
 }

@@ -61,7 +61,7 @@ fn free_ports(gateway: &Gateway, protocol: Protocol, ports: &[Port]) -> u64 {
     ports.iter().filter(|port| is_free(**port)).count() as u64
 }
 
-/// Returns the first entries after a key, or of the table, at most [`MOST_ENTRIES`]. A client that asks for the next page by
+/// Returns the first entries after a key, or of the table, at most [`MAX_PAGE_ENTRIES`]. A client that asks for the next page by
 /// the last key of each one sees every entry that stays in the table exactly once.
 pub fn page_after(gateway: &Gateway, after: Option<Key>) -> Page {
     let mut entries = ArrayVec::new();

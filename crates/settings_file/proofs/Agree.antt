@@ -1,18 +1,21 @@
 -- What a document shares is what its values share, and the first refusal by its parts.
-use Rattle.std.proofs.Common.{◌≡◌, ◌∙◌, ℕ, List, false, true, Option, Some, None, Result, Ok, Err, IfOk, IfErr, IsErrAnd, OnOk, ap, refl, sym, subst}
+use Rattle.std.proofs.Common.{◌≡◌, ◌∙◌, ℕ, List, false, true, Option, Some, None, option_map, option_and_then, Result, Ok, Err, IfOk, IfErr, IsErrAnd, OnOk, ap, refl, sym, subst}
+use Rattle.std.proofs.lemmas.Option.{none-some, same_Some}
 use Rattle.settings_file.specs.declared.faults.SettingFault.{SettingFault}
 use Rattle.settings_file.specs.declared.faults.SettingFault.TheVariants as faults
 use Rattle.settings_file.specs.declared.values.Values.{Values}
 use Rattle.settings_file.specs.Assembled.{AreValues, IsAssembled, TellsValues, overlap_of, same_ids_of}
 use Rattle.settings_file.specs.Faults.{TellsBad, first}
-use Rattle.toml.specs.Data.{Members}
+use Rattle.toml.specs.Data.{Data, Members}
 use Rattle.settings.specs.declared.ranges.PortRange.{PortRange}
 use Rattle.settings.specs.declared.gateway_settings.GatewaySettings.{GatewaySettings}
 use Rattle.settings.specs.declared.whole.Settings.{Settings}
+use Rattle.settings_file.specs.declared.keys.Section.{Section}
 use Rattle.settings_file.specs.declared.keys.Section.TheVariants.{Inside, Outside, GatewayZero, GatewayOne}
-use Rattle.settings_file.specs.declared.keys.Name.TheVariants.{Zero, One, Virtual}
+use Rattle.settings_file.specs.declared.keys.Name.{Name}
+use Rattle.settings_file.specs.declared.keys.Name.TheVariants.{Zero, One, Virtual, Link, InsidePort, OutsidePort}
 use Rattle.settings_file.specs.declared.keys.Key.{Key}
-use Rattle.settings_file.specs.Document.{address_at}
+use Rattle.settings_file.specs.Document.{address_at, number_at, number_in, optional_at, or_default, value_of}
 use Rattle.settings_file.specs.Values.{IsRange, IsGateway}
 use Rattle.settings_file.specs.Missing.{all_missing, first_missing}
 use Rattle.settings_file.specs.Unknown.{first_unknown, least_from, unknown_of}
@@ -26,6 +29,20 @@ ports_agree : (t : Members) (zero one : PortRange) → IsRange t Zero zero → I
 unfolding shares_port
 ports_agree t zero one a b = rw (a, b) refl
 
+-- what is read where it is there is what is read where it may be left out
+some_again : {X : Type 0} (o found : Option X) → option_map (λ x. Some x) o ≡ Some found → o ≡ found
+some_again None found h = absurd (none-some found h)
+some_again (Some x) found h = same_Some (Some x) found h
+
+read_again : {X : Type 0} (read : Data → Option X) (value : Option Data) (found : Option X)
+    → or_default None (λ d. option_map (λ x. Some x) (read d)) value ≡ Some found → option_and_then read value ≡ found
+read_again read None found h = same_Some None found h
+read_again read (Some d) found h = some_again (read d) found h
+
+port_again : (t : Members) (s : Section) (name : Name) (found : Option ℕ) → optional_at 1 65535 t s name ≡ Some found → number_at 1 65535 t s name ≡ found
+unfolding optional_at number_at
+port_again t s name found h = read_again (number_in 1 65535) (value_of t s name) found h
+
 -- the ids
 ids_agree : (t : Members) (zero one : GatewaySettings) (inside outside : ℕ) → IsGateway t GatewayZero zero → IsGateway t GatewayOne one
     → address_at t Inside Virtual ≡ Some inside → address_at t Outside Virtual ≡ Some outside
@@ -37,16 +54,16 @@ ids_agree t zero one inside outside z o i e =
       z.outside_ip_is,
       z.inside_mac_is,
       z.outside_mac_is,
-      z.link_is,
-      z.inside_port_is,
-      z.outside_port_is,
+      port_again t GatewayZero Link zero.link z.link_is,
+      port_again t GatewayZero InsidePort zero.inside_port z.inside_port_is,
+      port_again t GatewayZero OutsidePort zero.outside_port z.outside_port_is,
       o.inside_ip_is,
       o.outside_ip_is,
       o.inside_mac_is,
       o.outside_mac_is,
-      o.link_is,
-      o.inside_port_is,
-      o.outside_port_is,
+      port_again t GatewayOne Link one.link o.link_is,
+      port_again t GatewayOne InsidePort one.inside_port o.inside_port_is,
+      port_again t GatewayOne OutsidePort one.outside_port o.outside_port_is,
       i,
       e,
     ) refl

@@ -10,7 +10,7 @@ abbrev pub own_macs : GatewaySettings → List (Option (List ℕ))
 own_macs g = Some g.inside_mac.0 ∷ Some g.outside_mac.0 ∷ []
 
 abbrev pub own_sockets : GatewaySettings → List (Option ℕ)
-own_sockets g = Some g.link ∷ Some g.inside_port ∷ Some g.outside_port ∷ []
+own_sockets g = g.link ∷ g.inside_port ∷ g.outside_port ∷ []
 
 -- a gateway's own address is the virtual one
 abbrev pub is_virtual : GatewaySettings → ℕ → ℕ → Bool

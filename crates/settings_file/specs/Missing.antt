@@ -2,24 +2,25 @@
 use Rattle.std.specs.Prelude.{Bool, List, [], ◌∷◌, ◌++◌, filter, Option, is_none, unwrap_or, option_and_then}
 use Rattle.toml.specs.Data.{Members}
 use Rattle.settings_file.specs.declared.keys.Section.TheVariants.{Ports, Inside, Outside, GatewayZero, GatewayOne}
-use Rattle.settings_file.specs.declared.keys.Name.TheVariants.{Zero, One, Virtual, Prefix, Vrid, Wire, Router}
-use Rattle.settings_file.specs.declared.keys.Name.TheVariants.{InsideIp, InsideMac, OutsideIp, OutsideMac, BootFile, Link, InsidePort, OutsidePort}
+use Rattle.settings_file.specs.declared.keys.Name.TheVariants.{Zero, One, Virtual, Prefix, Vrid, Router}
+use Rattle.settings_file.specs.declared.keys.Name.TheVariants.{InsideIp, InsideMac, OutsideIp, OutsideMac, BootFile}
 use Rattle.settings_file.specs.declared.keys.Key.{Key}
 use Rattle.settings_file.specs.Keys.{key}
 use Rattle.settings_file.specs.Document.{value_of}
 use Rattle.settings_file.specs.Faults.{first}
 use Rattle.settings_file.specs.Neighbours.{all_missing_from, neighbours_of}
 
--- the keys of the sections that can't be left out, in the order of their text: all but host_limit, mtu, echo, errors, priority, interval and preempt
+-- the keys of the sections that can't be left out, in the order of their text: all but host_limit, mtu, echo, errors, priority, interval, preempt and
+-- the loopback ports
 abbrev pub required : List Key
 required =
     key Ports Zero ∷ key Ports One
-    ∷ key Inside Virtual ∷ key Inside Prefix ∷ key Inside Vrid ∷ key Inside Wire
-    ∷ key Outside Virtual ∷ key Outside Prefix ∷ key Outside Vrid ∷ key Outside Wire ∷ key Outside Router
+    ∷ key Inside Virtual ∷ key Inside Prefix ∷ key Inside Vrid
+    ∷ key Outside Virtual ∷ key Outside Prefix ∷ key Outside Vrid ∷ key Outside Router
     ∷ key GatewayZero InsideIp ∷ key GatewayZero InsideMac ∷ key GatewayZero OutsideIp ∷ key GatewayZero OutsideMac
-    ∷ key GatewayZero BootFile ∷ key GatewayZero Link ∷ key GatewayZero InsidePort ∷ key GatewayZero OutsidePort
+    ∷ key GatewayZero BootFile
     ∷ key GatewayOne InsideIp ∷ key GatewayOne InsideMac ∷ key GatewayOne OutsideIp ∷ key GatewayOne OutsideMac
-    ∷ key GatewayOne BootFile ∷ key GatewayOne Link ∷ key GatewayOne InsidePort ∷ key GatewayOne OutsidePort
+    ∷ key GatewayOne BootFile
     ∷ []
 
 -- nothing stands at the key

@@ -27,7 +27,7 @@ inside_rows t =
     (key Inside Virtual, is_some (address_at t Inside Virtual))
     ∷ (key Inside Prefix, is_some (number_at 8 30 t Inside Prefix))
     ∷ (key Inside Vrid, is_some (number_at 1 255 t Inside Vrid))
-    ∷ (key Inside Wire, is_some (number_at 1 65535 t Inside Wire))
+    ∷ (key Inside Wire, is_some (optional_at 1 65535 t Inside Wire))
     ∷ (key Inside Mtu, is_some (number_or 1500 576 1500 t Inside Mtu))
     ∷ []
 
@@ -40,7 +40,7 @@ outside_rows inside outside t =
     (key Outside Virtual, is_some (address_at t Outside Virtual))
     ∷ (key Outside Prefix, is_apart inside (address_at t Outside Virtual) (number_at 8 30 t Outside Prefix))
     ∷ (key Outside Vrid, is_some (number_at 1 255 t Outside Vrid))
-    ∷ (key Outside Wire, is_some (number_at 1 65535 t Outside Wire))
+    ∷ (key Outside Wire, is_some (optional_at 1 65535 t Outside Wire))
     ∷ (key Outside Router, is_host outside (address_at t Outside Router))
     ∷ (key Outside Mtu, is_some (number_or 1500 576 1500 t Outside Mtu))
     ∷ []
@@ -70,9 +70,9 @@ gateway_rows inside outside t s =
     ∷ (key s Interval, is_some (number_or 100 1 4095 t s Interval))
     ∷ (key s Preempt, is_some (flag_or true t s Preempt))
     ∷ (key s BootFile, is_some (text_at t s BootFile))
-    ∷ (key s Link, is_some (number_at 1 65535 t s Link))
-    ∷ (key s InsidePort, is_some (number_at 1 65535 t s InsidePort))
-    ∷ (key s OutsidePort, is_some (number_at 1 65535 t s OutsidePort))
+    ∷ (key s Link, is_some (optional_at 1 65535 t s Link))
+    ∷ (key s InsidePort, is_some (optional_at 1 65535 t s InsidePort))
+    ∷ (key s OutsidePort, is_some (optional_at 1 65535 t s OutsidePort))
     ∷ []
 
 unfoldable pub bad_gateway : Option Network → Option Network → Members → Section → Option Key

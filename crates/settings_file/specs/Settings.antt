@@ -77,6 +77,7 @@ addresses_at t s = address_at t s InsideIp ∷ address_at t s OutsideIp ∷ []
 abbrev pub macs_at : Members → Section → List (Option (List ℕ))
 macs_at t s = mac_at t s InsideMac ∷ mac_at t s OutsideMac ∷ []
 
+-- a port that is left out is none
 abbrev pub sockets_at : Members → Section → List (Option ℕ)
 sockets_at t s = number_at 1 65535 t s Link ∷ number_at 1 65535 t s InsidePort ∷ number_at 1 65535 t s OutsidePort ∷ []
 

@@ -20,12 +20,12 @@ IsRange t name range = range_at t Ports name ≡ Some (range.lowest.0, range.hig
 abbrev pub IsLimit : Members → Option ℕ → Type 0
 IsLimit t limit = optional_at 1 65535 t Ports HostLimit ≡ Some limit
 
--- a network: 1,500 bytes are sent at most where that is left out
+-- a network: where they are left out, mtu is 1500 and wire is none
 pub record IsInterface (t : Members) (s : Section) (interface : InterfaceSettings) : Type 0 where
   pub virtual_is : address_at t s Virtual ≡ Some interface.virtual_ip.0
   pub prefix_is : number_at 8 30 t s Prefix ≡ Some interface.prefix_length
   pub vrid_is : number_at 1 255 t s Vrid ≡ Some interface.virtual_router
-  pub wire_is : number_at 1 65535 t s Wire ≡ Some interface.wire
+  pub wire_is : optional_at 1 65535 t s Wire ≡ Some interface.wire
   pub mtu_is : number_or 1500 576 1500 t s Mtu ≡ Some interface.mtu
 
 -- what the gateways say by ICMP: nothing where it is left out
@@ -33,7 +33,7 @@ pub record IsIcmp (t : Members) (icmp : IcmpSettings) : Type 0 where
   pub echo_is : flag_or false t Icmp Echo ≡ Some icmp.echo
   pub errors_is : flag_or false t Icmp Errors ≡ Some icmp.errors
 
--- a gateway: priority and interval are 100 and preempt true where they are left out
+-- a gateway: where they are left out, priority and interval are 100, preempt is true, and the ports are none
 pub record IsGateway (t : Members) (s : Section) (gateway : GatewaySettings) : Type 0 where
   pub inside_ip_is : address_at t s InsideIp ≡ Some gateway.inside_ip.0
   pub inside_mac_is : mac_at t s InsideMac ≡ Some gateway.inside_mac.0
@@ -43,6 +43,6 @@ pub record IsGateway (t : Members) (s : Section) (gateway : GatewaySettings) : T
   pub interval_is : number_or 100 1 4095 t s Interval ≡ Some gateway.interval
   pub preempt_is : flag_or true t s Preempt ≡ Some gateway.preempt
   pub boot_file_is : text_at t s BootFile ≡ Some (string_bytes gateway.boot_file)
-  pub link_is : number_at 1 65535 t s Link ≡ Some gateway.link
-  pub inside_port_is : number_at 1 65535 t s InsidePort ≡ Some gateway.inside_port
-  pub outside_port_is : number_at 1 65535 t s OutsidePort ≡ Some gateway.outside_port
+  pub link_is : optional_at 1 65535 t s Link ≡ Some gateway.link
+  pub inside_port_is : optional_at 1 65535 t s InsidePort ≡ Some gateway.inside_port
+  pub outside_port_is : optional_at 1 65535 t s OutsidePort ≡ Some gateway.outside_port

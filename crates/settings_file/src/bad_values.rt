@@ -43,7 +43,7 @@ fn add_keys(keys: &[Option<Key>], found: &mut Vec<Key>) -> Result<(), AllocError
 }
 
 /// Returns the network of a side, or None where its address or its prefix is bad.
-fn network_of(document: &Table, section: Section) -> Option<Prefix> {
+pub(crate) fn network_of(document: &Table, section: Section) -> Option<Prefix> {
     let address = fields::required_address(document, section, Name::Virtual);
     match (address, limits::prefix_length(document, section)) {
         (Ok(address), Ok(length)) => Some(Prefix::new(address, length)),
@@ -142,7 +142,7 @@ fn bad_host(
 }
 
 /// Returns the keys of a neighbour, each with whether its value is good.
-fn neighbour_rows(
+pub(crate) fn neighbour_rows(
     table: &Value,
     inside: Option<Prefix>,
     outside: Option<Prefix>,

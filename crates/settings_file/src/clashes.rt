@@ -1,24 +1,40 @@
 //! Loopback ports that two places of the same machine can't both bind.
 
-use crate::{Key, Name, Section};
+use crate::{Key, Name, OnLoopback, Section};
 use nat_types::GatewayId;
 use settings::Settings;
 use std::alloc::AllocError;
+use std::fmt;
 
-/// The places of a box that are on loopback sockets.
+/// A key whose loopback port an earlier key has too, in the order of the text.
 #[derive(Clone, Copy)]
-pub struct OnLoopback {
-    pub inside: bool,
-    pub outside: bool,
-    pub link: bool,
+pub struct PortClash {
+    pub key: Key,
+    pub earlier: Key,
+    pub port: u16,
 }
 
-/// A key of a port, and the port, or None where its place isn't on loopback.
+/// Prints both keys and the port.
+impl fmt::Display for PortClash {
+    fn fmt<W: fmt::Write>(&self, f: &mut fmt::Formatter<W>) -> fmt::Result {
+        let PortClash { key, earlier, port } = self;
+        write!(f, "{earlier} and {key} are both {port}")
+    }
+}
+
+/// The same text.
+impl fmt::Debug for PortClash {
+    fn fmt<W: fmt::Write>(&self, f: &mut fmt::Formatter<W>) -> fmt::Result {
+        fmt::Display::fmt(self, f)
+    }
+}
+
+/// A key of a port, and the port, or None where it is left out or its place isn't on loopback.
 type Row = (Key, Option<u16>);
 
 /// Returns the first key, in the order of the text, whose loopback port an earlier key has too, among the ports that a
 /// box binds and those to which it sends frames. Only the places on loopback count.
-pub fn port_clash(settings: &Settings, id: GatewayId, on: OnLoopback) -> Option<Key> {
+pub fn port_clash(settings: &Settings, id: GatewayId, on: OnLoopback) -> Option<PortClash> {
     let section = match id {
         GatewayId::Zero => Section::GatewayZero,
         GatewayId::One => Section::GatewayOne,
@@ -36,13 +52,13 @@ pub fn port_clash(settings: &Settings, id: GatewayId, on: OnLoopback) -> Option<
         row(section, Name::InsidePort, gateway.inside_port, on.inside),
         row(section, Name::OutsidePort, gateway.outside_port, on.outside),
     ];
-    first_taken(&rows)
+    first_clash(&rows)
 }
 
 /// Returns the first key, in the order of the text, whose loopback port an earlier key has too, for both boxes on one
 /// machine with all their places on loopback.
-pub fn port_clash_of_both(settings: &Settings) -> Option<Key> {
-    first_taken(&rows_of_both(settings))
+pub fn port_clash_of_both(settings: &Settings) -> Option<PortClash> {
+    first_clash(&rows_of_both(settings))
 }
 
 /// Adds all keys, in the order of the text, whose loopback port an earlier key has too, for both boxes on one machine.
@@ -53,17 +69,17 @@ pub fn port_clash_of_both(settings: &Settings) -> Option<Key> {
 pub fn add_port_clashes(settings: &Settings, found: &mut Vec<Key>) -> Result<(), AllocError> {
     let rows = rows_of_both(settings);
     for (index, row) in rows.iter().enumerate() {
-        if is_taken(&rows[..index], *row) {
-            found.push(row.0)?;
+        if let Some(clash) = clash_with(&rows[..index], *row) {
+            found.push(clash.key)?;
         }
     }
     Ok(())
 }
 
-fn row(section: Section, name: Name, port: u16, on_loopback: bool) -> Row {
+fn row(section: Section, name: Name, port: Option<u16>, on_loopback: bool) -> Row {
     let key = Key::new(section, name);
     if on_loopback {
-        (key, Some(port))
+        (key, port)
     } else {
         (key, None)
     }
@@ -105,22 +121,27 @@ fn rows_of_both(settings: &Settings) -> [Row; 8] {
     ]
 }
 
-/// Returns the key of the first row whose port an earlier row has.
-fn first_taken(rows: &[Row]) -> Option<Key> {
+/// Returns the clash of the first row whose port an earlier row has.
+fn first_clash(rows: &[Row]) -> Option<PortClash> {
     for (index, row) in rows.iter().enumerate() {
-        if is_taken(&rows[..index], *row) {
-            return Some(row.0);
+        let clash = clash_with(&rows[..index], *row);
+        if clash.is_some() {
+            return clash;
         }
     }
     None
 }
 
-/// Whether an earlier row has the port of a row.
-fn is_taken(earlier: &[Row], row: Row) -> bool {
-    for (_, port) in earlier {
-        if port.is_some() && *port == row.1 {
-            return true;
+/// Returns the clash of a row with the first earlier one that has its port.
+fn clash_with(earlier: &[Row], row: Row) -> Option<PortClash> {
+    let (key, Some(port)) = row else {
+        return None;
+    };
+    for (other, taken) in earlier {
+        if *taken == Some(port) {
+            let earlier = *other;
+            return Some(PortClash { key, earlier, port });
         }
     }
-    false
+    None
 }

@@ -1,6 +1,7 @@
 //! The faults of a text of settings.
 
 use crate::Key;
+use crate::shown::Visible;
 use std::alloc::{AllocError, AllocFailed};
 use std::fmt;
 use thiserror::Error;
@@ -28,8 +29,9 @@ pub enum SettingFault {
     /// The two gateways share an address, a MAC or a loopback port, or one has a virtual address.
     #[error("5 SameIds")]
     SameIds,
-    /// The text has a key that settings don't have. Of several paths this is the least by bytes.
-    #[error("6 UnknownKey {0}")]
+    /// The text has a key that settings don't have. Of several paths this is the least by bytes. It is printed with `?` for
+    /// each control character.
+    #[error("6 UnknownKey {}", Visible(.0.as_str()))]
     UnknownKey(String),
     /// The value can never work, as an address that no host has.
     #[error("7 CantWork {0}")]

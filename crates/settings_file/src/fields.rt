@@ -61,6 +61,11 @@ fn number_in(value: &Value, limits: Limits) -> Option<u16>
     }
 }
 
+/// Whether a value is a port at which the pair translates.
+pub(crate) fn is_port(value: &Value) -> bool {
+    number_in(value, PORTS).is_some()
+}
+
 /// Returns the number at a required key.
 ///
 /// # Errors
@@ -198,7 +203,7 @@ pub(crate) fn required_text<'a>(
 
 /// Returns the address at a key, or None where there is none.
 #[tactic(auto, unfolding(crate::specs::Document::address_at))]
-fn address_at(document: &Table, section: Section, name: Name) -> Option<Ip>
+pub(crate) fn address_at(document: &Table, section: Section, name: Name) -> Option<Ip>
     ensures { option_map (λ ip. ip.0) result
         ≡ address_at (table_view document.now) section name }
 {

@@ -35,11 +35,23 @@ fn share_mac(zero: &GatewaySettings, one: &GatewaySettings) -> bool
         || zero.outside_mac == one.outside_mac
 }
 
-/// Whether a gateway has a loopback port.
-fn has_port(gateway: &GatewaySettings, port: u16) -> bool
-    ensures { result ≡ list_any (same_number (Some port)) (own_sockets gateway.now) }
+/// Whether two ports are there, and the same.
+fn same_port(port: Option<u16>, other: Option<u16>) -> bool
+    ensures { result ≡ same_number port other }
 {
-    port == gateway.link || port == gateway.inside_port || port == gateway.outside_port
+    match (port, other) {
+        (Some(port), Some(other)) => port == other,
+        _ => false,
+    }
+}
+
+/// Whether a port is there, and one of a gateway's loopback ports.
+fn has_port(gateway: &GatewaySettings, port: Option<u16>) -> bool
+    ensures { result ≡ list_any (same_number port) (own_sockets gateway.now) }
+{
+    same_port(port, gateway.link)
+        || same_port(port, gateway.inside_port)
+        || same_port(port, gateway.outside_port)
 }
 
 /// Whether two gateways have a loopback port in common.

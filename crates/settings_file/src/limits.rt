@@ -47,6 +47,20 @@ const INTERVALS: Limits = Limits { low: 1, high: 4095 };
 /// The advertisement interval where the key is left out, in centiseconds: a second.
 const DEFAULT_INTERVAL: u16 = 100;
 
+/// Returns the limits of a key's number, or None where the key has no number.
+pub(crate) fn limits_of(name: Name) -> Option<Limits> {
+    match name {
+        Name::HostLimit => Some(HOST_LIMITS),
+        Name::Prefix => Some(PREFIX_LENGTHS),
+        Name::Vrid => Some(VIRTUAL_ROUTERS),
+        Name::Mtu => Some(MTUS),
+        Name::Priority => Some(PRIORITIES),
+        Name::Interval => Some(INTERVALS),
+        Name::Wire | Name::Link | Name::InsidePort | Name::OutsidePort => Some(LOOPBACK_PORTS),
+        _ => None,
+    }
+}
+
 /// Returns the most pairs of one inside address: 1 to 65535, or None where the key is left out.
 pub(crate) fn host_limit(document: &Table) -> Result<Option<u16>, Key>
     ensures ok { IfOk result
@@ -81,15 +95,15 @@ pub(crate) fn virtual_router(document: &Table, section: Section) -> Result<u8, K
     Ok(required_number(document, section, Name::Vrid, VIRTUAL_ROUTERS)? as u8)
 }
 
-/// Returns a loopback port: 1 to 65535.
-pub(crate) fn port(document: &Table, section: Section, name: Name) -> Result<u16, Key>
+/// Returns a loopback port: 1 to 65535, or None where the key is left out.
+pub(crate) fn port(document: &Table, section: Section, name: Name) -> Result<Option<u16>, Key>
     ensures ok { IfOk result
-        (λ n. number_at 1 65535 (table_view document.now) section name ≡ Some n) }
-    ensures low { IfOk result (λ n. 1 ≤ n) }
+        (λ found. optional_at 1 65535 (table_view document.now) section name ≡ Some found) }
+    ensures low { IfOk result (λ found. ForSome found (λ n. 1 ≤ n)) }
     ensures err { IfErr result
-        (IsBadAt section name (number_at 1 65535 (table_view document.now) section name)) }
+        (IsBadAt section name (optional_at 1 65535 (table_view document.now) section name)) }
 {
-    required_number(document, section, name, LOOPBACK_PORTS)
+    optional_number(document, section, name, LOOPBACK_PORTS)
 }
 
 /// Returns the bytes of the longest packet that is sent on a network: 576 to 1500; the default is 1500.

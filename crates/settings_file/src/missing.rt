@@ -10,7 +10,7 @@ use std::alloc::{AllocError, Global};
 use toml::{Table, Value};
 
 /// Returns the required keys of the sections, in the order of the text.
-fn required() -> [Key; 27]
+fn required() -> [Key; 19]
     ensures { result ≡ required }
 {
     [
@@ -19,28 +19,20 @@ fn required() -> [Key; 27]
         Key::new(Section::Inside, Name::Virtual),
         Key::new(Section::Inside, Name::Prefix),
         Key::new(Section::Inside, Name::Vrid),
-        Key::new(Section::Inside, Name::Wire),
         Key::new(Section::Outside, Name::Virtual),
         Key::new(Section::Outside, Name::Prefix),
         Key::new(Section::Outside, Name::Vrid),
-        Key::new(Section::Outside, Name::Wire),
         Key::new(Section::Outside, Name::Router),
         Key::new(Section::GatewayZero, Name::InsideIp),
         Key::new(Section::GatewayZero, Name::InsideMac),
         Key::new(Section::GatewayZero, Name::OutsideIp),
         Key::new(Section::GatewayZero, Name::OutsideMac),
         Key::new(Section::GatewayZero, Name::BootFile),
-        Key::new(Section::GatewayZero, Name::Link),
-        Key::new(Section::GatewayZero, Name::InsidePort),
-        Key::new(Section::GatewayZero, Name::OutsidePort),
         Key::new(Section::GatewayOne, Name::InsideIp),
         Key::new(Section::GatewayOne, Name::InsideMac),
         Key::new(Section::GatewayOne, Name::OutsideIp),
         Key::new(Section::GatewayOne, Name::OutsideMac),
         Key::new(Section::GatewayOne, Name::BootFile),
-        Key::new(Section::GatewayOne, Name::Link),
-        Key::new(Section::GatewayOne, Name::InsidePort),
-        Key::new(Section::GatewayOne, Name::OutsidePort),
     ]
 }
 

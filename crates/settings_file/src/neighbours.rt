@@ -55,7 +55,7 @@ pub(crate) fn tables(document: &Table) -> Option<&[Value]>
 
 /// Returns the value at a key of a neighbour.
 #[tactic(auto, unfolding(crate::specs::Neighbours::field_of))]
-fn field_of(neighbour: &Value, name: Name) -> Option<&Value>
+pub(crate) fn field_of(neighbour: &Value, name: Name) -> Option<&Value>
     ensures { option_map (λ v. view v.now) result ≡ field_of (view neighbour.now) name }
 {
     match neighbour.as_table() {

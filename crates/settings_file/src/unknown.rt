@@ -88,9 +88,21 @@ fn is_known(section: Section, text: &str) -> bool
     }
 }
 
+/// Returns the keys of a section.
+pub(crate) fn keys_of(section: Section) -> &'static [Name] {
+    match section {
+        Section::Ports => &PORTS_KEYS,
+        Section::Inside => &INSIDE_KEYS,
+        Section::Outside => &OUTSIDE_KEYS,
+        Section::Icmp => &ICMP_KEYS,
+        Section::GatewayZero | Section::GatewayOne => &GATEWAY_KEYS,
+        Section::Neighbour => &NEIGHBOUR_KEYS,
+    }
+}
+
 /// Returns the section of this name.
 #[tactic(auto, unfolding(crate::specs::Unknown::section_named))]
-fn section_named(text: &str) -> Option<Section>
+pub(crate) fn section_named(text: &str) -> Option<Section>
     ensures { result ≡ section_named text.now }
 {
     match text {

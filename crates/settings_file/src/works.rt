@@ -26,7 +26,7 @@ pub fn is_network_address(address: Ip, length: u8) -> bool
 
 /// Whether an address is the last of its network, its broadcast address.
 #[tactic(auto, unfolding(crate::specs::Works::is_last, crate::specs::Document::is_in))]
-fn is_broadcast_address(address: Ip, length: u8) -> bool
+pub(crate) fn is_broadcast_address(address: Ip, length: u8) -> bool
     requires { length ≤ 32 }
     ensures { result ≡ is_last length address.0 }
 {
@@ -44,7 +44,7 @@ fn is_host_address(address: Ip, length: u8) -> bool
 }
 
 /// Whether a MAC is that of a group of stations, as the broadcast one is.
-fn is_group(mac: Mac) -> bool
+pub(crate) fn is_group(mac: Mac) -> bool
     ensures { result ≡ is_group mac.0 }
 {
     mac.0[0] % 2 == 1
@@ -59,7 +59,7 @@ fn is_station(mac: Mac) -> bool
 }
 
 /// Whether an address is the pair's own on a side: the virtual one or a gateway's.
-fn is_ours(settings: &Settings, side: Side, address: Ip) -> bool
+pub(crate) fn is_ours(settings: &Settings, side: Side, address: Ip) -> bool
     ensures { result ≡ is_ours settings.now side address.0 }
 {
     let Settings { zero, one, .. } = settings;

@@ -16,8 +16,8 @@ use std::io::{self, BufWriter, ErrorKind, Write};
 pub struct Capture<W> {
     output: W,
     clocks: Clocks,
-    /// Whether a write has failed.
-    has_failed: bool,
+    /// The cause of the first write that failed, if one has.
+    failure: Option<ErrorKind>,
 }
 
 impl<W: Write + Drop> Capture<W> {
@@ -31,7 +31,7 @@ impl<W: Write + Drop> Capture<W> {
         Ok(Capture {
             output,
             clocks: Clocks::new(),
-            has_failed: false,
+            failure: None,
         })
     }
 }
@@ -48,8 +48,8 @@ impl<W: Write> Capture<W> {
         }
         let time = self.clocks.time(gateway_of(event));
         let written = write_event(&mut self.output, time, world, event, step);
-        if written.is_err() {
-            self.has_failed = true;
+        if let Err(error) = &written {
+            self.failure = self.failure.or(Some(error.kind()));
         }
         written
     }
@@ -58,13 +58,13 @@ impl<W: Write> Capture<W> {
     ///
     /// # Errors
     ///
-    /// Those of the output; `Other` where a write has failed before.
+    /// Those of the output; that of the first write that failed, where one has.
     fn flush(&mut self) -> io::Result<()> {
         let flushed = self.output.flush();
-        if self.has_failed {
-            return Err(ErrorKind::Other.into());
+        match self.failure {
+            Some(cause) => Err(cause.into()),
+            None => flushed,
         }
-        flushed
     }
 }
 

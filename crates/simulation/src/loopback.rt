@@ -4,8 +4,8 @@ use crate::Channel;
 use captures::Interface;
 use faults::Fault;
 use nat_types::{GatewayId, Side};
-use settings::{GatewaySettings, Settings};
-use settings_file::{SettingFault, port_clash_of_both};
+use settings::Settings;
+use settings_file::{BoxPorts, port_clash_of_both, ports_of_both};
 use std::io::ErrorKind;
 use std::net::{Ipv4Addr, Net, SocketAddr, SocketAddrV4, UdpSocket};
 use std::rt::Clock;
@@ -29,12 +29,12 @@ impl EchoSocket {
     ///
     /// # Errors
     ///
-    /// `NoPort`.
+    /// `NoSocket`.
     fn open<R: Net>(rt: &R, port: u16) -> Result<EchoSocket, Fault> {
         let address = SocketAddr::V4(SocketAddrV4::new(Ipv4Addr::LOCALHOST, port));
         match UdpSocket::bind(rt, address) {
             Ok(socket) => Ok(EchoSocket { socket, address }),
-            Err(_) => Err(Fault::NoPort(port)),
+            Err(error) => Err(Fault::NoSocket(address, error.kind())),
         }
     }
 
@@ -106,11 +106,11 @@ struct GatewaySockets {
 }
 
 impl GatewaySockets {
-    fn open<R: Net>(rt: &R, gateway: &GatewaySettings) -> Result<GatewaySockets, Fault> {
+    fn open<R: Net>(rt: &R, ports: BoxPorts) -> Result<GatewaySockets, Fault> {
         Ok(GatewaySockets {
-            link: EchoSocket::open(rt, gateway.link)?,
-            inside: EchoSocket::open(rt, gateway.inside_port)?,
-            outside: EchoSocket::open(rt, gateway.outside_port)?,
+            link: EchoSocket::open(rt, ports.link)?,
+            inside: EchoSocket::open(rt, ports.inside)?,
+            outside: EchoSocket::open(rt, ports.outside)?,
         })
     }
 
@@ -130,22 +130,26 @@ pub struct Loopback<'a, R> {
     one: GatewaySockets,
 }
 
-impl<'a, R: Net> Loopback<'a, R> {
-    /// Binds the ports in the settings of both gateways: the link, the inside and the outside of gateway 0, then those
-    /// of gateway 1.
+impl<'a, R: Net + AllocGlobal> Loopback<'a, R> {
+    /// Binds the ports in the settings of both gateways, which are in the file at a path: the link, the inside and the
+    /// outside of gateway 0, then those of gateway 1.
     ///
     /// # Errors
     ///
-    /// `CantWork` with the first key whose port another key before it has; `NoPort` of the first port that can't be
-    /// bound.
-    pub fn open(rt: &'a R, settings: &Settings) -> Result<Loopback<'a, R>, Fault> {
-        if let Some(key) = port_clash_of_both(settings) {
-            return Err(Fault::Setting(SettingFault::CantWork(key)));
+    /// `Missing` of the first key of a loopback port that is left out, `wire` too; `PortClash` with the first key whose
+    /// port another key before it has; `NoSocket` of the first port that can't be bound.
+    pub fn open(rt: &'a R, path: &str, settings: &Settings) -> Result<Loopback<'a, R>, Fault> {
+        let (zero, one) = match ports_of_both(settings) {
+            Ok(ports) => ports,
+            Err(key) => return Err(Fault::missing_port(rt.alloc(), path, key)),
+        };
+        if let Some(clash) = port_clash_of_both(settings) {
+            return Err(Fault::PortClash(clash));
         }
         Ok(Loopback {
             rt,
-            zero: GatewaySockets::open(rt, settings.gateway(GatewayId::Zero))?,
-            one: GatewaySockets::open(rt, settings.gateway(GatewayId::One))?,
+            zero: GatewaySockets::open(rt, zero)?,
+            one: GatewaySockets::open(rt, one)?,
         })
     }
 }

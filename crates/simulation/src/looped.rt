@@ -10,7 +10,7 @@ use crate::sim::status_of;
 use crate::tables::print_world;
 use crate::{Job, Loopback, read_job};
 use captures::Interface;
-use faults::Fault;
+use faults::{Fault, TextFile};
 use frame_sim::{Step, World};
 use nat_types::{NoMemory, WorldEvent};
 use std::alloc::Global;
@@ -34,13 +34,13 @@ pub trait Channel {
 /// A failed write of the capture comes before the errors of [`run_loop_job`].
 pub fn run_loop<R: Files + Net + Clock + AllocGlobal, W: Write>(
     rt: &R,
-    settings: &str,
-    script: &str,
+    settings: TextFile<'_>,
+    script: TextFile<'_>,
     capture: Option<&str>,
     output: &mut W,
 ) -> Result<u8, Fault> {
     let job = read_job(rt.alloc(), settings, script)?;
-    let mut channel = Loopback::open(rt, &job.settings)?;
+    let mut channel = Loopback::open(rt, settings.path, &job.settings)?;
     let mut file = begin_capture(rt, capture)?;
     let status = run_loop_job(rt.alloc(), &job, &mut channel, &mut file, output);
     end_capture(rt.alloc(), capture, file)?;

@@ -1,6 +1,6 @@
 //! Parses scripts: lists of events, one in a line.
 
-use faults::Fault;
+use faults::{Fault, TextFile, settings_in};
 use hex::FromHexError;
 use nat_types::{GatewayId, Side, WorldEvent};
 use settings::Settings;
@@ -19,27 +19,63 @@ pub struct Job {
     pub events: Vec<WorldEvent>,
 }
 
+/// Why a line is no event.
+#[derive(Clone, Copy, Debug)]
+enum LineFault {
+    /// What a line, or the word that is wrong, has to be.
+    Wants(&'static str),
+    NoMemory,
+}
+
+impl From<AllocError> for LineFault {
+    fn from(_: AllocError) -> LineFault {
+        LineFault::NoMemory
+    }
+}
+
+const WANTS_EVENT: LineFault = LineFault::Wants(
+    "an event is tick I MOMENT, frame I SIDE HEX, deliver I K, stop I, crash I, boot I N, peer-off I N or side I SIDE up|down",
+);
+
+const WANTS_GATEWAY: LineFault = LineFault::Wants("a gateway is 0 or 1");
+
+const WANTS_NUMBER: LineFault = LineFault::Wants("a number has digits alone, and is below 2^64");
+
+const WANTS_SIDE: LineFault = LineFault::Wants("a side is inside or outside");
+
+const WANTS_CABLE: LineFault = LineFault::Wants("a cable is up or down");
+
+const WANTS_BYTES: LineFault = LineFault::Wants(
+    "bytes are pairs of hexadecimal digits, at most 2000 bytes, or -",
+);
+
+const WANTS_FEWER: LineFault = LineFault::Wants("a script has at most 1000000 events");
+
 /// Parses settings in TOML and a script.
 ///
 /// # Errors
 ///
 /// That of the settings; `BadLine` with the number, from 1, of the first line that is no event or one event too many;
 /// `NoMemory`.
-pub fn read_job(alloc: Global, settings: &str, script: &str) -> Result<Job, Fault> {
-    let settings = settings_file::read(alloc, settings)?;
+pub fn read_job(alloc: Global, settings: TextFile<'_>, script: TextFile<'_>) -> Result<Job, Fault> {
+    let settings = settings_in(alloc, settings)?;
     let events = parse_events(alloc, script)?;
     Ok(Job { settings, events })
 }
 
-fn parse_events(alloc: Global, script: &str) -> Result<Vec<WorldEvent>, Fault> {
+fn parse_events(alloc: Global, script: TextFile<'_>) -> Result<Vec<WorldEvent>, Fault> {
     let mut events = Vec::new(alloc);
-    for (index, line) in script.lines().enumerate() {
+    for (index, line) in script.text.lines().enumerate() {
         if is_skipped(line) {
             continue;
         }
-        match parse_event(alloc, line)? {
-            Some(event) if events.len() < MAX_EVENTS => events.push(event)?,
-            _ => return Err(Fault::BadLine(index.saturating_add(1))),
+        match parse_next(alloc, line, events.len()) {
+            Ok(event) => events.push(event)?,
+            Err(LineFault::Wants(why)) => {
+                let number = index.saturating_add(1);
+                return Err(Fault::bad_line(alloc, script.path, number, why));
+            }
+            Err(LineFault::NoMemory) => return Err(Fault::NoMemory),
         }
     }
     Ok(events)
@@ -50,119 +86,117 @@ fn is_skipped(line: &str) -> bool {
     line.starts_with('#') || line.bytes().all(|byte| byte == b' ' || byte == b'\t')
 }
 
-/// Parses a line of words with a single space between each two. Returns None where the line is no event.
-fn parse_event(alloc: Global, line: &str) -> Result<Option<WorldEvent>, AllocError> {
+/// Parses a line, where a script may have an event more than the events before it.
+fn parse_next(alloc: Global, line: &str, before: usize) -> Result<WorldEvent, LineFault> {
+    let event = parse_event(alloc, line)?;
+    if before < MAX_EVENTS {
+        Ok(event)
+    } else {
+        Err(WANTS_FEWER)
+    }
+}
+
+/// Parses a line of words with a single space between each two.
+fn parse_event(alloc: Global, line: &str) -> Result<WorldEvent, LineFault> {
     let words: Vec<&str> = line.split(' ').collect(alloc)?;
     match words.as_slice() {
-        [verb, gateway] => Ok(parse_stop(verb, gateway)),
-        [verb, gateway, number] => Ok(parse_numbered(verb, gateway, number)),
-        [verb, gateway, side, text] => parse_sided(alloc, verb, gateway, side, text),
-        _ => Ok(None),
+        [verb, gateway] => parse_stop(verb, gateway),
+        [verb, gateway, number] => parse_numbered(verb, gateway, number),
+        [verb, gateway, side, text] => match *verb {
+            "side" => parse_cable(gateway, side, text),
+            "frame" => parse_frame(alloc, gateway, side, text),
+            _ => Err(WANTS_EVENT),
+        },
+        _ => Err(WANTS_EVENT),
     }
 }
 
 /// Parses the words of an event that has nothing but its gateway, as `crash 1`.
-fn parse_stop(verb: &str, gateway: &str) -> Option<WorldEvent> {
-    let id = parse_gateway(gateway)?;
+fn parse_stop(verb: &str, gateway: &str) -> Result<WorldEvent, LineFault> {
     match verb {
-        "stop" => Some(WorldEvent::Stop(id)),
-        "crash" => Some(WorldEvent::Crash(id)),
-        _ => None,
+        "stop" => Ok(WorldEvent::Stop(parse_gateway(gateway)?)),
+        "crash" => Ok(WorldEvent::Crash(parse_gateway(gateway)?)),
+        _ => Err(WANTS_EVENT),
     }
 }
 
 /// Parses the words of an event with a number, as `tick 0 100`.
-fn parse_numbered(verb: &str, gateway: &str, number: &str) -> Option<WorldEvent> {
+fn parse_numbered(verb: &str, gateway: &str, number: &str) -> Result<WorldEvent, LineFault> {
+    if !matches!(verb, "tick" | "deliver" | "boot" | "peer-off") {
+        return Err(WANTS_EVENT);
+    }
     let id = parse_gateway(gateway)?;
     let number = parse_number(number)?;
-    match verb {
-        "tick" => Some(WorldEvent::Tick(id, number)),
-        "deliver" => Some(WorldEvent::Deliver(id, number)),
-        "boot" => Some(WorldEvent::Boot(id, number)),
-        "peer-off" => Some(WorldEvent::PeerOff(id, number)),
-        _ => None,
+    Ok(match verb {
+        "tick" => WorldEvent::Tick(id, number),
+        "deliver" => WorldEvent::Deliver(id, number),
+        "boot" => WorldEvent::Boot(id, number),
+        _ => WorldEvent::PeerOff(id, number),
+    })
+}
+
+/// Parses the words of an event of a cable, as `side 1 outside down`.
+fn parse_cable(gateway: &str, side: &str, text: &str) -> Result<WorldEvent, LineFault> {
+    let id = parse_gateway(gateway)?;
+    let side = parse_side(side)?;
+    match text {
+        "up" => Ok(WorldEvent::Side(id, side, true)),
+        "down" => Ok(WorldEvent::Side(id, side, false)),
+        _ => Err(WANTS_CABLE),
     }
 }
 
-/// Parses the words of an event with a side, as `frame 0 inside 0A0B` or `side 1 outside down`.
-fn parse_sided(
+/// Parses the words of an event of a frame, as `frame 0 inside 0A0B`.
+fn parse_frame(
     alloc: Global,
-    verb: &str,
     gateway: &str,
     side: &str,
     text: &str,
-) -> Result<Option<WorldEvent>, AllocError> {
-    let Some(id) = parse_gateway(gateway) else {
-        return Ok(None);
-    };
-    let Some(side) = parse_side(side) else {
-        return Ok(None);
-    };
-    match verb {
-        "side" => Ok(parse_cable(id, side, text)),
-        "frame" => parse_frame(alloc, id, side, text),
-        _ => Ok(None),
-    }
+) -> Result<WorldEvent, LineFault> {
+    let id = parse_gateway(gateway)?;
+    let side = parse_side(side)?;
+    let bytes = parse_bytes(alloc, text)?;
+    Ok(WorldEvent::Frame(id, side, bytes))
 }
 
-/// Parses the last word of a `side` event.
-fn parse_cable(id: GatewayId, side: Side, text: &str) -> Option<WorldEvent> {
-    match text {
-        "up" => Some(WorldEvent::Side(id, side, true)),
-        "down" => Some(WorldEvent::Side(id, side, false)),
-        _ => None,
-    }
-}
-
-/// Parses the last word of a `frame` event.
-fn parse_frame(
-    alloc: Global,
-    id: GatewayId,
-    side: Side,
-    text: &str,
-) -> Result<Option<WorldEvent>, AllocError> {
-    match parse_bytes(alloc, text)? {
-        Some(bytes) => Ok(Some(WorldEvent::Frame(id, side, bytes))),
-        None => Ok(None),
-    }
-}
-
-fn parse_gateway(word: &str) -> Option<GatewayId> {
+fn parse_gateway(word: &str) -> Result<GatewayId, LineFault> {
     match word {
-        "0" => Some(GatewayId::Zero),
-        "1" => Some(GatewayId::One),
-        _ => None,
+        "0" => Ok(GatewayId::Zero),
+        "1" => Ok(GatewayId::One),
+        _ => Err(WANTS_GATEWAY),
     }
 }
 
-fn parse_side(word: &str) -> Option<Side> {
+fn parse_side(word: &str) -> Result<Side, LineFault> {
     match word {
-        "inside" => Some(Side::Inside),
-        "outside" => Some(Side::Outside),
-        _ => None,
+        "inside" => Ok(Side::Inside),
+        "outside" => Ok(Side::Outside),
+        _ => Err(WANTS_SIDE),
     }
 }
 
 /// Parses a decimal number below 2^64 that has nothing but digits.
-fn parse_number(word: &str) -> Option<u64> {
-    if word.bytes().all(|byte| byte.is_ascii_digit()) {
-        word.parse().ok()
-    } else {
-        None
+fn parse_number(word: &str) -> Result<u64, LineFault> {
+    if !word.bytes().all(|byte| byte.is_ascii_digit()) {
+        return Err(WANTS_NUMBER);
+    }
+    match word.parse::<u64>() {
+        Ok(number) => Ok(number),
+        Err(_) => Err(WANTS_NUMBER),
     }
 }
 
-/// Parses bytes of two hexadecimal digits each, or `-` for no bytes. Returns None where the word is neither.
-fn parse_bytes(alloc: Global, word: &str) -> Result<Option<Vec<u8>>, AllocError> {
+/// Parses bytes of two hexadecimal digits each, or `-` for no bytes.
+fn parse_bytes(alloc: Global, word: &str) -> Result<Vec<u8>, LineFault> {
     if word == "-" {
-        return Ok(Some(Vec::new(alloc)));
+        return Ok(Vec::new(alloc));
     }
     if word.is_empty() || word.len() > 2 * MAX_FRAME {
-        return Ok(None);
+        return Err(WANTS_BYTES);
     }
     match hex::decode(alloc, word) {
-        Ok(bytes) => Ok(Some(bytes)),
-        Err(FromHexError::OutOfMemory) => Err(AllocError),
-        Err(_) => Ok(None),
+        Ok(bytes) => Ok(bytes),
+        Err(FromHexError::OutOfMemory) => Err(LineFault::NoMemory),
+        Err(_) => Err(WANTS_BYTES),
     }
 }

@@ -11,7 +11,7 @@ use crate::capture::{Capture, begin_capture, end_capture};
 use crate::lines::{Counts, print_step};
 use crate::tables::print_world;
 use crate::{Job, read_job};
-use faults::Fault;
+use faults::{Fault, TextFile};
 use frame_sim::{Step, World};
 use nat_types::{NoMemory, WorldEvent};
 use std::alloc::Global;
@@ -45,8 +45,8 @@ impl<P: Progress> Progress for Option<P> {
 /// comes before the errors of [`run_sim_job`].
 pub fn run_sim<R: Files + AllocGlobal, P: Progress, W: Write>(
     rt: &R,
-    settings: &str,
-    script: &str,
+    settings: TextFile<'_>,
+    script: TextFile<'_>,
     capture: Option<&str>,
     progress: &mut P,
     output: &mut W,

@@ -3,13 +3,14 @@ ghost use Rattle.std.specs.Prelude.{◌≤◌, IfOk, IfSome};
 ghost use Rattle.sockets.specs.Wires.{AnyWay};
 
 use crate::transports::Socket;
-use crate::{Losses, MAX_DATAGRAM, Place, PlaceSocket, SendFault, Ways, Wire, WireFault};
+use crate::ways::Attachment;
+use crate::{Losses, MAX_DATAGRAM, Place, PlaceSocket, SendFault, Way, Ways, Wire, WireFault};
 use control::Control;
 use mio::{Events, Poll, Token};
 use nat_types::{GatewayId, Side};
 use settings::Settings;
 use std::alloc::AllocError;
-use std::io;
+use std::io::{self, ErrorKind};
 use std::net::Net;
 use std::time::Duration;
 use thiserror::Error;
@@ -34,7 +35,7 @@ const MAX_EVENTS: usize = 8;
 pub enum SocketFault {
     /// A port can't be bound, or a socket or descriptor can't be polled.
     #[error("socket 1 NoSocket")]
-    NoSocket,
+    NoSocket(ErrorKind),
     #[error("memory 1 NoMemory")]
     NoMemory,
 }
@@ -46,17 +47,18 @@ impl From<AllocError> for SocketFault {
 }
 
 impl From<io::Error> for SocketFault {
-    fn from(_: io::Error) -> SocketFault {
-        SocketFault::NoSocket
+    fn from(error: io::Error) -> SocketFault {
+        SocketFault::NoSocket(error.kind())
     }
 }
 
-/// The ports of a box's places on the loopback address: of each the own port, and the one that it sends to.
+/// The ports of a box's places on the loopback address: of each the own port, and the one that it sends to, or None
+/// where one of the two is left out. Only a place on loopback needs them.
 #[derive(Clone, Copy, Debug, PartialEq, Eq)]
 pub struct LoopbackPorts {
-    pub link: (u16, u16),
-    pub inside: (u16, u16),
-    pub outside: (u16, u16),
+    pub link: Option<(u16, u16)>,
+    pub inside: Option<(u16, u16)>,
+    pub outside: Option<(u16, u16)>,
 }
 
 impl LoopbackPorts {
@@ -67,10 +69,18 @@ impl LoopbackPorts {
             GatewayId::One => (&settings.one, &settings.zero),
         };
         LoopbackPorts {
-            link: (own.link, other.link),
-            inside: (own.inside_port, settings.inside.wire),
-            outside: (own.outside_port, settings.outside.wire),
+            link: both(own.link, other.link),
+            inside: both(own.inside_port, settings.inside.wire),
+            outside: both(own.outside_port, settings.outside.wire),
         }
+    }
+}
+
+/// Returns two ports, or None where one of them is left out.
+fn both(own: Option<u16>, other: Option<u16>) -> Option<(u16, u16)> {
+    match (own, other) {
+        (Some(own), Some(other)) => Some((own, other)),
+        _ => None,
     }
 }
 
@@ -93,24 +103,27 @@ impl Sockets {
     ///
     /// # Errors
     ///
-    /// `NoSocket` where one can't be opened or polled; `NoMemory`.
+    /// `NoSocket` where one can't be opened or polled, and where a place on loopback has no ports; `NoMemory`.
     pub fn open<R: Net + AllocGlobal>(
         rt: &R,
         ways: &Ways,
         ports: LoopbackPorts,
         mut control: Control,
     ) -> Result<Sockets, SocketFault> {
+        let to_link = attachment(ways.link, ports.link)?;
+        let to_inside = attachment(ways.inside, ports.inside)?;
+        let to_outside = attachment(ways.outside, ports.outside)?;
         let poll = Poll::new(rt)?;
         let registry = poll.registry();
-        let link = Socket::open(rt, registry, LINK_TOKEN, ways.link, ports.link)?;
-        let inside = Socket::open(rt, registry, INSIDE_TOKEN, ways.inside, ports.inside)?;
-        let outside = Socket::open(rt, registry, OUTSIDE_TOKEN, ways.outside, ports.outside)?;
+        let link = Socket::open(rt, registry, LINK_TOKEN, to_link)?;
+        let inside = Socket::open(rt, registry, INSIDE_TOKEN, to_inside)?;
+        let outside = Socket::open(rt, registry, OUTSIDE_TOKEN, to_outside)?;
         let events = Events::with_capacity(rt.alloc(), MAX_EVENTS)?;
         control.register(registry)?;
         Ok(Sockets {
-            link: PlaceSocket::new(link, ways.link.peer(ports.link)),
-            inside: PlaceSocket::new(inside, ways.inside.peer(ports.inside)),
-            outside: PlaceSocket::new(outside, ways.outside.peer(ports.outside)),
+            link: PlaceSocket::new(link, to_link.peer()),
+            inside: PlaceSocket::new(inside, to_inside.peer()),
+            outside: PlaceSocket::new(outside, to_outside.peer()),
             poll,
             events,
             control,
@@ -238,6 +251,18 @@ impl Wire for Sockets {
                 failed: self.control.unanswered(),
             },
         }
+    }
+}
+
+/// Returns what a place is attached to by its way, with its ports on the loopback address.
+///
+/// # Errors
+///
+/// `NoSocket` where the place is on loopback and has no ports.
+fn attachment(way: Way, ports: Option<(u16, u16)>) -> Result<Attachment, SocketFault> {
+    match way.attachment(ports) {
+        Some(found) => Ok(found),
+        None => Err(SocketFault::NoSocket(ErrorKind::AddrNotAvailable)),
     }
 }
 

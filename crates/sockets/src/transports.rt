@@ -1,7 +1,8 @@
 //! The transports of a place's datagrams: a UDP socket, or an inherited descriptor.
 ghost use Rattle.std.specs.Prelude.{◌≤◌, IfOk, IfSome};
 
-use crate::{End, Ends, MAX_DATAGRAM, SendFault, Sender, Way, WireFault};
+use crate::ways::Attachment;
+use crate::{End, Ends, MAX_DATAGRAM, SendFault, Sender, WireFault};
 use mio::net::UdpSocket;
 use mio::unix::SourceFd;
 use mio::{Interest, Registry, Token};
@@ -50,8 +51,7 @@ pub(crate) enum Socket {
 }
 
 impl Socket {
-    /// Opens the socket or descriptor of a way, and registers it with a poll under a token. The ports are those of
-    /// `Way::Loopback`: the own one, and the other.
+    /// Opens the socket or descriptor of an attachment, and registers it with a poll under a token.
     ///
     /// # Errors
     ///
@@ -60,17 +60,15 @@ impl Socket {
         rt: &R,
         registry: &Registry,
         token: Token,
-        way: Way,
-        ports: (u16, u16),
+        attachment: Attachment,
     ) -> io::Result<Socket> {
-        let mut socket = match way {
-            Way::Loopback => Socket::connect(rt, Ends::on_loopback(ports))?,
-            Way::Udp(ends) => Socket::connect(rt, ends)?,
-            Way::Vxlan(ends, _) => {
+        let mut socket = match attachment {
+            Attachment::Udp(ends) => Socket::connect(rt, ends)?,
+            Attachment::Vxlan(ends, _) => {
                 let socket = UdpSocket::bind(rt, SocketAddr::from(ends.own))?;
                 Socket::Open(socket, SocketAddr::from(ends.other))
             }
-            Way::Descriptor(number) => Socket::Inherited(Inherited::open(number)?),
+            Attachment::Descriptor(number) => Socket::Inherited(Inherited::open(number)?),
         };
         socket.register(registry, token)?;
         Ok(socket)

@@ -3,6 +3,7 @@
 use crate::{End, Ends, LoopbackPorts, Network, Peer};
 use mio::net::UdpSocket;
 use platform::Inherited;
+use std::io::ErrorKind;
 use std::net::{Net, SocketAddr};
 use thiserror::Error;
 
@@ -40,13 +41,36 @@ impl Way {
         }
     }
 
-    /// Returns the peer that is reached by the way. The ports are those of `Way::Loopback`: the own one, and the other.
-    pub fn peer(self, ports: (u16, u16)) -> Peer {
+    /// Returns what a place is attached to by the way. The ports are those of `Way::Loopback`: the own one, and the other.
+    /// Returns None for loopback without ports.
+    pub(crate) fn attachment(self, ports: Option<(u16, u16)>) -> Option<Attachment> {
         match self {
-            Way::Loopback => Peer::Udp(Ends::on_loopback(ports).other),
-            Way::Udp(ends) => Peer::Udp(ends.other),
-            Way::Vxlan(ends, network) => Peer::Vxlan(ends.other.address, network),
-            Way::Descriptor(_) => Peer::Interface,
+            Way::Loopback => match ports {
+                Some(ports) => Some(Attachment::Udp(Ends::on_loopback(ports))),
+                None => None,
+            },
+            Way::Udp(ends) => Some(Attachment::Udp(ends)),
+            Way::Vxlan(ends, network) => Some(Attachment::Vxlan(ends, network)),
+            Way::Descriptor(number) => Some(Attachment::Descriptor(number)),
+        }
+    }
+}
+
+/// What a place is attached to: a way whose ends are all known. Loopback is UDP between two of its ports.
+#[derive(Clone, Copy)]
+pub(crate) enum Attachment {
+    Udp(Ends),
+    Vxlan(Ends, Network),
+    Descriptor(u16),
+}
+
+impl Attachment {
+    /// Returns the peer of a place.
+    pub(crate) fn peer(self) -> Peer {
+        match self {
+            Attachment::Udp(ends) => Peer::Udp(ends.other),
+            Attachment::Vxlan(ends, network) => Peer::Vxlan(ends.other.address, network),
+            Attachment::Descriptor(_) => Peer::Interface,
         }
     }
 }
@@ -84,20 +108,23 @@ impl Ways {
 }
 
 /// Returns the first of a box's own ends at which no socket can be bound, of the link, the inside and the outside.
-pub fn first_unbound<R: Net>(rt: &R, ways: &Ways, ports: LoopbackPorts) -> Option<End> {
+pub fn first_unbound<R: Net>(
+    rt: &R,
+    ways: &Ways,
+    ports: LoopbackPorts,
+) -> Option<(End, ErrorKind)> {
     let places = [
         (ways.link, ports.link),
         (ways.inside, ports.inside),
         (ways.outside, ports.outside),
     ];
     for (way, ports) in places {
-        let end = match way {
-            Way::Loopback => Ends::on_loopback(ports).own,
-            Way::Udp(ends) | Way::Vxlan(ends, _) => ends.own,
-            Way::Descriptor(_) => continue,
+        let end = match way.attachment(ports) {
+            Some(Attachment::Udp(ends) | Attachment::Vxlan(ends, _)) => ends.own,
+            Some(Attachment::Descriptor(_)) | None => continue,
         };
-        if UdpSocket::bind(rt, SocketAddr::from(end)).is_err() {
-            return Some(end);
+        if let Err(error) = UdpSocket::bind(rt, SocketAddr::from(end)) {
+            return Some((end, error.kind()));
         }
     }
     None

@@ -1,0 +1,97 @@
+//! Faults that no file and no box of the cases has, made by hand.
+
+use boot_file::FileFault;
+use boot_store::BootFault;
+use cases_words::Case;
+use control::{AskFault, ControlPath, NoSocket, PeerOffRefusal};
+use faults::{Fault, FileRefusal, report};
+use journal::FilterFault;
+use reports::ReadFault;
+use std::alloc::Global;
+use std::io::ErrorKind;
+
+/// Prints what is reported of the fault that the next word names, and the status.
+pub(crate) fn tell(rt: &HostRuntime, case: &mut Case) {
+    let alloc = case.alloc;
+    match fault_named(rt, case.word()) {
+        Some(fault) => {
+            let status = report(alloc, &fault, &mut case.out);
+            case.say("status ", status);
+            case.end();
+        }
+        None => case.fault(),
+    }
+}
+
+/// Returns the fault of a name.
+fn fault_named(rt: &HostRuntime, name: &str) -> Option<Fault> {
+    let alloc = rt.alloc();
+    if let Some(cause) = socket_named(name) {
+        let path = ControlPath::beside(alloc, "boot0").ok()?;
+        return Some(Fault::unanswered(alloc, &path, AskFault::NoSocket(cause), true));
+    }
+    if let Some(fault) = boot_file_named(name) {
+        return Some(Fault::boot_file(alloc, "boot0", fault));
+    }
+    if let Some(refusal) = refusal_named(name) {
+        return Some(Fault::PeerOff(refusal));
+    }
+    match name {
+        "unread" => Some(file(alloc, FileRefusal::NoFile, ErrorKind::PermissionDenied)),
+        "no-folder" => Some(file(alloc, FileRefusal::NotWritten, ErrorKind::NotADirectory)),
+        "read-only" => Some(file(
+            alloc,
+            FileRefusal::NotWritten,
+            ErrorKind::ReadOnlyFilesystem,
+        )),
+        "busy" => Some(file(alloc, FileRefusal::NoFile, ErrorKind::ResourceBusy)),
+        "device" => Some(Fault::from(BootFault::Device).of_boot_file(rt, "boot0")),
+        "sockets" => Some(Fault::NoSockets(ErrorKind::NetworkUnreachable)),
+        "not-synced" => Some(Fault::NotSynced),
+        "no-text" => Some(Fault::filter(alloc, FilterFault::NotText)),
+        "other-version" => Some(Fault::NoReport(ReadFault::OtherVersion(9))),
+        "bad-bytes" => Some(Fault::NoReport(ReadFault::BadBytes)),
+        "words" => Some(Fault::Words),
+        "no-memory" => Some(Fault::NoMemory),
+        _ => None,
+    }
+}
+
+fn file(alloc: Global, refusal: FileRefusal, cause: ErrorKind) -> Fault {
+    Fault::file(alloc, refusal, "S.toml", Some(cause))
+}
+
+/// Returns why a box refuses the word that the other one is off, by its name.
+fn refusal_named(name: &str) -> Option<PeerOffRefusal> {
+    match name {
+        "not-synced-box" => Some(PeerOffRefusal::NotSynced),
+        "no-peer" => Some(PeerOffRefusal::NoPeer),
+        "past-boot" => Some(PeerOffRefusal::PastBoot),
+        "unknown-boot" => Some(PeerOffRefusal::UnknownBoot),
+        "peer-heard" => Some(PeerOffRefusal::PeerHeard),
+        _ => None,
+    }
+}
+
+/// Returns why a control socket is of no use, by its name.
+fn socket_named(name: &str) -> Option<NoSocket> {
+    match name {
+        "denied" => Some(NoSocket::Failed(ErrorKind::PermissionDenied)),
+        "taken" => Some(NoSocket::Failed(ErrorKind::AddrInUse)),
+        "closed" => Some(NoSocket::Closed),
+        "other-reply" => Some(NoSocket::OtherReply),
+        _ => None,
+    }
+}
+
+/// Returns why a boot file can't be made or opened, by its name.
+fn boot_file_named(name: &str) -> Option<FileFault> {
+    match name {
+        "not-made" => Some(FileFault::NotMade(ErrorKind::PermissionDenied)),
+        "not-written" => Some(FileFault::NotWritten),
+        "not-linked" => Some(FileFault::NotLinked(ErrorKind::PermissionDenied)),
+        "altered" => Some(FileFault::Altered),
+        "not-locked" => Some(FileFault::NotLocked),
+        _ => None,
+    }
+}
