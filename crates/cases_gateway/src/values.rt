@@ -6,8 +6,8 @@ use addresses::{Ip, Port, Protocol};
 use cases_words::{Actor, Case};
 use nat_types::{GatewayId, Key, Note, NoteKind, Pair, Side};
 use reports::{
-    ApartReport, Counters, GatewayReport, PairCounts, PeerReport, PortCounts, Report, SideReport, Sides,
-    WaitingCounts,
+    ApartReport, Counters, GatewayReport, PairCounts, PeerReport, PortCounts, Report, SideReport,
+    Sides, WaitingCounts,
 };
 use vrrp_states::State;
 

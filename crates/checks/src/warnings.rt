@@ -10,8 +10,8 @@ use std::alloc::{AllocError, Global};
 /// socket's path, less the end of its name.
 const MAX_BOOT_FILE_PATH: usize = 107 - ".control/socket".len();
 
-/// Returns all warnings of settings: those of the ports, of the networks, of each gateway, of both gateways and of the neighbours,
-/// then the loopback ports that two keys have, and those that are left out beside others of their place.
+/// Returns all warnings of settings: those of the ports, of the networks, of each gateway, of both gateways and of the
+/// neighbours, then the loopback ports that two keys have, and those that are left out beside others of their place.
 ///
 /// # Errors
 ///

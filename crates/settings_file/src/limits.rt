@@ -103,7 +103,8 @@ pub(crate) fn host_limit(document: &Table) -> Result<Option<u16>, Key>
 /// Returns after how many centiseconds without an answer a gateway makes pairs alone: 50 to 65535, or 0 where it never
 /// does; the default is 0.
 pub(crate) fn alone(document: &Table) -> Result<u16, Key>
-    ensures ok { IfOk result (λ n. zero_or 50 65535 (table_view document.now) Ports Alone ≡ Some n) }
+    ensures ok { IfOk result
+        (λ n. zero_or 50 65535 (table_view document.now) Ports Alone ≡ Some n) }
     ensures low { IfOk result (λ n. n < 50 → n ≡ 0) }
     ensures err { IfErr result
         (IsBadAt Ports Alone (zero_or 50 65535 (table_view document.now) Ports Alone)) }
