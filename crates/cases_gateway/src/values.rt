@@ -1,6 +1,6 @@
 //! A report's value, set field by field.
 
-use crate::texts::{Kind, tell_bytes, tell_changed, tell_cuts, tell_text};
+use crate::texts::{Kind, tell_bytes, tell_changed, tell_cuts, tell_page, tell_text};
 use crate::words::{origin, role, what};
 use addresses::{Ip, Port, Protocol};
 use cases_words::{Actor, Case};
@@ -68,6 +68,7 @@ impl Actor for Reports {
     /// - `bytes FROM COUNT`: prints how many bytes the report has, and some of them
     /// - `cuts`: cuts the bytes at each length, and makes them longer by one
     /// - `change AT BYTE`: changes one byte
+    /// - `page HEX PROTOCOL ADDRESS PORT STATE`: reads a page, and prints the entries that are wanted
     fn act(&mut self, case: &mut Case) {
         case.title("> ", "\n");
         match case.word() {
@@ -77,6 +78,7 @@ impl Actor for Reports {
             "bytes" => tell_bytes(&self.report, case),
             "cuts" => tell_cuts(&self.report, case),
             "change" => tell_changed(&self.report, case),
+            "page" => tell_page(case),
             _ => set(&mut self.report, case),
         }
     }
