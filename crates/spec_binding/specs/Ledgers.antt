@@ -104,10 +104,13 @@ abbrev pub is_heard : Option ℕ → ℕ → Bool
 is_heard None now = false
 is_heard (Some last) now = nat_le (now - last) 300
 
--- whether an idle pair's end may be asked for: the gateway isn't apart, the peer was heard lately, and the link isn't
--- full
+-- whether the peer was heard lately, and the link isn't full
+abbrev pub is_reached : ℕ → Link → Bool
+is_reached now e = is_heard e.heard now && not (is_full e)
+
+-- whether an idle pair's end may be asked for: the gateway isn't apart, and reaches the peer
 abbrev pub may_ask : ℕ → Book → Link → Bool
-may_ask now b e = not (is_apart b e now) && (is_heard e.heard now && not (is_full e))
+may_ask now b e = not (is_apart b e now) && is_reached now e
 
 -- the result of letting idle pairs go: a ledger, its end of the link, and the notes made
 pub record LetGo : Type 0 where

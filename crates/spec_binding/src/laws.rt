@@ -131,8 +131,8 @@ pub fn books_begin()
     ensures booted { (id : GatewayId) (zero one : PortBounds) (limit : Option ℕ)
         (alone boot capacity : ℕ)
         → box_at (empty_book id zero one limit alone) (fresh id boot capacity) [] 0 ≡ booted boot }
-    ensures founder { (zero one : PortBounds) (limit : Option ℕ) (capacity : ℕ) → AreBounds zero
-        → let b = founded_book zero one limit in let r = ranges_of b in
+    ensures founder { (zero one : PortBounds) (limit : Option ℕ) (alone capacity : ℕ) → AreBounds zero
+        → let b = founded_book zero one limit alone in let r = ranges_of b in
         box_at b (fresh Zero 1 capacity) [] 0 ≡ founder (λ p. r.in_ranges p && r.at_start p) }
 {}
 
