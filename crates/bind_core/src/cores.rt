@@ -21,7 +21,7 @@ ghost use Rattle.spec_binding.specs.WellFormed.{Fits};
 ghost use Rattle.spec_binding.specs.Rows.{is_takeable as is_takeable_in, proposed_row, install_row};
 ghost use Rattle.spec_binding.specs.Rows.{alone_row, told_row};
 ghost use Rattle.spec_binding.specs.Rows.{grant_row, want_row, none_row, synced_row, new_wish};
-ghost use Rattle.spec_binding.specs.Rows.{is_at_limit as is_at_limit_in, unknown_wish};
+ghost use Rattle.spec_binding.specs.Rows.{is_at_limit as is_at_limit_in};
 ghost use Rattle.spec_binding.specs.Rows.{wish_of, carry_row, noted_by, after, answered, is_full};
 ghost use Rattle.spec_binding.specs.Rows.{idle_row, row_of, unsynced_after, unsynced_what};
 ghost use Rattle.spec_binding.specs.Rows.{quiet as quiet_row, wish as wish_with};
@@ -55,8 +55,8 @@ use crate::grants::{choose_granted, higher, lower};
 use crate::loads::{loading_of, stage_after};
 use crate::resets::note_back;
 use crate::rows::{
-    accept, answering, ask, carry, ending, gives_way, is_lone, is_paired, is_synced, known, no, paired,
-    quiet, refuse, release, row, seek, taking, wish, yes,
+    accept, add_row, answering, ask, carry, ending, gives_way, is_lone, is_paired, is_synced, known,
+    no, paired, quiet, refuse, release, row, seek, taking, wish, yes,
 };
 use activity::{Packet, Remote, Way};
 use addresses::{Ip, Port, TcpFlags};
@@ -284,7 +284,7 @@ impl Core {
 
     // ---- wishes
 
-    fn no_port(&self, full: bool) -> Transition
+    pub(crate) fn no_port(&self, full: bool) -> Transition
         ensures { result ≡ none_row (book_of self.now) full }
     {
         if !is_lone(self.stage) && !self.wants && !full {
@@ -294,60 +294,26 @@ impl Core {
         }
     }
 
-    fn new_pair(&self, apart: bool, full: bool, pair: Pair) -> PortRequest
+    pub(crate) fn new_pair(&self, apart: bool, full: bool, pair: Pair) -> PortRequest
         ensures { result ≡ new_wish (book_of self.now) apart full pair.endpoint (Some
             pair.key.port) }
     {
         if is_lone(self.stage) {
-            let state = EntryState::Live;
-            let change = Change::Add(Entry { pair, state });
-            let row = row(change, None, Some(NoteKind::Retaken(pair)));
+            let what = Some(NoteKind::Retaken(pair));
+            let row = add_row(pair, EntryState::Live, None, what);
             return wish(Want::Port(pair.key.port), row);
         }
         paired(apart, full, pair)
     }
 
-    fn new_wish_for(
-        &self,
-        apart: bool,
-        full: bool,
-        endpoint: Endpoint,
-        port: Option<Port>,
-    ) -> PortRequest
-        ensures { result ≡ new_wish (book_of self.now) apart full endpoint port }
-    {
-        match port {
-            None => wish(Want::NoPort, self.no_port(full)),
-            Some(port) => {
-                let key = Key {
-                    protocol: endpoint.protocol,
-                    port,
-                };
-                self.new_pair(apart, full, Pair::new(key, endpoint.address, endpoint.port))
-            }
-        }
-    }
-
     /// Whether an inside address has as many pairs as it may have, or more: those of both gateways count.
-    fn is_at_limit(&self, address: Ip) -> bool
+    pub(crate) fn is_at_limit(&self, address: Ip) -> bool
         ensures { result ≡ is_at_limit_in (book_of self.now) address }
     {
         match self.limit {
             None => false,
             Some(limit) => u32::from(limit) <= self.table.pairs_of(address),
         }
-    }
-
-    /// Returns the answer and the row for an endpoint without a pair.
-    fn unknown_wish_for(&self, apart: bool, full: bool, endpoint: Endpoint) -> PortRequest
-        ensures { result ≡ unknown_wish (book_of self.now) apart full endpoint }
-    {
-        if self.is_at_limit(endpoint.address) {
-            return wish(Want::HostLimit, quiet());
-        }
-        let parity = endpoint.port.parity();
-        let port = self.table.free_like(endpoint.protocol, parity);
-        self.new_wish_for(apart, full, endpoint, port)
     }
 
     #[inline(always)]

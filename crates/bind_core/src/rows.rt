@@ -111,9 +111,9 @@ pub(crate) fn gives_way(id: GatewayId, state: EntryState) -> bool
 pub(crate) fn taking(pair: Pair) -> Transition
     ensures { result ≡ taking_row pair }
 {
-    let state = EntryState::Held;
-    row(
-        Change::Add(Entry { pair, state }),
+    add_row(
+        pair,
+        EntryState::Held,
         Some(Record::Accept(pair.key)),
         Some(NoteKind::Retaken(pair)),
     )
@@ -286,7 +286,13 @@ pub(crate) fn known(pair: Pair, state: EntryState) -> PortRequest
     wish(answer, quiet())
 }
 
-fn add_row(pair: Pair, state: EntryState, answer: Option<Record>, what: Option<NoteKind>) -> Transition
+/// Returns the row by which a pair is added in a state, answered and noted.
+pub(crate) fn add_row(
+    pair: Pair,
+    state: EntryState,
+    answer: Option<Record>,
+    what: Option<NoteKind>,
+) -> Transition
     ensures { result ≡ row_with (Add (entry_in state pair)) answer what }
 {
     row(Change::Add(Entry { pair, state }), answer, what)
