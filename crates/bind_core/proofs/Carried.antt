@@ -15,17 +15,23 @@ use Rattle.spec_binding.specs.Rows.{known_wish, quiet, wish, wish_by, wish_of}
 use Rattle.bind_core.specs.Cores.{is_carried, carries_pair}
 
 is-pair : (s : EntryState) → translates s ≡ true → is_pair s ≡ true
-is-pair Pending h = cc
+is-pair (Pending true) h = refl
+is-pair (Pending false) h = cc
 is-pair Doomed h = cc
 is-pair Live h = refl
-is-pair Closing h = cc
+is-pair (Closing true) h = refl
+is-pair (Closing false) h = cc
+is-pair Alone h = refl
 is-pair Held h = refl
 
 known-port : (p : Pair) (s : EntryState) → translates s ≡ true → known_wish p s ≡ wish (Port p.key.port) quiet
-known-port p Pending h = cc
+known-port p (Pending true) h = refl
+known-port p (Pending false) h = cc
 known-port p Doomed h = cc
 known-port p Live h = refl
-known-port p Closing h = cc
+known-port p (Closing true) h = refl
+known-port p (Closing false) h = cc
+known-port p Alone h = refl
 known-port p Held h = refl
 
 by-entry : (b : Book) (full : Bool) (p : Pair) (o : Option Entry) → HasDistinctEndpoints b.entries → slot_of b.entries p.key ≡ o → is_carried o p ≡ true → wish_by b full p.endpoint (entry_of b.entries p.endpoint) ≡ wish (Port p.key.port) quiet

@@ -28,10 +28,13 @@ use Rattle.spec_binding.specs.Ledgers.{may_ask, is_heard}
 use Rattle.bind_core.proofs.Performing.{taken-answer}
 
 known-steady : (b : Book) (p : Pair) (s : EntryState) → IsSteady b (known_wish p s).row.change
-known-steady b p state.Pending = tt
+known-steady b p (state.Pending true) = tt
+known-steady b p (state.Pending false) = tt
 known-steady b p state.Doomed = tt
 known-steady b p state.Live = tt
-known-steady b p state.Closing = tt
+known-steady b p (state.Closing true) = tt
+known-steady b p (state.Closing false) = tt
+known-steady b p state.Alone = tt
 known-steady b p state.Held = tt
 
 none-steady : (b : Book) (full : Bool) → IsSteady b (none_row b full).change
@@ -68,10 +71,13 @@ wish-steady b full e is promised = at (is_synced b.stage) (entry_of b.entries e)
 -- ---- nothing is pushed where the link is full
 
 known-mute : (p : Pair) (s : EntryState) → (known_wish p s).row.answer ≡ None
-known-mute p state.Pending = refl
+known-mute p (state.Pending true) = refl
+known-mute p (state.Pending false) = refl
 known-mute p state.Doomed = refl
 known-mute p state.Live = refl
-known-mute p state.Closing = refl
+known-mute p (state.Closing true) = refl
+known-mute p (state.Closing false) = refl
+known-mute p state.Alone = refl
 known-mute p state.Held = refl
 
 none-mute : (b : Book) → (none_row b true).answer ≡ None
@@ -117,11 +123,12 @@ wish-places b l e = at (is_full l) refl
 
 -- at a gateway that isn't lone, the row of an idle pair is steady
 released-steady : (b : Book) (ask : Bool) (x : Entry) (s : EntryState) → x.state ≡ s → slot_of b.entries x.pair.key ≡ Some x → IsSteady b (released_row false ask x.pair s).change
-released-steady b ask x state.Pending at found = tt
+released-steady b ask x (state.Pending m) at found = tt
 released-steady b ask x state.Doomed at found = tt
 released-steady b true x state.Live at found = (refl, λ y there. let one : Some x ≡ Some y = sym found ∙ there in let same : x ≡ y = cc in ap (λ (z : Entry). is_settled z.state) (sym same) ∙ ap is_settled at)
 released-steady b false x state.Live at found = tt
-released-steady b ask x state.Closing at found = tt
+released-steady b ask x (state.Closing m) at found = tt
+released-steady b ask x state.Alone at found = λ y there. let one : Some x ≡ Some y = sym found ∙ there in let same : x ≡ y = cc in ap (λ (z : Entry). is_settled z.state) (sym same) ∙ ap is_settled at
 released-steady b ask x state.Held at found = tt
 
 pub idle-steady : (b : Book) (ask : Bool) (k : Key) → IsBook b → is_promised b ≡ true → IsSteady b (idle_row b ask k).change
@@ -134,12 +141,13 @@ idle-steady b ask k is promised = at (is_synced b.stage) (is_lone b.stage) (lone
     at true false h (Some x) there = released-steady b ask x x.state refl (ap (slot_of b.entries) (slot-key b.entries k x there) ∙ there)
 
 released-adds : (lone ask : Bool) (p : Pair) (s : EntryState) → adds (released_row lone ask p s).change ≡ false
-released-adds lone ask p state.Pending = refl
+released-adds lone ask p (state.Pending m) = refl
 released-adds lone ask p state.Doomed = refl
 released-adds true ask p state.Live = refl
 released-adds false true p state.Live = refl
 released-adds false false p state.Live = refl
-released-adds lone ask p state.Closing = refl
+released-adds lone ask p (state.Closing m) = refl
+released-adds lone ask p state.Alone = refl
 released-adds true ask p state.Held = refl
 released-adds false ask p state.Held = refl
 
@@ -156,12 +164,13 @@ pub idle-ready : (b : Book) (ask : Bool) (k : Key) (ready : ℕ) → adds (idle_
 idle-ready b ask k ready h = let no = idle-adds b ask k in cc
 
 released-asks : (lone ask : Bool) (p : Pair) (s : EntryState) → is_some (released_row lone ask p s).answer ≡ true → ask ≡ true
-released-asks lone ask p state.Pending h = cc
+released-asks lone ask p (state.Pending m) h = cc
 released-asks lone ask p state.Doomed h = cc
 released-asks true ask p state.Live h = cc
 released-asks false true p state.Live h = refl
 released-asks false false p state.Live h = cc
-released-asks lone ask p state.Closing h = cc
+released-asks lone ask p (state.Closing m) h = cc
+released-asks lone ask p state.Alone h = cc
 released-asks true ask p state.Held h = cc
 released-asks false ask p state.Held h = cc
 

@@ -394,10 +394,13 @@ pub link-bare : (b : Book) (e : Link) → is_synced b.stage ≡ false → restar
 link-bare b e h = ap (λ (t : Bool). let x : Link = cond t (with_promised e (length (restart_batch b))) e in x) h
 
 used-quiet : (b : Book) (e : Link) (p : Pair) (s : EntryState) → (after b (used_row p s) ≡ b) × (answered e (used_row p s).answer ≡ e)
-used-quiet b e p state.Pending = (refl, refl)
+used-quiet b e p (state.Pending true) = (refl, refl)
+used-quiet b e p (state.Pending false) = (refl, refl)
 used-quiet b e p state.Doomed = (refl, refl)
 used-quiet b e p state.Live = (refl, refl)
-used-quiet b e p state.Closing = (refl, refl)
+used-quiet b e p (state.Closing true) = (refl, refl)
+used-quiet b e p (state.Closing false) = (refl, refl)
+used-quiet b e p state.Alone = (refl, refl)
 used-quiet b e p state.Held = (refl, refl)
 
 -- a packet changes nothing of the book, and nothing is pushed

@@ -299,10 +299,13 @@ know-carry since es ls u v k x p found live le more others w = record {
         (with_packet p a.0, (life_carried k.protocol p a.1.0, life-here (life_carried k.protocol p) k es ls a.1.0 a.1.1, agrees-carried k.protocol a.0 a.1.0 p a.1.2), accounts-more k.protocol since a.0 (u x.pair) p le a.2)
 
 translating-pair : (s : EntryState) → translates s ≡ true → (is_pair s ≡ true) × (translates (woken s) ≡ true)
-translating-pair state.Pending h = cc
+translating-pair (state.Pending true) h = (refl, refl)
+translating-pair (state.Pending false) h = cc
 translating-pair state.Doomed h = cc
 translating-pair state.Live h = (refl, refl)
-translating-pair state.Closing h = cc
+translating-pair (state.Closing true) h = (refl, refl)
+translating-pair (state.Closing false) h = cc
+translating-pair state.Alone h = (refl, refl)
 translating-pair state.Held h = (refl, refl)
 
 -- entries whose pairs are revived know of the same uses

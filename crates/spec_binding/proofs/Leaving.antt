@@ -57,31 +57,38 @@ change-leaves b (Gain g) =
 -- ---- answers
 
 accepted-mute : (p : Pair) (x : EntryState) → (accepted_row p x).answer ≡ None
-accepted-mute p state.Pending = refl
+accepted-mute p (state.Pending true) = refl
+accepted-mute p (state.Pending false) = refl
 accepted-mute p state.Doomed = refl
 accepted-mute p state.Live = refl
-accepted-mute p state.Closing = refl
+accepted-mute p (state.Closing m) = refl
+accepted-mute p state.Alone = refl
 accepted-mute p state.Held = refl
 
 refused-mute : (p : Pair) (x : EntryState) → (refused_row p x).answer ≡ None
-refused-mute p state.Pending = refl
+refused-mute p (state.Pending true) = refl
+refused-mute p (state.Pending false) = refl
 refused-mute p state.Doomed = refl
 refused-mute p state.Live = refl
-refused-mute p state.Closing = refl
+refused-mute p (state.Closing m) = refl
+refused-mute p state.Alone = refl
 refused-mute p state.Held = refl
 
 left-mute : (p : Pair) (x : EntryState) → (left_row p x).answer ≡ None
-left-mute p state.Pending = refl
+left-mute p (state.Pending m) = refl
 left-mute p state.Doomed = refl
 left-mute p state.Live = refl
-left-mute p state.Closing = refl
+left-mute p (state.Closing true) = refl
+left-mute p (state.Closing false) = refl
+left-mute p state.Alone = refl
 left-mute p state.Held = refl
 
 stayed-mute : (p : Pair) (x : EntryState) → (stayed_row p x).answer ≡ None
-stayed-mute p state.Pending = refl
+stayed-mute p (state.Pending m) = refl
 stayed-mute p state.Doomed = refl
 stayed-mute p state.Live = refl
-stayed-mute p state.Closing = refl
+stayed-mute p (state.Closing m) = refl
+stayed-mute p state.Alone = refl
 stayed-mute p state.Held = refl
 
 accept-mute : (o : Option Entry) → (accept_row o).answer ≡ None
@@ -210,10 +217,13 @@ turn-settled k s (y ∷ ys) x new d found old = at (has_key k y) refl (λ more. 
 
 module _ (b : Book) where
   known-stays : (p : Pair) (s : EntryState) → IsSameBatch b (after b (known_wish p s).row)
-  known-stays p state.Pending = same-batch b
+  known-stays p (state.Pending true) = same-batch b
+  known-stays p (state.Pending false) = same-batch b
   known-stays p state.Doomed = same-batch b
   known-stays p state.Live = same-batch b
-  known-stays p state.Closing = same-batch b
+  known-stays p (state.Closing true) = same-batch b
+  known-stays p (state.Closing false) = same-batch b
+  known-stays p state.Alone = same-batch b
   known-stays p state.Held = same-batch b
 
   none-stays : (full : Bool) → IsSameBatch b (after b (none_row b full))
@@ -245,12 +255,13 @@ module _ (b : Book) where
       at false o = same-batch b
 
   released-stays : IsBook b → (lone ask : Bool) → lone ≡ false → (x : Entry) (s : EntryState) → x.state ≡ s → slot_of b.entries x.pair.key ≡ Some x → IsSameBatch b (after b (released_row lone ask x.pair s))
-  released-stays is lone ask off x state.Pending same found = same-batch b
+  released-stays is lone ask off x (state.Pending m) same found = same-batch b
   released-stays is lone ask off x state.Doomed same found = same-batch b
   released-stays is true ask off x state.Live same found = cc
   released-stays is false true off x state.Live same found = record { pairs = turn-settled x.pair.key state.Closing b.entries x refl is.keys found (ap is_settled same); owned = refl }
   released-stays is false false off x state.Live same found = same-batch b
-  released-stays is lone ask off x state.Closing same found = same-batch b
+  released-stays is lone ask off x (state.Closing m) same found = same-batch b
+  released-stays is lone ask off x state.Alone same found = record { pairs = drop-unsettled x.pair.key b.entries x is.keys found (ap is_settled same); owned = refl }
   released-stays is true ask off x state.Held same found = cc
   released-stays is false ask off x state.Held same found = same-batch b
 
@@ -263,10 +274,13 @@ module _ (b : Book) where
       at false o found = same-batch b
 
   used-stays : (p : Pair) (s : EntryState) → IsSameBatch b (after b (used_row p s))
-  used-stays p state.Pending = same-batch b
+  used-stays p (state.Pending true) = same-batch b
+  used-stays p (state.Pending false) = same-batch b
   used-stays p state.Doomed = same-batch b
   used-stays p state.Live = same-batch b
-  used-stays p state.Closing = same-batch b
+  used-stays p (state.Closing true) = same-batch b
+  used-stays p (state.Closing false) = same-batch b
+  used-stays p state.Alone = same-batch b
   used-stays p state.Held = same-batch b
 
   pub carry-stays : (k : Key) → IsSameBatch b (after b (carry_row b k))

@@ -176,10 +176,13 @@ module _ (l : Ledger) (h : List Note) (k : Key) (p : Packet) (a : Accounts p.at 
   }
 
   used-by : (x : Entry) (s : EntryState) → x.state ≡ s → is_synced l.book.stage ≡ true → slot_of l.book.entries k ≡ Some x → Carried (used_row x.pair s)
-  used-by x state.Pending at synced found = a
+  used-by x (state.Pending true) at synced found = used x synced found (ap translates at)
+  used-by x (state.Pending false) at synced found = a
   used-by x state.Doomed at synced found = a
   used-by x state.Live at synced found = used x synced found (ap translates at)
-  used-by x state.Closing at synced found = a
+  used-by x (state.Closing true) at synced found = used x synced found (ap translates at)
+  used-by x (state.Closing false) at synced found = a
+  used-by x state.Alone at synced found = used x synced found (ap translates at)
   used-by x state.Held at synced found = used x synced found (ap translates at)
 
   pub carried-accounts : Accounts p.at (carried_ledger k p l) (reverse (noted_by l.book.id p.at (carry_row l.book k).what) ++ h)
@@ -232,12 +235,13 @@ dropped-was b k q y there = elim (cases_Bool (same_key k q)) [
 ]
 
 released-was : (b : Book) (lone ask : Bool) (x : Entry) (s : EntryState) (q : Key) (y : Entry) → slot_of (changed (released_row lone ask x.pair s).change b).entries q ≡ Some y → WasAt b.entries q y
-released-was b lone ask x state.Pending q y there = record { entry = y; found = there; pair = refl }
+released-was b lone ask x (state.Pending m) q y there = record { entry = y; found = there; pair = refl }
 released-was b lone ask x state.Doomed q y there = record { entry = y; found = there; pair = refl }
 released-was b true ask x state.Live q y there = dropped-was b x.pair.key q y there
 released-was b false true x state.Live q y there = was-at b.entries x.pair.key state.Closing q y there
 released-was b false false x state.Live q y there = record { entry = y; found = there; pair = refl }
-released-was b lone ask x state.Closing q y there = record { entry = y; found = there; pair = refl }
+released-was b lone ask x (state.Closing m) q y there = record { entry = y; found = there; pair = refl }
+released-was b lone ask x state.Alone q y there = dropped-was b x.pair.key q y there
 released-was b true ask x state.Held q y there = dropped-was b x.pair.key q y there
 released-was b false ask x state.Held q y there = record { entry = y; found = there; pair = refl }
 
@@ -251,12 +255,13 @@ idle-was b ask k q y = at (is_synced b.stage) (slot_of b.entries k)
 
 -- a release adds no use
 released-uses : (lone ask : Bool) (x : Pair) (s : EntryState) (g i : GatewayId) (now : ℕ) (h : List Note) (p : Pair) → uses_of g (reverse (noted_by i now (released_row lone ask x s).what) ++ h) p ≡ uses_of g h p
-released-uses lone ask x state.Pending g i now h p = refl
+released-uses lone ask x (state.Pending m) g i now h p = refl
 released-uses lone ask x state.Doomed g i now h p = refl
 released-uses true ask x state.Live g i now h p = refl
 released-uses false true x state.Live g i now h p = refl
 released-uses false false x state.Live g i now h p = refl
-released-uses lone ask x state.Closing g i now h p = refl
+released-uses lone ask x (state.Closing m) g i now h p = refl
+released-uses lone ask x state.Alone g i now h p = refl
 released-uses true ask x state.Held g i now h p = refl
 released-uses false ask x state.Held g i now h p = refl
 

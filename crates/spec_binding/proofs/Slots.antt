@@ -48,17 +48,19 @@ pub keys-revived : (es : List Entry) → HasDistinctKeys es → HasDistinctKeys 
 keys-revived es d = keys-map woken_entry (filter (λ e. is_pair e.state) es) (λ x. refl) (keys-filter (λ e. is_pair e.state) es d)
 
 woken-slot : (s : EntryState) (e : Endpoint) → is_pair s ≡ true → slot_in (woken s) e ≡ revived (slot_in s e)
-woken-slot state.Pending e h = refl
+woken-slot (state.Pending m) e h = refl
 woken-slot state.Doomed e h = cc
 woken-slot state.Live e h = refl
-woken-slot state.Closing e h = refl
+woken-slot (state.Closing m) e h = refl
+woken-slot state.Alone e h = refl
 woken-slot state.Held e h = refl
 
 gone-slot : (s : EntryState) (e : Endpoint) → is_pair s ≡ false → revived (slot_in s e) ≡ machine.Free
-gone-slot state.Pending e h = cc
+gone-slot (state.Pending m) e h = cc
 gone-slot state.Doomed e h = refl
 gone-slot state.Live e h = cc
-gone-slot state.Closing e h = cc
+gone-slot (state.Closing m) e h = cc
+gone-slot state.Alone e h = cc
 gone-slot state.Held e h = cc
 
 pub slots-revived : (es : List Entry) (q : Key) → HasDistinctKeys es → slots_of (revived_entries es) q ≡ revived (slots_of es q)
@@ -104,17 +106,19 @@ was-there (x ∷ xs) q y d h = at (is_pair x.state) (same_key x.pair.key q) refl
 
 -- a slot holds an endpoint exactly where its state is one of a pair
 pub state-held : (s : EntryState) (e x : Endpoint) → machine.held (slot_in s e) ≡ Some x → (is_pair s ≡ true) × (e ≡ x)
-state-held state.Pending e x t = (refl, cc)
+state-held (state.Pending m) e x t = (refl, cc)
 state-held state.Doomed e x t = cc
 state-held state.Live e x t = (refl, cc)
-state-held state.Closing e x t = (refl, cc)
+state-held (state.Closing m) e x t = (refl, cc)
+state-held state.Alone e x t = (refl, cc)
 state-held state.Held e x t = (refl, cc)
 
 pub held-state : (s : EntryState) (e : Endpoint) → is_pair s ≡ true → machine.held (slot_in s e) ≡ Some e
-held-state state.Pending e t = refl
+held-state (state.Pending m) e t = refl
 held-state state.Doomed e t = cc
 held-state state.Live e t = refl
-held-state state.Closing e t = refl
+held-state (state.Closing m) e t = refl
+held-state state.Alone e t = refl
 held-state state.Held e t = refl
 
 -- where no other key serves the endpoint that a key now serves, no two keys serve one endpoint

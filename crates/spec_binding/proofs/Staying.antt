@@ -71,42 +71,47 @@ module _ (now : ℕ) (l : Ledger) (h : List Note) (is : IsBook l.book) (a : Acco
   gone-uses x found off = know-drop now l.book.entries l.lives (uses_of l.book.id h) x.pair.key x is.keys found (λ t. absurd (both_ways (translates x.state) off t)) a.uses
 
   accepted-stays : (x : Entry) (s : EntryState) → x.state ≡ s → slot_of l.book.entries x.pair.key ≡ Some x → Stays now l h (accepted_row x.pair s)
-  accepted-stays x state.Pending at found = record {
+  accepted-stays x (state.Pending m) at found = record {
     uses = noted-retaken (with_state x.pair.key state.Live l.book.entries) l.lives x.pair (know-turn now l.book.entries l.lives (uses_of l.book.id h) x.pair.key x state.Live found (λ t stops. absurd (cc)) a.uses);
     idle = (tt, a.idle);
   }
   accepted-stays x state.Doomed at found = stays-quiet now l h a
   accepted-stays x state.Live at found = stays-quiet now l h a
-  accepted-stays x state.Closing at found = stays-quiet now l h a
+  accepted-stays x (state.Closing m) at found = stays-quiet now l h a
+  accepted-stays x state.Alone at found = stays-quiet now l h a
   accepted-stays x state.Held at found = stays-quiet now l h a
 
   refused-stays : (x : Entry) (s : EntryState) → x.state ≡ s → slot_of l.book.entries x.pair.key ≡ Some x → Stays now l h (refused_row x.pair s)
-  refused-stays x state.Pending at found = record { uses = gone-uses x found (ap translates at); idle = a.idle }
+  refused-stays x (state.Pending m) at found = record { uses = gone-uses x found (ap translates at); idle = a.idle }
   refused-stays x state.Doomed at found = record { uses = gone-uses x found (ap translates at); idle = a.idle }
   refused-stays x state.Live at found = stays-quiet now l h a
-  refused-stays x state.Closing at found = stays-quiet now l h a
+  refused-stays x (state.Closing m) at found = stays-quiet now l h a
+  refused-stays x state.Alone at found = stays-quiet now l h a
   refused-stays x state.Held at found = stays-quiet now l h a
 
   asked-stays : (x : Entry) (rests : Bool) (s : EntryState) → x.state ≡ s → slot_of l.book.entries x.pair.key ≡ Some x → (rests ≡ true → HaveRested (least_rest x.pair.key.protocol) now (uses_of l.book.id h x.pair)) → Stays now l h (asked_row x.pair rests s)
-  asked-stays x rests state.Pending at found rested = record { uses = a.uses; idle = a.idle }
+  asked-stays x rests (state.Pending m) at found rested = record { uses = a.uses; idle = a.idle }
   asked-stays x rests state.Doomed at found rested = record { uses = a.uses; idle = a.idle }
   asked-stays x rests state.Live at found rested = record { uses = a.uses; idle = a.idle }
-  asked-stays x rests state.Closing at found rested = record { uses = a.uses; idle = a.idle }
+  asked-stays x rests (state.Closing m) at found rested = record { uses = a.uses; idle = a.idle }
+  asked-stays x rests state.Alone at found rested = record { uses = a.uses; idle = a.idle }
   asked-stays x true state.Held at found rested = dropped-stays x found (rested refl) (Some (rec.Yes x.pair.key))
   asked-stays x false state.Held at found rested = record { uses = a.uses; idle = a.idle }
 
   left-stays : (x : Entry) (s : EntryState) → x.state ≡ s → slot_of l.book.entries x.pair.key ≡ Some x → Stays now l h (left_row x.pair s)
-  left-stays x state.Pending at found = stays-quiet now l h a
+  left-stays x (state.Pending m) at found = stays-quiet now l h a
   left-stays x state.Doomed at found = stays-quiet now l h a
   left-stays x state.Live at found = stays-quiet now l h a
-  left-stays x state.Closing at found = record { uses = gone-uses x found (ap translates at); idle = a.idle }
+  left-stays x (state.Closing m) at found = record { uses = gone-uses x found (ap translates at); idle = a.idle }
+  left-stays x state.Alone at found = stays-quiet now l h a
   left-stays x state.Held at found = stays-quiet now l h a
 
   stayed-stays : (x : Entry) (s : EntryState) → x.state ≡ s → slot_of l.book.entries x.pair.key ≡ Some x → Stays now l h (stayed_row x.pair s)
-  stayed-stays x state.Pending at found = stays-quiet now l h a
+  stayed-stays x (state.Pending m) at found = stays-quiet now l h a
   stayed-stays x state.Doomed at found = stays-quiet now l h a
   stayed-stays x state.Live at found = stays-quiet now l h a
-  stayed-stays x state.Closing at found =
+  stayed-stays x (state.Closing m) at found =
+  stayed-stays x state.Alone at found = stays-quiet now l h a
       let relived = lives_with (life_renewed now) x.pair.key l.book.entries l.lives in
       let anew : KnowUses now l.book.entries relived (uses_of l.book.id h) = know-renew now l.book.entries l.lives (uses_of l.book.id h) x.pair.key x found (rested-still now l h x a found (ap translates at)) a.uses in
       record {
@@ -224,7 +229,7 @@ module _ (now : ℕ) (l : Ledger) (h : List Note) (is : IsBook l.book) (a : Acco
   -- ---- idle pairs
 
   released-stays : (lone ask : Bool) (x : Entry) (s : EntryState) → x.state ≡ s → slot_of l.book.entries x.pair.key ≡ Some x → HaveRested (least_rest x.pair.key.protocol) now (uses_of l.book.id h x.pair) → Stays now l h (released_row lone ask x.pair s)
-  released-stays lone ask x state.Pending at found rested = stays-quiet now l h a
+  released-stays lone ask x (state.Pending m) at found rested = stays-quiet now l h a
   released-stays lone ask x state.Doomed at found rested = stays-quiet now l h a
   released-stays true ask x state.Live at found rested = dropped-stays x found rested None
   released-stays false true x state.Live at found rested = record {
@@ -232,7 +237,8 @@ module _ (now : ℕ) (l : Ledger) (h : List Note) (is : IsBook l.book) (a : Acco
     idle = released-idle x.pair rested;
   }
   released-stays false false x state.Live at found rested = stays-quiet now l h a
-  released-stays lone ask x state.Closing at found rested = stays-quiet now l h a
+  released-stays lone ask x (state.Closing m) at found rested = stays-quiet now l h a
+  released-stays lone ask x state.Alone at found rested = dropped-stays x found rested None
   released-stays true ask x state.Held at found rested = dropped-stays x found rested None
   released-stays false ask x state.Held at found rested = stays-quiet now l h a
 
@@ -249,10 +255,13 @@ module _ (now : ℕ) (l : Ledger) (h : List Note) (is : IsBook l.book) (a : Acco
   -- ---- wishes
 
   known-stays : (p : Pair) (s : EntryState) → Stays now l h (known_wish p s).row
-  known-stays p state.Pending = stays-quiet now l h a
+  known-stays p (state.Pending true) = stays-quiet now l h a
+  known-stays p (state.Pending false) = stays-quiet now l h a
   known-stays p state.Doomed = stays-quiet now l h a
   known-stays p state.Live = stays-quiet now l h a
-  known-stays p state.Closing = stays-quiet now l h a
+  known-stays p (state.Closing true) = stays-quiet now l h a
+  known-stays p (state.Closing false) = stays-quiet now l h a
+  known-stays p state.Alone = stays-quiet now l h a
   known-stays p state.Held = stays-quiet now l h a
 
   new-stays : (full : Bool) (e : Endpoint) (o : Option Port) → port_for l.book e ≡ o → Stays now l h (new_wish l.book full e o).row

@@ -176,39 +176,47 @@ held-settled h = let bad : is_pending state.Held ≡ is_pending state.Pending = 
 
 module _ (b : Book) (is : IsBook b) where
   accepted-ends : (x : Entry) (s : EntryState) → x.state ≡ s → slot_of b.entries x.pair.key ≡ Some x → Ends b (accepted_row x.pair s)
-  accepted-ends x state.Pending at found = lost-ends b (accepted_row x.pair state.Pending) x.pair.key x is refl at (turned b.entries x.pair.key x state.Live found live-settled)
+  accepted-ends x (state.Pending true) at found = lost-ends b (accepted_row x.pair (state.Pending true)) x.pair.key x is refl at (turned b.entries x.pair.key x state.Live found live-settled)
+  accepted-ends x (state.Pending false) at found = lost-ends b (accepted_row x.pair (state.Pending false)) x.pair.key x is refl at (turned b.entries x.pair.key x state.Live found live-settled)
   accepted-ends x state.Doomed at found = quiet-ends b
   accepted-ends x state.Live at found = quiet-ends b
-  accepted-ends x state.Closing at found = quiet-ends b
+  accepted-ends x (state.Closing m) at found = quiet-ends b
+  accepted-ends x state.Alone at found = quiet-ends b
   accepted-ends x state.Held at found = quiet-ends b
 
   refused-ends : (x : Entry) (s : EntryState) → x.state ≡ s → slot_of b.entries x.pair.key ≡ Some x → Ends b (refused_row x.pair s)
-  refused-ends x state.Pending at found = lost-ends b (refused_row x.pair state.Pending) x.pair.key x is refl at (dropped b.entries x.pair.key x found)
+  refused-ends x (state.Pending true) at found = lost-ends b (refused_row x.pair (state.Pending true)) x.pair.key x is refl at (dropped b.entries x.pair.key x found)
+  refused-ends x (state.Pending false) at found = lost-ends b (refused_row x.pair (state.Pending false)) x.pair.key x is refl at (dropped b.entries x.pair.key x found)
   refused-ends x state.Doomed at found = other-ends b (refused_row x.pair state.Doomed) x.pair.key x refl (λ h. doomed-settled (sym at ∙ h)) (dropped b.entries x.pair.key x found)
   refused-ends x state.Live at found = quiet-ends b
-  refused-ends x state.Closing at found = quiet-ends b
+  refused-ends x (state.Closing m) at found = quiet-ends b
+  refused-ends x state.Alone at found = quiet-ends b
   refused-ends x state.Held at found = quiet-ends b
 
   asked-ends : (x : Entry) (rests : Bool) (s : EntryState) → x.state ≡ s → slot_of b.entries x.pair.key ≡ Some x → Ends b (asked_row x.pair rests s)
-  asked-ends x rests state.Pending at found = kept-ends b (asked_row x.pair rests state.Pending) refl refl
+  asked-ends x rests (state.Pending m) at found = kept-ends b (asked_row x.pair rests (state.Pending m)) refl refl
   asked-ends x rests state.Doomed at found = kept-ends b (asked_row x.pair rests state.Doomed) refl refl
   asked-ends x rests state.Live at found = kept-ends b (asked_row x.pair rests state.Live) refl refl
-  asked-ends x rests state.Closing at found = kept-ends b (asked_row x.pair rests state.Closing) refl refl
+  asked-ends x rests (state.Closing m) at found = kept-ends b (asked_row x.pair rests (state.Closing m)) refl refl
+  asked-ends x rests state.Alone at found = kept-ends b (asked_row x.pair rests state.Alone) refl refl
   asked-ends x true state.Held at found = other-ends b (asked_row x.pair true state.Held) x.pair.key x refl (λ h. held-settled (sym at ∙ h)) (dropped b.entries x.pair.key x found)
   asked-ends x false state.Held at found = kept-ends b (asked_row x.pair false state.Held) refl refl
 
   left-ends : (x : Entry) (s : EntryState) → x.state ≡ s → slot_of b.entries x.pair.key ≡ Some x → Ends b (left_row x.pair s)
-  left-ends x state.Pending at found = quiet-ends b
+  left-ends x (state.Pending m) at found = quiet-ends b
   left-ends x state.Doomed at found = quiet-ends b
   left-ends x state.Live at found = quiet-ends b
-  left-ends x state.Closing at found = other-ends b (left_row x.pair state.Closing) x.pair.key x refl (λ h. closing-settled (sym at ∙ h)) (dropped b.entries x.pair.key x found)
+  left-ends x (state.Closing true) at found = other-ends b (left_row x.pair (state.Closing true)) x.pair.key x refl (λ h. closing-settled (sym at ∙ h)) (dropped b.entries x.pair.key x found)
+  left-ends x (state.Closing false) at found = other-ends b (left_row x.pair (state.Closing false)) x.pair.key x refl (λ h. closing-settled (sym at ∙ h)) (dropped b.entries x.pair.key x found)
+  left-ends x state.Alone at found = quiet-ends b
   left-ends x state.Held at found = quiet-ends b
 
   stayed-ends : (x : Entry) (s : EntryState) → x.state ≡ s → slot_of b.entries x.pair.key ≡ Some x → Ends b (stayed_row x.pair s)
-  stayed-ends x state.Pending at found = quiet-ends b
+  stayed-ends x (state.Pending m) at found = quiet-ends b
   stayed-ends x state.Doomed at found = quiet-ends b
   stayed-ends x state.Live at found = quiet-ends b
-  stayed-ends x state.Closing at found = other-ends b (stayed_row x.pair state.Closing) x.pair.key x refl (λ h. closing-settled (sym at ∙ h)) (turned b.entries x.pair.key x state.Live found live-settled)
+  stayed-ends x (state.Closing m) at found = other-ends b (stayed_row x.pair (state.Closing m)) x.pair.key x refl (λ h. closing-settled (sym at ∙ h)) (turned b.entries x.pair.key x state.Live found live-settled)
+  stayed-ends x state.Alone at found = quiet-ends b
   stayed-ends x state.Held at found = quiet-ends b
 
   ways : (i : GatewayId) (s : EntryState) → gives_way i s ≡ true → s ≡ state.Pending
