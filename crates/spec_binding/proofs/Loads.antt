@@ -17,10 +17,10 @@ use Rattle.bindings.specs.declared.entries.Entry.{Entry}
 use Rattle.bindings.specs.declared.entries.PortBounds.{PortBounds}
 use Rattle.bindings.specs.Entries.{slot_of, entry_of, entry_in}
 use Rattle.bindings.specs.Ports.{in_either}
-use Rattle.bindings.proofs.Offered.{none_from_is_none, entry-serves, found-slot, listed-all, listed-filter}
+use Rattle.bindings.proofs.Offered.{none_from_is_none, entry-serves, entry-slot, listed-all, listed-filter}
 use Rattle.port_range.specs.Ports.{is_listed, is_within}
 use Rattle.link.specs.Link.{Link}
-use Rattle.resync.specs.Loading.{Load, all_in, is_new, loaded_state, names_run, none_yet, with_pair, with_run}
+use Rattle.resync.specs.Loading.{Load, all_in, is_beside, is_new, loaded_state, names_run, none_yet, with_pair, with_run}
 use Rattle.spec_pair.specs.Acts.{LoadBegin, LoadOwner, LoadPut, LoadDone, LoadSkip, IsMisplaced}
 use Rattle.spec_pair.specs.Box.{Letter}
 use Rattle.spec_pair.specs.Mapped.{machine_record, slot_in}
@@ -45,7 +45,7 @@ none-of c e is new = at (entry_of c.entries e) refl
     at None h = refl
     at (Some x) h =
         let serving = entry-serves c.entries e x h in
-        absurd (new x.pair.key (ap machine.held (slots-at c.entries x.pair.key x (found-slot _ c.entries x is.keys h)) ∙ held-state x.state x.pair.endpoint serving.0 ∙ ap Some serving.1))
+        absurd (new x.pair.key (ap machine.held (slots-at c.entries x.pair.key x (entry-slot c.entries e x is.keys h)) ∙ held-state x.state x.pair.endpoint serving.0 ∙ ap Some serving.1))
 
 -- a pair that is put is on a port of the ranges, and new
 pub record IsFresh (l : Load) (p : Pair) : Type 0 where
@@ -58,6 +58,19 @@ is-fresh l p g =
     let parts = and_parts (in_either l.zero l.one p.key.port.0) (is_none (slot_of l.entries p.key) && is_none (entry_of l.entries p.endpoint)) g in
     let more = and_parts (is_none (slot_of l.entries p.key)) (is_none (entry_of l.entries p.endpoint)) parts.1 in
     record { inside = parts.0; key = none_from_is_none (slot_of l.entries p.key) more.0; endpoint = none_from_is_none (entry_of l.entries p.endpoint) more.1 }
+
+-- a pair that is told is on a port of the ranges, new in key, and its endpoint has no pair on its side
+pub record IsApart (l : Load) (p : Pair) : Type 0 where
+  pub inside : in_either l.zero l.one p.key.port.0 ≡ true
+  pub key : slot_of l.entries p.key ≡ None
+  pub endpoint : is_taken (rank_of (loaded_state l.owned p.key.port.0)) l.entries p.endpoint ≡ false
+
+pub is-apart : (l : Load) (p : Pair) → is_beside l p ≡ true → IsApart l p
+is-apart l p g =
+    let taken = is_taken (rank_of (loaded_state l.owned p.key.port.0)) l.entries p.endpoint in
+    let parts = and_parts (in_either l.zero l.one p.key.port.0) (is_none (slot_of l.entries p.key) && not taken) g in
+    let more = and_parts (is_none (slot_of l.entries p.key)) (not taken) parts.1 in
+    record { inside = parts.0; key = none_from_is_none (slot_of l.entries p.key) more.0; endpoint = not-true taken more.1 }
 
 -- ---- an Owner in its place, or out of it
 
