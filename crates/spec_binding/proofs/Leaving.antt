@@ -1,5 +1,5 @@
 -- What rows leave as it is.
-use Rattle.std.proofs.Common.{◌≡◌, ℕ, suc, ◌+◌, ◌≤◌, ◌==◌, Bool, true, false, cond, nat_lt, Option, Some, None, List, [], ◌∷◌, length, map, refl, sym, ap, ◌∙◌, arith}
+use Rattle.std.proofs.Common.{◌≡◌, ℕ, suc, ◌+◌, ◌≤◌, ◌==◌, Bool, true, false, cond, not, nat_lt, Option, Some, None, List, [], ◌∷◌, length, map, refl, sym, ap, ◌∙◌, arith}
 use Rattle.std.specs.List.{filter}
 use Rattle.std.proofs.lemmas.Bool.{cond-true, cond-false}
 use Rattle.std.proofs.lemmas.List.{length-map}
@@ -16,7 +16,7 @@ use Rattle.addresses.specs.declared.transport.Port.{Port}
 use Rattle.bindings.specs.declared.entries.Entry.{Entry}
 use Rattle.bindings.specs.declared.entries.PortBounds.{PortBounds}
 use Rattle.bindings.specs.Entries.{slot_of, entry_of, entry_in, has_key, is_pair, pairs_in, place_of, HasDistinctKeys}
-use Rattle.bindings.specs.Lists.{put_in, with_state}
+use Rattle.bindings.specs.Lists.{put_in, with_state, without}
 use Rattle.bindings.specs.Runs.{runs_on, run_of, runs_of}
 use Rattle.bindings.proofs.Offered.{length-keep, turn-none, rest-none}
 use Rattle.link.specs.Link.{needs_answer}
