@@ -21,9 +21,12 @@ go_on-requires c =
     let keys = ap (λ (k : Core). length k.idle) c.list_sought.ensures in
     let len = c.loop-i.invariant.len in
     let capacity = c.loop-i.invariant.capacity in
-    let reserved = c.requires in
     let before = c.loop-i-test.true in
-    record { reserved = omega (arith, few, end, keys, len, capacity, reserved, before) }
+    record { reserved = at c.is_apart-apart.result refl few end keys len capacity before }
+  where
+    at : (b : Bool) → c.is_apart-apart.result ≡ b → length (sought_keys c.is_apart-apart.result c.args.self.now.table.entries) ≤ length c.args.self.now.table.entries → _
+    at true apart few end keys len capacity before = let reserved = c.requires.marks (sym c.is_apart-apart.ensures ∙ apart) in omega (arith, few, end, keys, len, capacity, reserved, before)
+    at false together few end keys len capacity before = let reserved = c.requires.reserved in let still = c.loop-i.invariant.still together in omega (arith, still, capacity, reserved)
 
 pub loop-i-preserved : goal.loop-i-preserved
 loop-i-preserved c =

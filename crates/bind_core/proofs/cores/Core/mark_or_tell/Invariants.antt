@@ -1,4 +1,4 @@
-use Rattle.std.proofs.Common.{◌≡◌, ◌+◌, ◌≤◌, ◌++◌, drop, vec_len, vec_capacity}
+use Rattle.std.proofs.Common.{◌≡◌, ◌+◌, ◌≤◌, ◌++◌, drop, false, vec_len, vec_capacity}
 use Rattle.spec_binding.specs.Ledgers.{go_on_all, sought_keys}
 use Rattle.bind_core.specs.Cores.{ledger_of}
 use Rattle.bind_core.proofs.cores.Core.mark_or_tell.Given as goal
@@ -11,6 +11,7 @@ pub record SoFar (l : goal.Live-loop-i) : Type 0 where
   pub ready : l.self.table.ready ≡ l.fn.self.table.ready
   pub idle : l.self.idle ≡ sought_keys l.apart l.fn.self.table.entries
   pub len : vec_len l.notes ≤ vec_len l.fn.notes + l.i
+  pub still : l.apart ≡ false → vec_len l.notes ≤ vec_len l.fn.notes
   pub capacity : vec_capacity l.notes ≡ vec_capacity l.fn.notes
 
 abbrev pub invariant-loop-i : goal.invariant-loop-i
