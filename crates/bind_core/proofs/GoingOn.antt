@@ -96,3 +96,14 @@ went-works laws apart now (k ∷ ks) l e n h stands =
     let first : Works now [] [] l.book e n l2.book e2 n (noted_by l.book.id now row.what) h = laws.alone now l.book e n h apart (is_full e) k stands in
     laws.join now [] [] l.book l2.book (go_on_all apart now ks l2 e2).ledger.book e e2 (go_on_all apart now ks l2 e2).link n n n (noted_by l.book.id now row.what) (go_on_all apart now ks l2 e2).notes h first
     (went-works laws apart now ks l2 e2 n first.history first.agrees)
+
+-- ---- notes
+
+-- a mark notes once, and a Tell not at all
+pub one-at-most : (b : Bool) (n m k : ℕ) → n ≤ m + cond b 1 0 → m ≤ k → n ≤ k + 1
+one-at-most true n m k h g = omega (arith, h, g)
+one-at-most false n m k h g = omega (arith, h, g)
+
+pub no-more : (b : Bool) (n m : ℕ) → b ≡ false → n ≤ m + cond b 1 0 → n ≤ m
+no-more true n m off h = cc
+no-more false n m off h = omega (arith, h)

@@ -1,9 +1,12 @@
-use Rattle.std.proofs.Common.{◌≡◌, ◌≤◌, ◌++◌, [], Some, slice_get, length, refl, sym, ap, ◌∙◌, arith}
+use Rattle.std.proofs.Common.{◌≡◌, ◌≤◌, Bool, true, false, ◌++◌, [], Some, slice_get, length, refl, sym, ap, ◌∙◌, arith}
 use Rattle.std.proofs.lemmas.List.{append-nil}
 use Rattle.spec_binding.specs.Ledgers.{Ledger, LetGo, go_on_all, sought_keys}
+use Rattle.std.proofs.lemmas.Bool.{and_parts}
+use Rattle.bindings.specs.Entries.{slot_of}
+use Rattle.spec_binding.specs.Books.{is_paired}
 use Rattle.bind_core.specs.Cores.{Core, book_of, ledger_of}
 use Rattle.bind_core.proofs.Performing.{works-as}
-use Rattle.bind_core.proofs.GoingOn.{few-sought, one-more-at, gone, AloneLaws, went-works}
+use Rattle.bind_core.proofs.GoingOn.{few-sought, no-more, one-at-most, one-more-at, gone, AloneLaws, went-works}
 use Rattle.bind_core.proofs.cores.Core.mark_or_tell.Goals as goal
 
 pub returns-clause-len : goal.returns-clause-len
@@ -42,7 +45,8 @@ loop-i-preserved c =
       notes = sym more.notes ∙ c.loop-i.invariant.notes;
       ready = c.go_on.ensures.ready ∙ c.loop-i.invariant.ready;
       idle = c.go_on.ensures.idle ∙ c.loop-i.invariant.idle;
-      len = omega (arith, len, longer);
+      len = (let one = one-at-most c.is_apart-apart.result _ _ _ longer len in omega (arith, one));
+      still = λ together. let none = no-more c.is_apart-apart.result _ _ together longer in let before = c.loop-i.invariant.still together in omega (arith, none, before);
       capacity = c.go_on.ensures.capacity ∙ c.loop-i.invariant.capacity;
     }
 
@@ -58,6 +62,7 @@ loop-i-init c =
       ready = ap (λ (k : Core). k.table.ready) c.list_sought.ensures;
       idle = ap (λ (k : Core). k.idle) c.list_sought.ensures;
       len = omega arith;
+      still = λ together. omega arith;
       capacity = refl;
     }
 
@@ -87,3 +92,11 @@ returns-clause-works c = λ h n stands.
     works-as c.args.now [] [] (book_of c.args.self.now) c.args.link.now n _ (book_of c.loop-i.self) _ c.loop-i.link n _ h
     (ap (λ (l : Ledger). l.book) (returns-clause-ledger c)) (returns-clause-link c)
     (went-works laws c.is_apart-apart.result c.args.now keys (ledger_of c.args.self.now) c.args.link.now n h stands)
+
+-- while apart, what waited is marked
+pub returns-clause-translate : goal.returns-clause-translate
+returns-clause-translate c = λ apart k x found pair.
+    let paired = (and_parts (is_paired c.args.self.now.stage) _ apart).0 in
+    let marks = c.is_apart-apart.ensures ∙ apart in
+    let entries = ap (λ (l : Ledger). l.book.entries) (returns-clause-ledger c) ∙ ap (λ (b : Bool). (go_on_all b c.args.now (sought_keys b c.args.self.now.table.entries) (ledger_of c.args.self.now) c.args.link.now).ledger.book.entries) marks in
+    c.alone_waits_for_nobody.ensures.translate c.args.now (ledger_of c.args.self.now) c.args.link.now k x c.recall.ensures.book paired (sym (ap (λ es. slot_of es k) entries) ∙ found) pair
