@@ -93,11 +93,14 @@ impl Core {
 
     fn release(&mut self, key: Key, link: &mut Link, now: u64, notes: &mut Vec<Note>)
         requires reserved { vec_len notes.old < vec_capacity notes.old }
-        ensures ledger { let row = idle_row (book_of self.old) (may_ask_at now (book_of self.old) link.old) key
+        ensures ledger { let ask = may_ask_at now (book_of self.old) link.old in
+            let row = idle_row (book_of self.old) ask key
             in ledger_of self.new ≡ ledger_after now row.change (ledger_of self.old) }
-        ensures link { let row = idle_row (book_of self.old) (may_ask_at now (book_of self.old) link.old) key
+        ensures link { let ask = may_ask_at now (book_of self.old) link.old in
+            let row = idle_row (book_of self.old) ask key
             in link.new ≡ answered link.old row.answer }
-        ensures notes { let row = idle_row (book_of self.old) (may_ask_at now (book_of self.old) link.old) key
+        ensures notes { let ask = may_ask_at now (book_of self.old) link.old in
+            let row = idle_row (book_of self.old) ask key
             in notes.new.items ≡ notes.old.items ++ noted_by self.old.id now row.what }
         ensures ready { self.new.table.ready ≡ self.old.table.ready }
         ensures idle { self.new.idle ≡ self.old.idle }

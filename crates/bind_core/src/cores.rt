@@ -700,8 +700,9 @@ impl Core {
 
     /// Returns the core of a gateway without a table. `zero` and `one` are the ranges of gateway 0
     /// and gateway 1; `limit` is the most pairs that one inside address may have, None for any
-    /// number; after `alone` centiseconds without an answer of the peer it is apart, 0 is never. Takes all the memory of the core but that of `ready` and `owned`; fails where there
-    /// isn't enough.
+    /// number; after `alone` centiseconds without an answer of the peer it is apart, 0 is never.
+    /// Takes all the memory of the core but that of `ready` and `owned`; fails where there isn't
+    /// enough.
     pub fn unsynced(
         alloc: Global,
         id: GatewayId,
