@@ -52,12 +52,12 @@ fn print_end<O: Write>(output: &mut O) -> Result<(), Fault> {
 }
 
 /// Runs the rounds of a gateway on its wire, which is captured where that is asked for.
-fn serve_with<R: Clock + Eprint + Input + AllocGlobal>(
-    rt: &R,
-    start: &Start<'_>,
+fn serve_with<'a, R: Clock + Eprint + Input + AllocGlobal>(
+    rt: &'a R,
+    start: &'a Start<'a>,
     identity: Identity,
     mut gateway: Gateway,
-    parts: Parts<'_, R>,
+    parts: Parts<'a, R>,
 ) -> Result<(), Fault> {
     let Parts {
         manager,
