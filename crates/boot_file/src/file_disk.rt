@@ -64,11 +64,11 @@ impl<F: Blocks + Drop> Disk for FileDisk<F> {
     ghost honest = { λ d. F.honest d.file };
 
     fn read(&mut self, buffer: &mut [u8; 32]) -> Result<usize, DeviceFault> {
-        if let Err(error) = self.file.drop_cache() {
-            return Err(self.failed(DeviceFault::Read(error.kind())));
-        }
-        match fill(&mut self.file, buffer) {
-            Ok(count) => Ok(count),
+        match self.file.drop_cache() {
+            Ok(()) => match fill(&mut self.file, buffer) {
+                Ok(count) => Ok(count),
+                Err(error) => Err(self.failed(DeviceFault::Read(error.kind()))),
+            },
             Err(error) => Err(self.failed(DeviceFault::Read(error.kind()))),
         }
     }
@@ -104,13 +104,13 @@ fn sync_both<F: Blocks>(file: &mut F, folder: &F) -> Result<(), DeviceFault>
     ensures refused { F.honest file.old
         → OnErr result (F.refusals file.new ≡ F.refusals file.old + 1) }
 {
-    if let Err(error) = file.sync() {
-        return Err(DeviceFault::Sync(error.kind()));
+    match file.sync() {
+        Ok(()) => match file.sync_name(folder) {
+            Ok(()) => Ok(()),
+            Err(error) => Err(DeviceFault::NameSync(error.kind())),
+        },
+        Err(error) => Err(DeviceFault::Sync(error.kind())),
     }
-    if let Err(error) = file.sync_name(folder) {
-        return Err(DeviceFault::NameSync(error.kind()));
-    }
-    Ok(())
 }
 
 /// Reads the file's first bytes until the buffer is full or the file ends, and returns how many.

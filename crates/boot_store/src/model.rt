@@ -226,9 +226,7 @@ impl Disk for ModelDisk {
         self.past.keep(&within);
         match self.write(at, bytes) {
             Fate::Done => Ok(()),
-            Fate::Torn | Fate::Undone => {
-                Err(self.failed(DeviceFault::Write(ErrorKind::Other)))
-            }
+            Fate::Torn | Fate::Undone => { Err(self.failed(DeviceFault::Write(ErrorKind::Other))) }
         }
     }
 

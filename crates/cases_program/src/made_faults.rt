@@ -47,7 +47,10 @@ fn fault_named(rt: &HostRuntime, name: &str) -> Option<Fault> {
     match name {
         "unread" => Some(file(alloc, FileRefusal::NoFile(ErrorKind::PermissionDenied))),
         "no-folder" => Some(file(alloc, FileRefusal::NotWritten(ErrorKind::NotADirectory))),
-        "read-only" => Some(file(alloc, FileRefusal::NotWritten(ErrorKind::ReadOnlyFilesystem))),
+        "read-only" => Some(file(
+            alloc,
+            FileRefusal::NotWritten(ErrorKind::ReadOnlyFilesystem),
+        )),
         "busy" => Some(file(alloc, FileRefusal::NoFile(ErrorKind::ResourceBusy))),
         "not-synced" => Some(Fault::NotSynced),
         "no-text" => Some(Fault::filter(alloc, FilterFault::NotText)),

@@ -41,9 +41,7 @@ impl Display for BootCause {
             BootCause::Short => f.write_str("it has fewer than 32 bytes"),
             BootCause::Invalid => f.write_str("neither of its two numbers is valid"),
             BootCause::UsedUp => f.write_str("its number is the greatest that there is"),
-            BootCause::Used => {
-                f.write_str("it was used before; only a new one founds a pair")
-            }
+            BootCause::Used => { f.write_str("it was used before; only a new one founds a pair") }
         }
     }
 }

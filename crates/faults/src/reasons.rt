@@ -116,14 +116,21 @@ fn write_no_sockets<W: fmt::Write>(cause: SocketCause, f: &mut Formatter<W>) -> 
         SocketCause::NoPorts => f.write_str("  a place on loopback has no port in the settings\n"),
         SocketCause::NotBound(end, cause) => {
             let (address, cause) = (SocketAddr::from(end), Cause(cause));
-            writeln!(f, "  {address}: it can't be had beside the box's other sockets: {cause}")
+            writeln!(
+                f,
+                "  {address}: it can't be had beside the box's other sockets: {cause}"
+            )
         }
         SocketCause::NotConnected(end, cause) => {
             let (address, cause) = (SocketAddr::from(end), Cause(cause));
             writeln!(f, "  {address}: it can't be reached: {cause}")
         }
         SocketCause::BadDescriptor(number, cause) => {
-            writeln!(f, "  descriptor {number}: it can't be polled: {}", Cause(cause))
+            writeln!(
+                f,
+                "  descriptor {number}: it can't be polled: {}",
+                Cause(cause)
+            )
         }
         SocketCause::NotPolled(cause) => {
             writeln!(f, "  the system can't poll the sockets: {}", Cause(cause))

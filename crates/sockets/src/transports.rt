@@ -72,7 +72,9 @@ impl Socket {
         match socket.register(registry, token) {
             Ok(()) => Ok(socket),
             Err(error) => Err(match attachment {
-                Attachment::Udp(_) | Attachment::Vxlan(_, _) => SocketCause::NotPolled(error.kind()),
+                Attachment::Udp(_) | Attachment::Vxlan(_, _) => SocketCause::NotPolled(
+                    error.kind(),
+                ),
                 Attachment::Descriptor(number) => SocketCause::BadDescriptor(number, error.kind()),
             }),
         }
