@@ -19,13 +19,21 @@ use cases_words::{Case, play};
 use lines::Lines;
 use rows::Rows;
 use std::fs;
+use std::os::unix::fs::symlink;
 use tasks::Tasks;
 use words::Words;
+
+/// Makes what `acts.cases` takes for boot files: a folder, and a link to a device.
+fn make_places(rt: &HostRuntime) -> Result<()> {
+    fs::create_dir(rt, "folder")?;
+    symlink(rt, "/dev/null", "null")?;
+    Ok(())
+}
 
 fn try_all(rt: &HostRuntime, case: &mut Case) -> Result<()> {
     play(rt, "lines.cases", Tasks, case)?;
     play(rt, "rows.list", Rows { rt: *rt }, case)?;
-    fs::create_dir(rt, "folder")?;
+    make_places(rt)?;
     play(rt, "acts.cases", Words { rt: *rt }, case)?;
     play(rt, "loops.list", Lines { rt: *rt }, case)
 }
