@@ -33,8 +33,13 @@ pub fn run<
 >(rt: &R, start: &Start<'_>, output: &mut O) -> Result<(), Fault> {
     let mut parts = Parts::open(rt, start)?;
     let boot_file = parts.settings.gateway(start.id).boot_file.as_str();
-    let (identity, gateway) = begin(rt, &mut parts.disk, &parts.settings, start.id, start.found)
-        .map_err(|fault| fault.of_boot_file(rt, boot_file))?;
+    let (identity, gateway) = begin(
+        rt,
+        &mut parts.disk,
+        &parts.settings,
+        start.id,
+        start.found,
+    ).map_err(|fault| fault.of_boot_file(rt, boot_file))?;
     print_boot(identity.boot, output)?;
     parts.log.write(0, Entry::Boot(identity.boot));
     serve_with(rt, start, identity, gateway, parts)?;
