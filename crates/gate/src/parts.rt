@@ -42,46 +42,6 @@ impl<'a, R: Files<File = File> + Net + Eprint + Env + AllocGlobal> Parts<'a, R> 
     ///
     /// The first fault, in the order of these lines.
     pub(crate) fn open(rt: &'a R, start: &Start<'a>) -> Result<Parts<'a, R>, Fault> {
-        let inputs = Inputs::read(rt, start)?;
-        let (disk, wire) = open_disk_and_wire(rt, start, &inputs)?;
-        let log = open_log(rt, start)?;
-        let capture = start
-            .capture
-            .map(|path| open_capture(rt, path))
-            .transpose()?;
-        let Inputs {
-            settings,
-            manager,
-            stop,
-            ..
-        } = inputs;
-        Ok(Parts {
-            settings,
-            manager,
-            stop,
-            disk,
-            wire,
-            log,
-            capture,
-        })
-    }
-}
-
-/// The settings and the options of a start, read and checked.
-#[derive(Drop)]
-struct Inputs {
-    settings: Settings,
-    ways: Ways,
-    manager: Option<ServiceManager>,
-    stop: Option<StopDescriptor>,
-}
-
-impl Inputs {
-    /// Reads the settings, the ways, and the descriptors that the box inherits.
-    fn read<R: Files<File = File> + AllocGlobal>(
-        rt: &R,
-        start: &Start<'_>,
-    ) -> Result<Inputs, Fault> {
         let alloc = rt.alloc();
         let settings = read_settings(rt, start.settings)?;
         let ways = start.ways.read(alloc)?;
@@ -95,45 +55,31 @@ impl Inputs {
             .map(|text| StopDescriptor::read(alloc, text))
             .transpose()?;
         check_ports(alloc, start, &settings, &ways)?;
-        Ok(Inputs {
+        let file = settings.gateway(start.id).boot_file.as_str();
+        let path = ControlPath::beside(alloc, file)?;
+        let disk = boot_file::open(rt, file).map_err(|why| Fault::boot_file(alloc, file, why))?;
+        let control = Control::open(rt, &path, CONTROL_TOKEN).map_err(|cause| Fault::no_control(
+            alloc, &path, cause,
+        ))?;
+        let wire = open_sockets(rt, &ways, LoopbackPorts::of(&settings, start.id), control)?;
+        let sink = Sink::new(StandardError(rt), start.format);
+        let filtered = FilteredLog::new(sink, read_filter(rt, start.log)?);
+        let mappings = start.mappings.then(|| Mappings::new(alloc)).transpose()?;
+        let log = EventLog::new(filtered, mappings);
+        let capture = start
+            .capture
+            .map(|path| open_capture(rt, path))
+            .transpose()?;
+        Ok(Parts {
             settings,
-            ways,
             manager,
             stop,
+            disk,
+            wire,
+            log,
+            capture,
         })
     }
-}
-
-/// Opens and locks the boot file, and opens the sockets.
-fn open_disk_and_wire<R: Files<File = File> + Net + AllocGlobal>(
-    rt: &R,
-    start: &Start<'_>,
-    inputs: &Inputs,
-) -> Result<(FileDisk<File>, Sockets), Fault> {
-    let alloc = rt.alloc();
-    let file = inputs.settings.gateway(start.id).boot_file.as_str();
-    let path = ControlPath::beside(alloc, file)?;
-    let disk = boot_file::open(rt, file).map_err(|why| Fault::boot_file(alloc, file, why))?;
-    let control = Control::open(rt, &path, CONTROL_TOKEN).map_err(|cause| Fault::no_control(
-        alloc, &path, cause,
-    ))?;
-    let ports = LoopbackPorts::of(&inputs.settings, start.id);
-    let wire = open_sockets(rt, &inputs.ways, ports, control)?;
-    Ok((disk, wire))
-}
-
-/// Opens the log on the standard error.
-fn open_log<'a, R: Eprint + Env + AllocGlobal>(
-    rt: &'a R,
-    start: &Start<'_>,
-) -> Result<BoxLog<'a, R>, Fault> {
-    let filter = read_filter(rt, start.log)?;
-    let filtered = FilteredLog::new(Sink::new(StandardError(rt), start.format), filter);
-    let mappings = start
-        .mappings
-        .then(|| Mappings::new(rt.alloc()))
-        .transpose()?;
-    Ok(EventLog::new(filtered, mappings))
 }
 
 /// Checks that the ports that a box needs on the loopback address are there, and that no two of its own are the same.

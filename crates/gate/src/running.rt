@@ -19,7 +19,8 @@ use std::random::RandomSource;
 use std::rt::{Clock, Env};
 
 /// Runs a box until its operator ends it, its standard input ends (`until_eof`), its descriptor to stop on can be read, or
-/// all its rounds are done. Prints its boot number first, and `end` last.
+/// all its rounds are done. Prints its boot
+/// number first, and `end` last.
 ///
 /// # Errors
 ///
@@ -31,47 +32,22 @@ pub fn run<
     R: Files<File = File> + Net + Clock + RandomSource + Eprint + Env + Input + AllocGlobal,
     O: Write,
 >(rt: &R, start: &Start<'_>, output: &mut O) -> Result<(), Fault> {
-    let mut parts = Parts::open(rt, start)?;
-    let boot_file = parts.settings.gateway(start.id).boot_file.as_str();
-    let (identity, gateway) = begin(
-        rt,
-        &mut parts.disk,
-        &parts.settings,
-        start.id,
-        start.found,
-    ).map_err(|fault| fault.of_boot_file(rt, boot_file))?;
-    print_boot(identity.boot, output)?;
-    parts.log.write(0, Entry::Boot(identity.boot));
-    serve_with(rt, start, identity, gateway, parts)?;
-    print_end(output)
-}
-
-fn print_boot<O: Write>(boot: u64, output: &mut O) -> Result<(), Fault> {
-    writeln!(output, "boot {boot}")?;
-    Ok(output.flush()?)
-}
-
-fn print_end<O: Write>(output: &mut O) -> Result<(), Fault> {
-    writeln!(output, "end")?;
-    Ok(output.flush()?)
-}
-
-/// Runs the rounds of a gateway on its wire, which is captured where that is asked for.
-fn serve_with<'a, R: Clock + Eprint + Input + AllocGlobal>(
-    rt: &'a R,
-    start: &'a Start<'a>,
-    identity: Identity,
-    mut gateway: Gateway,
-    parts: Parts<'a, R>,
-) -> Result<(), Fault> {
     let Parts {
+        settings,
         manager,
         stop,
+        mut disk,
         mut wire,
         log,
         capture,
-        ..
-    } = parts;
+    } = Parts::open(rt, start)?;
+    let boot_file = settings.gateway(start.id).boot_file.as_str();
+    let (identity, mut gateway) = begin(rt, &mut disk, &settings, start.id, start.found).map_err(
+        |fault| fault.of_boot_file(rt, boot_file),
+    )?;
+    writeln!(output, "boot {}", identity.boot)?;
+    output.flush()?;
+    log.write(0, Entry::Boot(identity.boot));
     let mut server = Server {
         rt,
         start,
@@ -91,6 +67,8 @@ fn serve_with<'a, R: Clock + Eprint + Input + AllocGlobal>(
             server.log.write_left_out(tapped.left_out());
         }
     }
+    writeln!(output, "end")?;
+    output.flush()?;
     Ok(())
 }
 
