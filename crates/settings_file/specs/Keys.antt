@@ -48,8 +48,12 @@ name_text Mac = codes "mac"
 
 -- a key in a section
 abbrev pub key : Section → Name → Key
-key section name = record { section = section; name = Some name }
+key section name = record { section = section; name = Some name; neighbour = None }
+
+-- a key of the neighbour at a place of the list, from 0
+abbrev pub neighbour_key : ℕ → Name → Key
+neighbour_key index name = record { section = Neighbour; name = Some name; neighbour = Some index }
 
 -- the key of a whole section, of the list of neighbours too
 abbrev pub whole : Section → Key
-whole section = record { section = section; name = None }
+whole section = record { section = section; name = None; neighbour = None }

@@ -3,7 +3,6 @@ pub mod Document
 pub mod Faults
 pub mod Ids
 pub mod Keys
-pub mod Loopback
 pub mod Missing
 pub mod Neighbours
 pub mod Rows

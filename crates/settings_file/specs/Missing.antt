@@ -29,7 +29,7 @@ lacks t k = is_none (option_and_then (value_of t k.section) k.name)
 
 -- all keys that are missing: of the sections, and then of the neighbours. What isn't a list of tables lacks no key
 unfoldable pub all_missing : Members → List Key
-all_missing t = filter (lacks t) required ++ all_missing_from (unwrap_or (neighbours_of t) [])
+all_missing t = filter (lacks t) required ++ all_missing_from 0 (unwrap_or (neighbours_of t) [])
 
 -- the first key that is missing
 unfoldable pub first_missing : Members → Option Key

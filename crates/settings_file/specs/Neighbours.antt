@@ -1,6 +1,6 @@
 -- The list of static neighbours.
-use Rattle.std.specs.Prelude.{ℕ, nat_le, Bool, if◌then◌else◌, List, [], ◌∷◌, length, codes, Option, Some, None, is_some, option_and_then}
-use Rattle.std.specs.List.{list_all, flat_map}
+use Rattle.std.specs.Prelude.{ℕ, ◌+◌, nat_le, Bool, if◌then◌else◌, List, [], ◌∷◌, ◌++◌, length, codes, Option, Some, None, is_some, option_and_then}
+use Rattle.std.specs.List.{list_all}
 use Rattle.std.specs.Str.{bytes_eq}
 use Rattle.toml.specs.Data.{Data, Members, get_member, as_str, as_table}
 use Rattle.nat_types.specs.declared.gateways.Side.{Side}
@@ -10,7 +10,7 @@ use Rattle.settings_file.specs.declared.keys.Section.TheVariants.{Neighbour}
 use Rattle.settings_file.specs.declared.keys.Name.{Name}
 use Rattle.settings_file.specs.declared.keys.Name.TheVariants.{Side as SideKey, Ip, Mac}
 use Rattle.settings_file.specs.declared.keys.Key.{Key}
-use Rattle.settings_file.specs.Keys.{key, whole, name_text, section_text}
+use Rattle.settings_file.specs.Keys.{neighbour_key, whole, name_text, section_text}
 use Rattle.settings_file.specs.Texts.{address_of, mac_of}
 use Rattle.settings_file.specs.Document.{Network, is_table, list_in, is_host}
 use Rattle.settings_file.specs.Faults.{first_bad, all_bad, earlier}
@@ -30,17 +30,18 @@ neighbours_of t = tables_in (get_member (section_text Neighbour) t)
 unfoldable pub field_of : Data → Name → Option Data
 field_of d name = option_and_then (get_member (name_text name)) (as_table d)
 
--- the keys of a neighbour, each with whether it is there
-abbrev pub present_rows : Data → List (Key × Bool)
-present_rows d =
-    (key Neighbour SideKey, is_some (field_of d SideKey))
-    ∷ (key Neighbour Ip, is_some (field_of d Ip))
-    ∷ (key Neighbour Mac, is_some (field_of d Mac))
+-- the keys of the neighbour at a place of the list, each with whether it is there
+abbrev pub present_rows : ℕ → Data → List (Key × Bool)
+present_rows index d =
+    (neighbour_key index SideKey, is_some (field_of d SideKey))
+    ∷ (neighbour_key index Ip, is_some (field_of d Ip))
+    ∷ (neighbour_key index Mac, is_some (field_of d Mac))
     ∷ []
 
--- all keys that the neighbours lack
-abbrev pub all_missing_from : List Data → List Key
-all_missing_from ds = flat_map (λ d. all_bad (present_rows d)) ds
+-- all keys that the neighbours lack, of which the first stands at a place of the list
+abbrev pub all_missing_from : ℕ → List Data → List Key
+all_missing_from index [] = []
+all_missing_from index (d ∷ rest) = all_bad (present_rows index d) ++ all_missing_from (index + 1) rest
 
 abbrev pub side_named : List ℕ → Option Side
 side_named word =
@@ -61,25 +62,26 @@ network_of inside outside (Some Outside) = outside
 network_of inside outside (Some Inside) = inside
 network_of inside outside None = None
 
--- the keys of a neighbour, each with whether its value is good: its address lies in its side's network
-abbrev pub neighbour_value_rows : Option Network → Option Network → Data → List (Key × Bool)
-neighbour_value_rows inside outside d =
-    (key Neighbour SideKey, is_some (side_of d))
-    ∷ (key Neighbour Ip, is_host (network_of inside outside (side_of d)) (ip_of d))
-    ∷ (key Neighbour Mac, is_some (mac_at_of d))
+-- the keys of the neighbour at a place of the list, each with whether its value is good: its address lies in its side's network
+abbrev pub neighbour_value_rows : Option Network → Option Network → ℕ → Data → List (Key × Bool)
+neighbour_value_rows inside outside index d =
+    (neighbour_key index SideKey, is_some (side_of d))
+    ∷ (neighbour_key index Ip, is_host (network_of inside outside (side_of d)) (ip_of d))
+    ∷ (neighbour_key index Mac, is_some (mac_at_of d))
     ∷ []
 
 -- a key of a neighbour whose value is bad
-unfoldable pub bad_neighbour : Option Network → Option Network → Data → Option Key
-bad_neighbour inside outside d = first_bad (neighbour_value_rows inside outside d)
+unfoldable pub bad_neighbour : Option Network → Option Network → ℕ → Data → Option Key
+bad_neighbour inside outside index d = first_bad (neighbour_value_rows inside outside index d)
 
-abbrev pub bad_in : Option Network → Option Network → List Data → Option Key
-bad_in inside outside [] = None
-bad_in inside outside (d ∷ rest) = earlier (bad_neighbour inside outside d) (bad_in inside outside rest)
+-- of neighbours of which the first stands at a place of the list
+abbrev pub bad_in : Option Network → Option Network → ℕ → List Data → Option Key
+bad_in inside outside index [] = None
+bad_in inside outside index (d ∷ rest) = earlier (bad_neighbour inside outside index d) (bad_in inside outside (index + 1) rest)
 
 abbrev pub bad_list : Option Network → Option Network → Option (List Data) → Option Key
 bad_list inside outside None = Some (whole Neighbour)
-bad_list inside outside (Some ds) = if nat_le (length ds) 64 then bad_in inside outside ds else Some (whole Neighbour)
+bad_list inside outside (Some ds) = if nat_le (length ds) 64 then bad_in inside outside 0 ds else Some (whole Neighbour)
 
 -- [[neighbour]]: a list of at most 64 tables
 unfoldable pub bad_neighbours : Option Network → Option Network → Members → Option Key

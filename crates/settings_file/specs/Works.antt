@@ -1,6 +1,5 @@
 -- Which settings can work, and the first key of those that never can.
 use Rattle.std.specs.Prelude.{◌≡◌, ℕ, ◌+◌, ◌-◌, ◌==◌, ◌||◌, ◌%◌, not, Bool, false, List, [], ◌∷◌, ◌++◌, take, Option, None}
-use Rattle.std.specs.List.{flat_map}
 use Rattle.std.specs.Str.{bytes_eq}
 use Rattle.nat_types.specs.declared.gateways.Side.{Side}
 use Rattle.nat_types.specs.declared.gateways.Side.TheVariants.{Inside, Outside}
@@ -11,7 +10,7 @@ use Rattle.settings_file.specs.declared.keys.Section.{Section}
 use Rattle.settings_file.specs.declared.keys.Section.TheVariants as sections
 use Rattle.settings_file.specs.declared.keys.Name.TheVariants.{Virtual, Router, InsideIp, InsideMac, OutsideIp, OutsideMac, Ip, Mac}
 use Rattle.settings_file.specs.declared.keys.Key.{Key}
-use Rattle.settings_file.specs.Keys.{key}
+use Rattle.settings_file.specs.Keys.{key, neighbour_key}
 use Rattle.settings_file.specs.Document.{is_in}
 use Rattle.settings_file.specs.Faults.{all_bad, first}
 
@@ -61,23 +60,26 @@ gateway_rows s section gateway =
     ∷ (key section OutsideMac, is_station gateway.outside_mac.0)
     ∷ []
 
--- of a neighbour
-unfoldable pub neighbour_rows : Settings → NeighbourValue → List (Key × Bool)
-neighbour_rows s neighbour =
-    (key sections.Neighbour Ip, not (is_ours s neighbour.side neighbour.ip.0))
-    ∷ (key sections.Neighbour Mac, not (is_group neighbour.mac.0))
+-- of the neighbour at a place of the list
+unfoldable pub neighbour_rows : Settings → ℕ → NeighbourValue → List (Key × Bool)
+neighbour_rows s index neighbour =
+    (neighbour_key index Ip, not (is_ours s neighbour.side neighbour.ip.0))
+    ∷ (neighbour_key index Mac, not (is_group neighbour.mac.0))
     ∷ []
 
--- all keys, in the order of the text, whose values can never work
-abbrev pub all_of_neighbour : Settings → NeighbourValue → List Key
-all_of_neighbour s n = all_bad (neighbour_rows s n)
+-- of neighbours of which the first stands at a place of the list, all keys whose values can never work
+abbrev pub all_of_neighbours : Settings → ℕ → List NeighbourValue → List Key
+all_of_neighbours s index [] = []
+all_of_neighbours s index (neighbour ∷ rest) =
+    all_bad (neighbour_rows s index neighbour) ++ all_of_neighbours s (index + 1) rest
 
+-- all keys, in the order of the text, whose values can never work
 unfoldable pub all_that_cant : Settings → List Key
 all_that_cant s =
     all_bad (network_rows s)
     ++ (all_bad (gateway_rows s sections.GatewayZero s.zero)
     ++ (all_bad (gateway_rows s sections.GatewayOne s.one)
-    ++ flat_map (all_of_neighbour s) s.neighbours.items))
+    ++ all_of_neighbours s 0 s.neighbours.items))
 
 -- the first of them
 abbrev pub cant_work : Settings → Option Key

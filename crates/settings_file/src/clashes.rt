@@ -1,6 +1,7 @@
 //! Loopback ports that two places of the same machine can't both bind.
 
-use crate::{Key, Name, OnLoopback, Section};
+use crate::loopback_ports::{PortRow, own_rows, port_rows, wire_rows};
+use crate::{Key, OnLoopback, Section};
 use nat_types::GatewayId;
 use settings::Settings;
 use std::alloc::AllocError;
@@ -29,9 +30,6 @@ impl fmt::Debug for PortClash {
     }
 }
 
-/// A key of a port, and the port, or None where it is left out or its place isn't on loopback.
-type Row = (Key, Option<u16>);
-
 /// Returns the first key, in the order of the text, whose loopback port an earlier key has too, among the ports that a
 /// box binds and those to which it sends frames. Only the places on loopback count.
 pub fn port_clash(settings: &Settings, id: GatewayId, on: OnLoopback) -> Option<PortClash> {
@@ -39,26 +37,26 @@ pub fn port_clash(settings: &Settings, id: GatewayId, on: OnLoopback) -> Option<
         GatewayId::Zero => Section::GatewayZero,
         GatewayId::One => Section::GatewayOne,
     };
-    let gateway = settings.gateway(id);
-    let rows = [
-        row(Section::Inside, Name::Wire, settings.inside.wire, on.inside),
-        row(
-            Section::Outside,
-            Name::Wire,
-            settings.outside.wire,
-            on.outside,
-        ),
-        row(section, Name::Link, gateway.link, on.link),
-        row(section, Name::InsidePort, gateway.inside_port, on.inside),
-        row(section, Name::OutsidePort, gateway.outside_port, on.outside),
-    ];
-    first_clash(&rows)
+    let [inside_wire, outside_wire] = wire_rows(settings);
+    let [link, inside, outside] = own_rows(section, settings.gateway(id));
+    first_clash(&[
+        row_if(on.inside, inside_wire),
+        row_if(on.outside, outside_wire),
+        row_if(on.link, link),
+        row_if(on.inside, inside),
+        row_if(on.outside, outside),
+    ])
+}
+
+/// Returns a row without its port where its place isn't on loopback.
+fn row_if(on_loopback: bool, row: PortRow) -> PortRow {
+    if on_loopback { row } else { (row.0, None) }
 }
 
 /// Returns the first key, in the order of the text, whose loopback port an earlier key has too, for both boxes on one
 /// machine with all their places on loopback.
 pub fn port_clash_of_both(settings: &Settings) -> Option<PortClash> {
-    first_clash(&rows_of_both(settings))
+    first_clash(&port_rows(settings))
 }
 
 /// Adds all keys, in the order of the text, whose loopback port an earlier key has too, for both boxes on one machine.
@@ -67,62 +65,17 @@ pub fn port_clash_of_both(settings: &Settings) -> Option<PortClash> {
 ///
 /// Out of memory. Some of the keys may be added then.
 pub fn add_port_clashes(settings: &Settings, found: &mut Vec<Key>) -> Result<(), AllocError> {
-    let rows = rows_of_both(settings);
+    let rows = port_rows(settings);
     for (index, row) in rows.iter().enumerate() {
-        if let Some(clash) = clash_with(&rows[..index], *row) {
-            found.push(clash.key)?;
+        if clash_with(&rows[..index], *row).is_some() {
+            found.push(row.0)?;
         }
     }
     Ok(())
 }
 
-fn row(section: Section, name: Name, port: Option<u16>, on_loopback: bool) -> Row {
-    let key = Key::new(section, name);
-    if on_loopback {
-        (key, port)
-    } else {
-        (key, None)
-    }
-}
-
-/// Returns the ports of both boxes in the order of the text.
-fn rows_of_both(settings: &Settings) -> [Row; 8] {
-    let Settings {
-        inside,
-        outside,
-        zero,
-        one,
-        ..
-    } = settings;
-    [
-        row(Section::Inside, Name::Wire, inside.wire, true),
-        row(Section::Outside, Name::Wire, outside.wire, true),
-        row(Section::GatewayZero, Name::Link, zero.link, true),
-        row(
-            Section::GatewayZero,
-            Name::InsidePort,
-            zero.inside_port,
-            true,
-        ),
-        row(
-            Section::GatewayZero,
-            Name::OutsidePort,
-            zero.outside_port,
-            true,
-        ),
-        row(Section::GatewayOne, Name::Link, one.link, true),
-        row(Section::GatewayOne, Name::InsidePort, one.inside_port, true),
-        row(
-            Section::GatewayOne,
-            Name::OutsidePort,
-            one.outside_port,
-            true,
-        ),
-    ]
-}
-
 /// Returns the clash of the first row whose port an earlier row has.
-fn first_clash(rows: &[Row]) -> Option<PortClash> {
+fn first_clash(rows: &[PortRow]) -> Option<PortClash> {
     for (index, row) in rows.iter().enumerate() {
         let clash = clash_with(&rows[..index], *row);
         if clash.is_some() {
@@ -133,7 +86,7 @@ fn first_clash(rows: &[Row]) -> Option<PortClash> {
 }
 
 /// Returns the clash of a row with the first earlier one that has its port.
-fn clash_with(earlier: &[Row], row: Row) -> Option<PortClash> {
+fn clash_with(earlier: &[PortRow], row: PortRow) -> Option<PortClash> {
     let (key, Some(port)) = row else {
         return None;
     };

@@ -2,44 +2,43 @@
 
 use crate::explanations::Source;
 use crate::fields::entry;
-use crate::neighbour_cursor::{NeighbourCheck, NeighbourCursor};
 use crate::shown::Shown;
 use crate::unknown::{keys_of, section_named};
-use crate::{Key, Name, Section, neighbours};
+use crate::{Key, Section};
 use std::alloc::Global;
 use std::fmt::{self, Display, Formatter};
-use toml::Table;
+use toml::{Table, Value};
 
 /// Explains a required key that is missing.
-pub(crate) fn explain_missing(
-    source: Source<'_>,
-    document: &Table,
-    key: Key,
-    cursor: &mut NeighbourCursor,
-) -> Option<String> {
-    let name = key.name?;
-    let text = name.as_str();
-    if matches!(key.section, Section::Neighbour) {
-        let tables = neighbours::tables(document)?;
-        let (number, _) = cursor.next(tables, NeighbourCheck::Present, name)?;
-        return source.explanation(format_args!("[[neighbour]] {number} has no {text}"));
-    }
+pub(crate) fn explain_missing(source: Source<'_>, document: &Table, key: Key) -> Option<String> {
     let section = key.section.as_str();
     match entry(document, section) {
         None => source.explanation(format_args!("there is no section [{section}]")),
-        Some(value) if value.is_table() => explain_left_out(source, key),
-        Some(value) => {
-            let value = Shown(value);
-            source.explanation(format_args!("{section} is {value}; a section, [{section}]"))
-        }
+        Some(value) if value.is_table() || key.neighbour.is_some() => explain_left_out(source, key),
+        Some(value) => explain_no_section(source, section, value),
     }
 }
 
-/// Explains that a section lacks a key.
+/// Explains that a section, or a neighbour, lacks a key.
 fn explain_left_out(source: Source<'_>, key: Key) -> Option<String> {
-    let name = key.name?;
-    let (section, text) = (key.section.as_str(), name.as_str());
-    source.explanation(format_args!("[{section}] has no {text}"))
+    let (section, name) = (key.section.as_str(), key.name?.as_str());
+    match key.neighbour {
+        Some(index) => {
+            let number = index.saturating_add(1);
+            source.explanation(format_args!("[[{section}]] {number} has no {name}"))
+        }
+        None => source.explanation(format_args!("[{section}] has no {name}")),
+    }
+}
+
+/// Explains that the value at a section's name is no section.
+pub(crate) fn explain_no_section(
+    source: Source<'_>,
+    section: &str,
+    value: &Value,
+) -> Option<String> {
+    let value = Shown(value);
+    source.explanation(format_args!("{section} is {value}; a section, [{section}]"))
 }
 
 /// Returns where a loopback port is left out that a command needs, as `S.toml: [gateway_0] has no link`, for the

@@ -1,184 +1,130 @@
 //! What two values that must differ have in common, and why a value can't work, in words.
-ghost use Rattle.std.specs.Prelude.{◌≤◌};
 
-use crate::explanations::Source;
-use crate::ids::overlap;
-use crate::neighbour_cursor::{NeighbourCheck, NeighbourCursor};
-use crate::neighbours::{self, ip_of, mac_of, side_of};
-use crate::values::Values;
-use crate::works::{is_broadcast_address, is_group, is_network_address};
+use crate::explanations::{Place, Source};
+use crate::fields::required_range;
+use crate::limits::prefix_length;
+use crate::lookups::{ip_of, mac_of, network_section, value_of};
+use crate::works::{is_group, is_network_address};
 use crate::{Key, Name, Section};
 use addresses::{Ip, Mac};
-use nat_types::Side;
-use settings::{GatewaySettings, Settings};
-use std::fmt::Display;
+use std::fmt::{self, Display, Formatter};
 use toml::Table;
 
 /// Explains that the two gateways' port ranges share a port.
-pub(crate) fn explain_overlap(source: Source<'_>, values: &Values) -> Option<String> {
-    let (zero, one) = (values.zero_ports, values.one_ports);
-    if !overlap(zero, one) {
-        return None;
-    }
+pub(crate) fn explain_overlap(source: Source<'_>, document: &Table) -> Option<String> {
+    let zero = required_range(document, Section::Ports, Name::Zero).ok()?;
+    let one = required_range(document, Section::Ports, Name::One).ok()?;
     let port = zero.lowest.0.max(one.lowest.0);
     source.explanation(format_args!("ports.zero and ports.one both have {port}"))
 }
 
+/// A value that no two keys may share.
+#[derive(Clone, Copy, PartialEq)]
+enum Id {
+    Ip(Ip),
+    Mac(Mac),
+    Port(i64),
+}
+
+impl Display for Id {
+    fn fmt<W: fmt::Write>(&self, f: &mut Formatter<W>) -> fmt::Result {
+        match self {
+            Id::Ip(ip) => write!(f, "{ip}"),
+            Id::Mac(mac) => write!(f, "{mac}"),
+            Id::Port(port) => write!(f, "{port}"),
+        }
+    }
+}
+
+/// Returns the value at a key of an address, a MAC or a loopback port, or None where there is none.
+fn id_of(document: &Table, key: Key) -> Option<Id> {
+    match key.name? {
+        Name::InsideMac | Name::OutsideMac => mac_of(document, key).map(Id::Mac),
+        Name::Link | Name::InsidePort | Name::OutsidePort => {
+            value_of(document, key)?.as_integer().map(Id::Port)
+        }
+        _ => ip_of(document, key).map(Id::Ip),
+    }
+}
+
+/// A value that two keys share.
+#[derive(Clone, Copy)]
+struct SharedId {
+    key: Key,
+    other: Key,
+    id: Id,
+}
+
+impl Display for SharedId {
+    fn fmt<W: fmt::Write>(&self, f: &mut Formatter<W>) -> fmt::Result {
+        let (key, other, id) = (Place(self.key), self.other, self.id);
+        write!(f, "{key} and {other} are both {id}")
+    }
+}
+
 /// Explains that the two gateways share an address, a MAC or a loopback port, or that one has a virtual address: the
 /// first that they share.
-pub(crate) fn explain_shared(source: Source<'_>, values: &Values) -> Option<String> {
-    let (zero, one) = (Section::GatewayZero, Section::GatewayOne);
-    let ips = ips_of(zero, &values.zero);
-    let other_ips = ips_of(one, &values.one);
-    let virtual_ips = [
-        (
-            Key::new(Section::Inside, Name::Virtual),
-            values.inside.virtual_ip,
-        ),
-        (
-            Key::new(Section::Outside, Name::Virtual),
-            values.outside.virtual_ip,
-        ),
+pub(crate) fn explain_shared(source: Source<'_>, document: &Table) -> Option<String> {
+    let zero = own_keys(Section::GatewayZero);
+    let one = own_keys(Section::GatewayOne);
+    let virtual_keys = [
+        Key::new(Section::Inside, Name::Virtual),
+        Key::new(Section::Outside, Name::Virtual),
     ];
-    let macs = macs_of(zero, &values.zero);
-    let ports = ports_of(zero, &values.zero);
-    explain_equal(source, &ips, &other_ips)
-        .or(explain_equal(source, &macs, &macs_of(one, &values.one)))
-        .or(explain_equal_ports(source, &ports, &ports_of(one, &values.one)))
-        .or(explain_equal(source, &ips, &virtual_ips))
-        .or(explain_equal(source, &other_ips, &virtual_ips))
+    let shared = first_shared(document, &zero, &one)
+        .or(first_shared(document, &zero, &virtual_keys))
+        .or(first_shared(document, &one, &virtual_keys));
+    source.explanation(shared?)
 }
 
-/// Explains that a value of one list stands in another too: the first one.
-fn explain_equal<T: PartialEq + Copy + Display + Drop>(
-    source: Source<'_>,
-    values: &[(Key, T)],
-    others: &[(Key, T)],
-) -> Option<String> {
-    for (key, value) in values {
-        if let Some(other) = key_of(others, *value) {
-            return source.explanation(format_args!("{key} and {other} are both {value}"));
+/// Returns the keys of a gateway's addresses, MACs and loopback ports.
+fn own_keys(section: Section) -> [Key; 7] {
+    [
+        Key::new(section, Name::InsideIp),
+        Key::new(section, Name::OutsideIp),
+        Key::new(section, Name::InsideMac),
+        Key::new(section, Name::OutsideMac),
+        Key::new(section, Name::Link),
+        Key::new(section, Name::InsidePort),
+        Key::new(section, Name::OutsidePort),
+    ]
+}
+
+/// Returns the first value of some keys that one of the others has too.
+fn first_shared(document: &Table, keys: &[Key], others: &[Key]) -> Option<SharedId> {
+    for key in keys {
+        let shared = shared_with(document, *key, others);
+        if shared.is_some() {
+            return shared;
         }
     }
     None
 }
 
-/// Explains that a loopback port of one list stands in another too: the first one.
-fn explain_equal_ports(
-    source: Source<'_>,
-    ports: &[(Key, Option<u16>)],
-    others: &[(Key, Option<u16>)],
-) -> Option<String> {
-    for (key, port) in ports {
-        if let (Some(port), Some(other)) = (*port, key_of(others, *port)) {
-            return source.explanation(format_args!("{key} and {other} are both {port}"));
+/// Returns the value of a key where one of the others has it too.
+fn shared_with(document: &Table, key: Key, others: &[Key]) -> Option<SharedId> {
+    let id = id_of(document, key)?;
+    for other in others {
+        if id_of(document, *other) == Some(id) {
+            let other = *other;
+            return Some(SharedId { key, other, id });
         }
     }
     None
-}
-
-/// Returns the first key that has a value.
-fn key_of<T: PartialEq + Copy>(values: &[(Key, T)], wanted: T) -> Option<Key> {
-    for (key, value) in values {
-        if *value == wanted {
-            return Some(*key);
-        }
-    }
-    None
-}
-
-/// Returns the addresses of a gateway.
-fn ips_of(section: Section, gateway: &GatewaySettings) -> [(Key, Ip); 2] {
-    [
-        (Key::new(section, Name::InsideIp), gateway.inside_ip),
-        (Key::new(section, Name::OutsideIp), gateway.outside_ip),
-    ]
-}
-
-/// Returns the MACs of a gateway.
-fn macs_of(section: Section, gateway: &GatewaySettings) -> [(Key, Mac); 2] {
-    [
-        (Key::new(section, Name::InsideMac), gateway.inside_mac),
-        (Key::new(section, Name::OutsideMac), gateway.outside_mac),
-    ]
-}
-
-/// Returns the loopback ports of a gateway.
-fn ports_of(section: Section, gateway: &GatewaySettings) -> [(Key, Option<u16>); 3] {
-    [
-        (Key::new(section, Name::Link), gateway.link),
-        (Key::new(section, Name::InsidePort), gateway.inside_port),
-        (Key::new(section, Name::OutsidePort), gateway.outside_port),
-    ]
 }
 
 /// Explains a key whose value can't work.
-pub(crate) fn explain_unworkable(
-    source: Source<'_>,
-    document: &Table,
-    settings: &Settings,
-    key: Key,
-    cursor: &mut NeighbourCursor,
-) -> Option<String> {
-    let (inside, outside) = (&settings.inside, &settings.outside);
-    let name = key.name?;
-    match key.section {
-        Section::Inside => explain_end(source, key, inside.virtual_ip, inside.prefix_length),
-        Section::Outside if matches!(name, Name::Router) => {
-            let ips = own_ips(settings, Side::Outside);
-            let router = settings.router;
-            explain_equal(source, &[(key, router)], &ips).or(explain_end(
-                source,
-                key,
-                router,
-                outside.prefix_length,
-            ))
-        }
-        Section::Outside => explain_end(source, key, outside.virtual_ip, outside.prefix_length),
-        Section::GatewayZero => explain_gateway(source, settings, key, &settings.zero),
-        Section::GatewayOne => explain_gateway(source, settings, key, &settings.one),
-        Section::Neighbour => explain_neighbour(source, document, settings, name, cursor),
-        Section::Ports | Section::Icmp => None,
-    }
-}
-
-/// Explains an address that is the first or the last of its network.
-fn explain_end(source: Source<'_>, key: Key, address: Ip, length: u8) -> Option<String>
-    requires { length ≤ 32 }
-{
-    if is_network_address(address, length) {
-        return source.explanation(format_args!(
-            "{key} is {address}; with {length} bits of prefix that is the network itself"
-        ));
-    }
-    if is_broadcast_address(address, length) {
-        return source.explanation(format_args!(
-            "{key} is {address}; with {length} bits of prefix that is the broadcast address"
-        ));
-    }
-    None
-}
-
-/// Explains a key of a gateway whose value can't work.
-fn explain_gateway(
-    source: Source<'_>,
-    settings: &Settings,
-    key: Key,
-    gateway: &GatewaySettings,
-) -> Option<String> {
-    let inside = settings.inside.prefix_length;
-    let outside = settings.outside.prefix_length;
+pub(crate) fn explain_unworkable(source: Source<'_>, document: &Table, key: Key) -> Option<String> {
     match key.name? {
-        Name::InsideIp => explain_end(source, key, gateway.inside_ip, inside),
-        Name::OutsideIp => explain_end(source, key, gateway.outside_ip, outside),
-        Name::InsideMac => explain_mac(source, key, gateway.inside_mac),
-        Name::OutsideMac => explain_mac(source, key, gateway.outside_mac),
-        _ => None,
+        Name::InsideMac | Name::OutsideMac | Name::Mac => explain_mac(source, document, key),
+        Name::Router | Name::Ip => explain_own(source, document, key),
+        _ => explain_end(source, document, key),
     }
 }
 
-/// Explains a MAC that no gateway can have.
-fn explain_mac<K: Display + Drop>(source: Source<'_>, key: K, mac: Mac) -> Option<String> {
+/// Explains a MAC that no gateway, or no neighbour, can have.
+fn explain_mac(source: Source<'_>, document: &Table, key: Key) -> Option<String> {
+    let mac = mac_of(document, key)?;
     let why = if is_group(mac) {
         "a group's address, since its first byte is odd"
     } else if mac.0 == [0; 6] {
@@ -186,53 +132,42 @@ fn explain_mac<K: Display + Drop>(source: Source<'_>, key: K, mac: Mac) -> Optio
     } else {
         "a virtual router's address"
     };
-    source.explanation(format_args!("{key} is {mac}; {why}"))
+    let place = Place(key);
+    source.explanation(format_args!("{place} is {mac}; {why}"))
 }
 
-/// Explains a key of the next neighbour for which the value can't work.
-fn explain_neighbour(
-    source: Source<'_>,
-    document: &Table,
-    settings: &Settings,
-    name: Name,
-    cursor: &mut NeighbourCursor,
-) -> Option<String> {
-    let tables = neighbours::tables(document)?;
-    let (number, neighbour) = cursor.next(tables, NeighbourCheck::Works(settings), name)?;
-    match name {
-        Name::Ip => {
-            let address = ip_of(neighbour)?;
-            let key = key_of(&own_ips(settings, side_of(neighbour)?), address)?;
-            source.explanation(format_args!(
-                "ip of [[neighbour]] {number} and {key} are both {address}"
-            ))
-        }
-        _ => {
-            let key = format!(in source.alloc; "mac of [[neighbour]] {number}").ok()?;
-            explain_mac(source, key, mac_of(neighbour)?)
-        }
+/// Explains an address of another host that the pair has for itself, or that is the last of its network.
+fn explain_own(source: Source<'_>, document: &Table, key: Key) -> Option<String> {
+    let section = network_section(document, key)?;
+    match shared_with(document, key, &own_ips(section)) {
+        Some(shared) => source.explanation(shared),
+        None => explain_end(source, document, key),
     }
 }
 
-/// Returns the addresses that the pair has on a side.
-fn own_ips(settings: &Settings, side: Side) -> [(Key, Ip); 3] {
-    let (zero, one) = (Section::GatewayZero, Section::GatewayOne);
-    match side {
-        Side::Inside => [
-            (
-                Key::new(Section::Inside, Name::Virtual),
-                settings.inside.virtual_ip,
-            ),
-            (Key::new(zero, Name::InsideIp), settings.zero.inside_ip),
-            (Key::new(one, Name::InsideIp), settings.one.inside_ip),
-        ],
-        Side::Outside => [
-            (
-                Key::new(Section::Outside, Name::Virtual),
-                settings.outside.virtual_ip,
-            ),
-            (Key::new(zero, Name::OutsideIp), settings.zero.outside_ip),
-            (Key::new(one, Name::OutsideIp), settings.one.outside_ip),
-        ],
-    }
+/// Returns the keys of the addresses that the pair has in a network.
+fn own_ips(section: Section) -> [Key; 3] {
+    let name = match section {
+        Section::Inside => Name::InsideIp,
+        _ => Name::OutsideIp,
+    };
+    [
+        Key::new(section, Name::Virtual),
+        Key::new(Section::GatewayZero, name),
+        Key::new(Section::GatewayOne, name),
+    ]
+}
+
+/// Explains an address that is the first or the last of its network.
+fn explain_end(source: Source<'_>, document: &Table, key: Key) -> Option<String> {
+    let address = ip_of(document, key)?;
+    let length = prefix_length(document, network_section(document, key)?).ok()?;
+    let end = if is_network_address(address, length) {
+        "the network itself"
+    } else {
+        "the broadcast address"
+    };
+    source.explanation(format_args!(
+        "{key} is {address}; with {length} bits of prefix that is {end}"
+    ))
 }

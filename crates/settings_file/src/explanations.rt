@@ -1,14 +1,11 @@
 //! What is wrong with a text of settings, in words.
 
-use crate::SettingFault;
 use crate::explained_keys::{explain_missing, explain_unknown};
 use crate::explained_settings::{explain_overlap, explain_shared, explain_unworkable};
 use crate::explained_values::explain_bad_value;
-use crate::neighbour_cursor::NeighbourCursor;
-use crate::reading::well_formed_settings;
-use crate::values::Values;
+use crate::{Key, SettingFault};
 use std::alloc::Global;
-use std::fmt::Display;
+use std::fmt::{self, Display, Formatter};
 use toml::Table;
 use toml::de::Error;
 
@@ -27,13 +24,28 @@ impl Source<'_> {
     }
 }
 
+/// A key as explanations name it: `inside.prefix`, or `ip of [[neighbour]] 2`.
+#[derive(Clone, Copy)]
+pub(crate) struct Place(pub(crate) Key);
+
+impl Display for Place {
+    fn fmt<W: fmt::Write>(&self, f: &mut Formatter<W>) -> fmt::Result {
+        match (self.0.name, self.0.neighbour) {
+            (Some(name), Some(index)) => {
+                let (text, number) = (name.as_str(), index.saturating_add(1));
+                write!(f, "{text} of [[neighbour]] {number}")
+            }
+            _ => Display::fmt(&self.0, f),
+        }
+    }
+}
+
 /// Explains the faults of a text of settings in plain words.
 #[derive(Drop)]
 pub struct Explainer<'a> {
     source: Source<'a>,
     text: &'a str,
     document: Result<Table, Error>,
-    cursor: NeighbourCursor,
 }
 
 impl<'a> Explainer<'a> {
@@ -43,45 +55,33 @@ impl<'a> Explainer<'a> {
             source: Source { alloc, path },
             text,
             document: toml::table_from_str(alloc, text),
-            cursor: NeighbourCursor::new(),
         }
     }
 
-    /// Returns where a fault lies and what is wrong there, as `S.toml: inside.prefix is 31; 8 to 30`. Returns None
-    /// where the text doesn't have the fault, and out of memory.
-    ///
-    /// Several neighbours may have the same fault. The first call explains that of the first one, as
-    /// [`read`](crate::read) returns it; calls in the order of [`examine`](crate::examine) explain each.
-    pub fn explain(&mut self, fault: &SettingFault) -> Option<String> {
-        let source = self.source;
-        let document = match &self.document {
-            Ok(document) => document,
-            Err(error) => return explain_syntax(source, self.text, error),
-        };
-        match fault {
-            SettingFault::Missing(key) => explain_missing(source, document, *key, &mut self.cursor),
-            SettingFault::BadValue(key) => {
-                explain_bad_value(source, document, *key, &mut self.cursor)
-            }
-            SettingFault::UnknownKey(path) => explain_unknown(source, document, path.as_str()),
-            SettingFault::RangesOverlap => {
-                let values = Values::read(source.alloc, document).ok()?;
-                explain_overlap(source, &values)
-            }
-            SettingFault::SameIds => {
-                let values = Values::read(source.alloc, document).ok()?;
-                explain_shared(source, &values)
-            }
-            SettingFault::CantWork(key) => {
-                let settings = well_formed_settings(source.alloc, document).ok()?;
-                explain_unworkable(source, document, &settings, *key, &mut self.cursor)
-            }
-            SettingFault::NotToml | SettingFault::NoMemory => None,
+    /// Returns where a fault of the text lies and what is wrong there, as `S.toml: inside.prefix is 31; 8 to 30`. Returns
+    /// None out of memory, or where the text doesn't have the key of the fault.
+    pub fn explain(&self, fault: &SettingFault) -> Option<String> {
+        match &self.document {
+            Ok(document) => explain_fault(self.source, document, fault),
+            Err(error) => explain_syntax(self.source, self.text, error),
         }
     }
 }
 
-/// Returns where a text stops being TOML, and what is wrong there.
+/// Explains a fault of a document.
+fn explain_fault(source: Source<'_>, document: &Table, fault: &SettingFault) -> Option<String> {
+    match fault {
+        SettingFault::UnknownKey(path) => explain_unknown(source, document, path.as_str()),
+        SettingFault::Missing(key) => explain_missing(source, document, *key),
+        SettingFault::BadValue(key) => explain_bad_value(source, document, *key),
+        SettingFault::RangesOverlap => explain_overlap(source, document),
+        SettingFault::SameIds => explain_shared(source, document),
+        SettingFault::CantWork(key) => explain_unworkable(source, document, *key),
+        SettingFault::NotToml | SettingFault::NoMemory => None,
+    }
+}
+
+/// Explains where a text stops being TOML, and what is wrong there.
 fn explain_syntax(source: Source<'_>, text: &str, error: &Error) -> Option<String> {
     let span = error.span()?;
     let (line, column) = position(text.as_bytes().get(..span.start)?);

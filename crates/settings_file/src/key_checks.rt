@@ -1,6 +1,6 @@
 //! Lists of keys, each with whether its value passes a check.
 ghost use Rattle.std.specs.Prelude.{◌≡◌, ◌++◌, OnOk};
-ghost use Rattle.settings_file.specs.Faults.{all_bad, first, first_bad};
+ghost use Rattle.settings_file.specs.Faults.{all_bad, first};
 
 use crate::Key;
 use std::alloc::AllocError;
@@ -19,18 +19,6 @@ pub fn add_failing(rows: &[(Key, bool)], found: &mut Vec<Key>) -> Result<(), All
         }
     }
     Ok(())
-}
-
-/// Returns the key of the first row that doesn't pass.
-pub(crate) fn first_failing(rows: &[(Key, bool)]) -> Option<Key>
-    ensures { result ≡ first_bad rows.now }
-{
-    for (key, passes) in rows {
-        if !*passes {
-            return Some(*key);
-        }
-    }
-    None
 }
 
 /// Returns the first of some keys.

@@ -1,6 +1,6 @@
 //! The keys of settings, and their texts.
 ghost use Rattle.std.specs.Prelude.{◌≡◌};
-ghost use Rattle.settings_file.specs.Keys.{section_text, name_text, key, whole};
+ghost use Rattle.settings_file.specs.Keys.{section_text, name_text, key, neighbour_key, whole};
 
 use std::fmt;
 
@@ -103,6 +103,8 @@ impl Name {
 pub struct Key {
     pub section: Section,
     pub name: Option<Name>,
+    /// The place in the list of neighbours, from 0, of the neighbour whose key this is.
+    pub neighbour: Option<usize>,
 }
 
 impl Key {
@@ -113,6 +115,18 @@ impl Key {
         Key {
             section,
             name: Some(name),
+            neighbour: None,
+        }
+    }
+
+    /// Returns the key of this name of a neighbour, by its place in the list, from 0.
+    pub fn of_neighbour(index: usize, name: Name) -> Key
+        ensures { result ≡ neighbour_key index name }
+    {
+        Key {
+            section: Section::Neighbour,
+            name: Some(name),
+            neighbour: Some(index),
         }
     }
 
@@ -123,11 +137,12 @@ impl Key {
         Key {
             section,
             name: None,
+            neighbour: None,
         }
     }
 }
 
-/// Prints the path of the key, as `inside.prefix`, or `neighbour` for the whole list.
+/// Prints the path of the key, as `inside.prefix`, `neighbour.ip` of any neighbour, or `neighbour` for the whole list.
 impl fmt::Display for Key {
     fn fmt<W: fmt::Write>(&self, f: &mut fmt::Formatter<W>) -> fmt::Result {
         f.write_str(self.section.as_str())?;

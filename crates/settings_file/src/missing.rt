@@ -1,10 +1,10 @@
 //! The required keys that a document lacks.
 ghost use Rattle.std.specs.Prelude.{◌≡◌, ◌++◌, filter, map, IfOk, OnOk};
 ghost use Rattle.toml.specs.View.{table_view, view};
-ghost use Rattle.settings_file.specs.Missing.{required, lacks, all_missing};
+ghost use Rattle.settings_file.specs.Missing.{required, lacks, all_missing, first_missing};
 ghost use Rattle.settings_file.specs.Neighbours.{all_missing_from};
 
-use crate::key_checks::add_failing;
+use crate::key_checks::{add_failing, first};
 use crate::{Key, Name, Section, fields, neighbours};
 use std::alloc::{AllocError, Global};
 use toml::{Table, Value};
@@ -63,10 +63,10 @@ fn add_missing(document: &Table, keys: &[Key], found: &mut Vec<Key>) -> Result<(
 /// Adds the keys that the tables of neighbours lack.
 fn add_missing_from(tables: &[Value], found: &mut Vec<Key>) -> Result<(), AllocError>
     ensures items { OnOk result
-        (found.new.items ≡ found.old.items ++ all_missing_from (map view tables.now)) }
+        (found.new.items ≡ found.old.items ++ all_missing_from 0 (map view tables.now)) }
 {
-    for table in tables {
-        add_failing(&neighbours::present_rows(table), found)?;
+    for (index, table) in tables.iter().enumerate() {
+        add_failing(&neighbours::present_rows(index, table), found)?;
     }
     Ok(())
 }
@@ -83,4 +83,13 @@ pub(crate) fn missing_keys(alloc: Global, document: &Table) -> Result<Vec<Key>, 
         None => {}
     }
     Ok(found)
+}
+
+/// Returns the first required key that is missing.
+#[tactic(auto, unfolding(crate::specs::Missing::first_missing))]
+pub(crate) fn first_missing(alloc: Global, document: &Table) -> Result<Option<Key>, AllocError>
+    ensures { IfOk result (λ found. found ≡ first_missing (table_view document.now)) }
+{
+    let keys = missing_keys(alloc, document)?;
+    Ok(first(keys.as_slice()))
 }

@@ -3,8 +3,7 @@ ghost use Rattle.std.specs.Prelude.{◌≡◌, ◌≤◌, Some, length, map, is_
 ghost use Rattle.std.specs.List.{list_all};
 ghost use Rattle.toml.specs.Data.{as_str};
 ghost use Rattle.toml.specs.View.{table_view, view};
-ghost use Rattle.settings_file.specs.declared.keys.Section.TheVariants as sections;
-ghost use Rattle.settings_file.specs.Keys.{key};
+ghost use Rattle.settings_file.specs.Keys.{neighbour_key};
 ghost use Rattle.settings_file.specs.Document.{is_table};
 ghost use Rattle.settings_file.specs.Faults.{FindsBad, FindsBadValue};
 ghost use Rattle.settings_file.specs.Neighbours.{tables_in, neighbours_of, field_of, present_rows, side_named, side_of, ip_of, mac_at_of, bad_neighbour, bad_in, bad_neighbours, neighbour_in};
@@ -64,25 +63,25 @@ pub(crate) fn field_of(neighbour: &Value, name: Name) -> Option<&Value>
     }
 }
 
-/// Returns a key of a neighbour, and whether the neighbour has it.
-fn present_row(neighbour: &Value, name: Name) -> (Key, bool)
-    ensures key { result.0 ≡ key sections.Neighbour name }
+/// Returns a key of the neighbour at a place of the list, and whether the neighbour has it.
+fn present_row(index: usize, neighbour: &Value, name: Name) -> (Key, bool)
+    ensures key { result.0 ≡ neighbour_key index name }
     ensures present { result.1 ≡ is_some (field_of (view neighbour.now) name) }
 {
     (
-        Key::new(Section::Neighbour, name),
+        Key::of_neighbour(index, name),
         field_of(neighbour, name).is_some(),
     )
 }
 
-/// Returns the keys of a neighbour, each with whether the neighbour has it.
-pub(crate) fn present_rows(neighbour: &Value) -> [(Key, bool); 3]
-    ensures { result ≡ present_rows (view neighbour.now) }
+/// Returns the keys of the neighbour at a place of the list, each with whether the neighbour has it.
+pub(crate) fn present_rows(index: usize, neighbour: &Value) -> [(Key, bool); 3]
+    ensures { result ≡ present_rows index (view neighbour.now) }
 {
     [
-        present_row(neighbour, Name::Side),
-        present_row(neighbour, Name::Ip),
-        present_row(neighbour, Name::Mac),
+        present_row(index, neighbour, Name::Side),
+        present_row(index, neighbour, Name::Ip),
+        present_row(index, neighbour, Name::Mac),
     ]
 }
 
@@ -141,19 +140,24 @@ pub(crate) fn mac_of(neighbour: &Value) -> Option<Mac>
     }
 }
 
-/// Returns the neighbour of a table, whose address lies in the network of its side.
+/// Returns the neighbour of the table at a place of the list. Its address lies in the network of its side.
 ///
 /// # Errors
 ///
 /// The first key whose value is bad.
 #[tactic(auto, unfolding(crate::specs::Neighbours::bad_neighbour, crate::specs::Neighbours::neighbour_in))]
-fn neighbour(table: &Value, inside: Prefix, outside: Prefix) -> Result<Neighbour, Key>
+fn neighbour(
+    index: usize,
+    table: &Value,
+    inside: Prefix,
+    outside: Prefix,
+) -> Result<Neighbour, Key>
     ensures ok { IfOk result (λ n. neighbour_in (view table.now) ≡ Some n) }
     ensures bad { FindsBad (bad_neighbour (Some (inside.address.0, inside.length))
-        (Some (outside.address.0, outside.length)) (view table.now)) result }
+        (Some (outside.address.0, outside.length)) index (view table.now)) result }
 {
     let Some(side) = side_of(table) else {
-        return Err(Key::new(Section::Neighbour, Name::Side));
+        return Err(Key::of_neighbour(index, Name::Side));
     };
     let network = match side {
         Side::Inside => inside,
@@ -161,11 +165,11 @@ fn neighbour(table: &Value, inside: Prefix, outside: Prefix) -> Result<Neighbour
     };
     let ip = match ip_of(table) {
         Some(ip) if fields::is_in(ip, network) => ip,
-        _ => return Err(Key::new(Section::Neighbour, Name::Ip)),
+        _ => return Err(Key::of_neighbour(index, Name::Ip)),
     };
     match mac_of(table) {
         Some(mac) => Ok(Neighbour { side, ip, mac }),
-        None => Err(Key::new(Section::Neighbour, Name::Mac)),
+        None => Err(Key::of_neighbour(index, Name::Mac)),
     }
 }
 
@@ -179,11 +183,11 @@ fn neighbours_in(
     ensures ok { IfOk result (λ v. map Some v.items ≡ map neighbour_in (map view tables.now)) }
     ensures len { IfOk result (λ v. vec_len v ≡ length tables.now) }
     ensures bad { FindsBadValue (bad_in (Some (inside.address.0, inside.length))
-        (Some (outside.address.0, outside.length)) (map view tables.now)) result }
+        (Some (outside.address.0, outside.length)) 0 (map view tables.now)) result }
 {
     let mut neighbours = Vec::new(alloc);
-    for table in tables {
-        let neighbour = neighbour(table, inside, outside)?;
+    for (index, table) in tables.iter().enumerate() {
+        let neighbour = neighbour(index, table, inside, outside)?;
         neighbours.push(neighbour)?;
     }
     Ok(neighbours)

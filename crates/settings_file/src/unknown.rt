@@ -5,7 +5,7 @@ ghost use Rattle.toml.specs.Data.{as_table};
 ghost use Rattle.toml.specs.View.{table_view, view};
 ghost use Rattle.settings_file.specs.declared.keys.Section.TheVariants.{Neighbour};
 ghost use Rattle.settings_file.specs.Neighbours.{tables_in};
-ghost use Rattle.settings_file.specs.Unknown.{has_text, is_known, section_named, path, unknown_in, unknown_at, unknown_from, unknown_neighbour, unknown_under, unknown_of, lesser, least_from};
+ghost use Rattle.settings_file.specs.Unknown.{names_of, has_text, is_known, section_named, path, unknown_in, unknown_at, unknown_from, unknown_neighbour, unknown_under, unknown_of, lesser, least_from, first_unknown};
 
 use crate::{Name, Section, neighbours};
 use std::alloc::{AllocError, Global};
@@ -73,23 +73,10 @@ fn any_has_text(names: &[Name], text: &str) -> bool
     false
 }
 
-/// Whether a section has a key of this text.
-#[tactic(auto, unfolding(crate::specs::Unknown::is_known))]
-fn is_known(section: Section, text: &str) -> bool
-    ensures { result ≡ is_known section text.now }
+/// Returns the keys of a section, in the order of the text.
+pub(crate) fn keys_of(section: Section) -> &'static [Name]
+    ensures { result.now ≡ names_of section }
 {
-    match section {
-        Section::Ports => any_has_text(&PORTS_KEYS, text),
-        Section::Inside => any_has_text(&INSIDE_KEYS, text),
-        Section::Outside => any_has_text(&OUTSIDE_KEYS, text),
-        Section::Icmp => any_has_text(&ICMP_KEYS, text),
-        Section::GatewayZero | Section::GatewayOne => any_has_text(&GATEWAY_KEYS, text),
-        Section::Neighbour => any_has_text(&NEIGHBOUR_KEYS, text),
-    }
-}
-
-/// Returns the keys of a section.
-pub(crate) fn keys_of(section: Section) -> &'static [Name] {
     match section {
         Section::Ports => &PORTS_KEYS,
         Section::Inside => &INSIDE_KEYS,
@@ -98,6 +85,14 @@ pub(crate) fn keys_of(section: Section) -> &'static [Name] {
         Section::GatewayZero | Section::GatewayOne => &GATEWAY_KEYS,
         Section::Neighbour => &NEIGHBOUR_KEYS,
     }
+}
+
+/// Whether a section has a key of this text.
+#[tactic(auto, unfolding(crate::specs::Unknown::is_known))]
+fn is_known(section: Section, text: &str) -> bool
+    ensures { result ≡ is_known section text.now }
+{
+    any_has_text(keys_of(section), text)
 }
 
 /// Returns the section of this name.
@@ -253,8 +248,18 @@ pub(crate) fn unknown_keys(alloc: Global, document: &Table) -> Result<Vec<String
     Ok(found)
 }
 
+/// Returns the least path, by its bytes, of a key that settings don't have.
+#[tactic(auto, unfolding(crate::specs::Unknown::first_unknown))]
+pub(crate) fn first_unknown(alloc: Global, document: &Table) -> Result<Option<String>, AllocError>
+    ensures { IfOk result
+        (λ found. option_map string_bytes found ≡ first_unknown (table_view document.now)) }
+{
+    let paths = unknown_keys(alloc, document)?;
+    Ok(least(paths))
+}
+
 /// Returns the least of some paths by their bytes.
-pub(crate) fn least(paths: Vec<String>) -> Option<String>
+fn least(paths: Vec<String>) -> Option<String>
     ensures { option_map string_bytes result ≡ least_from None (map string_bytes paths.items) }
 {
     let mut found = None;

@@ -1,9 +1,8 @@
 //! The settings whose values can never work, as an address that no host has.
 ghost use Rattle.std.specs.Prelude.{◌≡◌, ◌≤◌, ◌++◌, IfOk, OnOk};
-ghost use Rattle.std.specs.List.{flat_map};
-ghost use Rattle.settings_file.specs.Works.{is_first, is_last, is_host_address, is_group, is_station, is_ours, network_rows, gateway_rows, neighbour_rows, all_of_neighbour, all_that_cant};
+ghost use Rattle.settings_file.specs.Works.{is_first, is_last, is_host_address, is_group, is_station, is_ours, network_rows, gateway_rows, neighbour_rows, all_of_neighbours, all_that_cant, cant_work};
 
-use crate::key_checks::add_failing;
+use crate::key_checks::{add_failing, first};
 use crate::{Key, Name, Section};
 use addresses::{Ip, Mac};
 use nat_types::Side;
@@ -26,7 +25,7 @@ pub fn is_network_address(address: Ip, length: u8) -> bool
 
 /// Whether an address is the last of its network, its broadcast address.
 #[tactic(auto, unfolding(crate::specs::Works::is_last, crate::specs::Document::is_in))]
-pub(crate) fn is_broadcast_address(address: Ip, length: u8) -> bool
+fn is_broadcast_address(address: Ip, length: u8) -> bool
     requires { length ≤ 32 }
     ensures { result ≡ is_last length address.0 }
 {
@@ -59,7 +58,7 @@ fn is_station(mac: Mac) -> bool
 }
 
 /// Whether an address is the pair's own on a side: the virtual one or a gateway's.
-pub(crate) fn is_ours(settings: &Settings, side: Side, address: Ip) -> bool
+fn is_ours(settings: &Settings, side: Side, address: Ip) -> bool
     ensures { result ≡ is_ours settings.now side address.0 }
 {
     let Settings { zero, one, .. } = settings;
@@ -134,18 +133,18 @@ fn gateway_rows(
     ]
 }
 
-/// Returns the keys of a neighbour, each with whether its value can work.
+/// Returns the keys of the neighbour at a place of the list, each with whether its value can work.
 #[tactic(auto, unfolding(crate::specs::Works::neighbour_rows))]
-fn neighbour_rows(settings: &Settings, neighbour: &Neighbour) -> [(Key, bool); 2]
-    ensures { result ≡ neighbour_rows settings.now neighbour.now }
+fn neighbour_rows(settings: &Settings, index: usize, neighbour: &Neighbour) -> [(Key, bool); 2]
+    ensures { result ≡ neighbour_rows settings.now index neighbour.now }
 {
     [
         (
-            Key::new(Section::Neighbour, Name::Ip),
+            Key::of_neighbour(index, Name::Ip),
             !is_ours(settings, neighbour.side, neighbour.ip),
         ),
         (
-            Key::new(Section::Neighbour, Name::Mac),
+            Key::of_neighbour(index, Name::Mac),
             !is_group(neighbour.mac),
         ),
     ]
@@ -158,10 +157,10 @@ fn add_neighbours(
     found: &mut Vec<Key>,
 ) -> Result<(), AllocError>
     ensures items { OnOk result (found.new.items
-        ≡ found.old.items ++ flat_map (all_of_neighbour settings.now) neighbours.now) }
+        ≡ found.old.items ++ all_of_neighbours settings.now 0 neighbours.now) }
 {
-    for neighbour in neighbours {
-        add_failing(&neighbour_rows(settings, neighbour), found)?;
+    for (index, neighbour) in neighbours.iter().enumerate() {
+        add_failing(&neighbour_rows(settings, index, neighbour), found)?;
     }
     Ok(())
 }
@@ -182,4 +181,15 @@ pub(crate) fn keys_that_cant_work(
     add_failing(&rows, &mut found)?;
     add_neighbours(settings, settings.neighbours.as_slice(), &mut found)?;
     Ok(found)
+}
+
+/// Returns the first key, in the order of the text, whose value can never work.
+pub(crate) fn first_that_cant_work(
+    alloc: Global,
+    settings: &Settings,
+) -> Result<Option<Key>, AllocError>
+    ensures { IfOk result (λ found. found ≡ cant_work settings.now) }
+{
+    let keys = keys_that_cant_work(alloc, settings)?;
+    Ok(first(keys.as_slice()))
 }

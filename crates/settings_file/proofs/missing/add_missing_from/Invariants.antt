@@ -4,5 +4,5 @@ use Rattle.settings_file.specs.Neighbours.{all_missing_from}
 use Rattle.settings_file.proofs.missing.add_missing_from.Given as goal
 
 -- what is found, and what is left, is all
-abbrev pub invariant-loop-table : goal.invariant-loop-table
-invariant-loop-table l = l.found.items ++ all_missing_from (map view (drop l.table-index l.tables)) ≡ l.fn.found.items ++ all_missing_from (map view l.tables)
+abbrev pub invariant-loop-index : goal.invariant-loop-index
+invariant-loop-index l = l.found.items ++ all_missing_from l.index (map view (drop l.index l.tables)) ≡ l.fn.found.items ++ all_missing_from 0 (map view l.tables)
