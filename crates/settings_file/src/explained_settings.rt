@@ -29,9 +29,9 @@ enum Id {
 impl Display for Id {
     fn fmt<W: fmt::Write>(&self, f: &mut Formatter<W>) -> fmt::Result {
         match self {
-            Id::Ip(ip) => write!(f, "{ip}"),
-            Id::Mac(mac) => write!(f, "{mac}"),
-            Id::Port(port) => write!(f, "{port}"),
+            Id::Ip(ip) => Display::fmt(ip, f),
+            Id::Mac(mac) => Display::fmt(mac, f),
+            Id::Port(port) => Display::fmt(port, f),
         }
     }
 }

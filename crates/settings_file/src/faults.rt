@@ -3,42 +3,48 @@
 use crate::Key;
 use crate::shown::Visible;
 use std::alloc::{AllocError, AllocFailed};
+use std::error::Error;
 use std::fmt;
-use thiserror::Error;
 
-/// The reason for which a text has no settings. Its `Display` is a number, a name and a key, as
-/// `2 Missing outside.router`.
+/// The reason for which a text has no settings.
 ///
 /// Faults are looked for in this order: `NotToml`, `UnknownKey`, `Missing`, `BadValue`, `RangesOverlap`, `SameIds`,
 /// `CantWork`. Of several missing keys, bad values or keys that can't work the fault has the first in the order of the
 /// keys.
-#[derive(Drop, Error)]
+#[derive(Drop)]
 pub enum SettingFault {
     /// The text isn't TOML.
-    #[error("1 NotToml")]
     NotToml,
     /// A required key is missing.
-    #[error("2 Missing {0}")]
     Missing(Key),
     /// The value has another type than the key's, or lies beyond its limits.
-    #[error("3 BadValue {0}")]
     BadValue(Key),
     /// The two gateways' port ranges share a port.
-    #[error("4 RangesOverlap")]
     RangesOverlap,
     /// The two gateways share an address, a MAC or a loopback port, or one has a virtual address.
-    #[error("5 SameIds")]
     SameIds,
-    /// The text has a key that settings don't have. Of several paths this is the least by bytes. It is printed with `?` for
-    /// each control character.
-    #[error("6 UnknownKey {}", Visible(.0.as_str()))]
+    /// The text has a key that settings don't have. Of several paths this is the least by bytes.
     UnknownKey(String),
     /// The value can never work, as an address that no host has.
-    #[error("7 CantWork {0}")]
     CantWork(Key),
     /// Out of memory.
-    #[error("1 NoMemory")]
     NoMemory,
+}
+
+/// Prints a number, a name and a key, as `2 Missing outside.router`. An unknown key has `?` for each control character.
+impl fmt::Display for SettingFault {
+    fn fmt<W: fmt::Write>(&self, f: &mut fmt::Formatter<W>) -> fmt::Result {
+        match self {
+            SettingFault::NotToml => f.write_str("1 NotToml"),
+            SettingFault::Missing(key) => write!(f, "2 Missing {key}"),
+            SettingFault::BadValue(key) => write!(f, "3 BadValue {key}"),
+            SettingFault::RangesOverlap => f.write_str("4 RangesOverlap"),
+            SettingFault::SameIds => f.write_str("5 SameIds"),
+            SettingFault::UnknownKey(path) => write!(f, "6 UnknownKey {}", Visible(path.as_str())),
+            SettingFault::CantWork(key) => write!(f, "7 CantWork {key}"),
+            SettingFault::NoMemory => f.write_str("1 NoMemory"),
+        }
+    }
 }
 
 /// Prints the text of `Display`.
@@ -47,6 +53,8 @@ impl fmt::Debug for SettingFault {
         fmt::Display::fmt(self, f)
     }
 }
+
+impl Error for SettingFault {}
 
 impl From<AllocError> for SettingFault {
     ghost use Rattle.std.specs.Prelude.{◌≡◌};

@@ -13,9 +13,9 @@ pub(crate) struct Shown<'a>(pub(crate) &'a Value);
 impl Display for Shown<'_> {
     fn fmt<W: fmt::Write>(&self, f: &mut Formatter<W>) -> fmt::Result {
         match self.0 {
-            Value::Integer(number) => write!(f, "{number}"),
-            Value::Boolean(flag) => write!(f, "{flag}"),
-            Value::String(text) => write!(f, "{}", Quoted(text.as_str())),
+            Value::Integer(number) => Display::fmt(number, f),
+            Value::Boolean(flag) => Display::fmt(flag, f),
+            Value::String(text) => Display::fmt(&Quoted(text.as_str()), f),
             Value::Array(list) => match list.as_slice() {
                 [Value::Integer(low), Value::Integer(high)] => write!(f, "[{low}, {high}]"),
                 _ => f.write_str("a list"),
