@@ -17,9 +17,7 @@ use Rattle.settings_file.specs.Neighbours.{neighbours_of, neighbour_in, bad_neig
 use Rattle.settings_file.specs.Values.{IsRange, IsLimit, IsInterface, IsIcmp, IsGateway}
 use Rattle.settings_file.specs.Missing.{first_missing}
 use Rattle.settings_file.specs.Unknown.{first_unknown}
-use Rattle.settings_file.specs.Works.{Works, all_that_cant, cant_work}
-use Rattle.settings_file.specs.declared.examinations.Examination.{Examination}
-use Rattle.settings_file.specs.declared.examinations.Examination.TheVariants as examinations
+use Rattle.settings_file.specs.Works.{Works, cant_work}
 
 -- settings that stand at the keys of a document
 pub record HoldsValues (t : Members) (settings : Settings) : Type 0 where
@@ -133,8 +131,3 @@ Tells document faults.NoMemory = Unit {0}
 -- settings of a text: it holds them, and they can work
 abbrev pub IsReadFrom : Option Members → Settings → Type 0
 IsReadFrom document settings = IsHeld document settings × Works settings
-
--- an examination that found settings has those that the text holds, and all of their keys that can't work
-abbrev pub HasRead : Option Members → Examination → Type 0
-HasRead document (examinations.WellFormed settings unworkable) = IsHeld document settings × (unworkable.items ≡ all_that_cant settings)
-HasRead document _ = Unit {0}

@@ -1,8 +1,4 @@
 //! All faults of a text of settings.
-ghost use Rattle.std.specs.Prelude.{Some, IfOk};
-ghost use Rattle.toml.specs.Parse.{parse_document};
-ghost use Rattle.toml.specs.View.{table_view};
-ghost use Rattle.settings_file.specs.Settings.{HasRead};
 
 use crate::bad_values::bad_values;
 use crate::missing::missing_keys;
@@ -41,9 +37,7 @@ pub enum Examination {
 /// # Errors
 ///
 /// Out of memory.
-pub fn examine(alloc: Global, text: &str) -> Result<Examination, AllocError>
-    ensures { IfOk result (HasRead (parse_document text.now)) }
-{
+pub fn examine(alloc: Global, text: &str) -> Result<Examination, AllocError> {
     match toml::table_from_str(alloc, text) {
         Ok(document) => examine_document(alloc, &document),
         Err(fault) if fault.is_memory() => Err(AllocError),
@@ -51,27 +45,36 @@ pub fn examine(alloc: Global, text: &str) -> Result<Examination, AllocError>
     }
 }
 
-fn examine_document(alloc: Global, document: &Table) -> Result<Examination, AllocError>
-    ensures { IfOk result (HasRead (Some (table_view document.now))) }
-{
+/// Finds all faults of a document's first kind.
+fn examine_document(alloc: Global, document: &Table) -> Result<Examination, AllocError> {
     match well_formed_settings(alloc, document) {
-        Ok(settings) => {
-            let unworkable = keys_that_cant_work(alloc, &settings)?;
-            Ok(Examination::WellFormed {
-                settings,
-                unworkable,
-            })
-        }
-        Err(SettingFault::UnknownKey(_)) => {
-            Ok(Examination::UnknownKeys(unknown_keys(alloc, document)?))
-        }
-        Err(SettingFault::Missing(_)) => {
-            Ok(Examination::MissingKeys(missing_keys(alloc, document)?))
-        }
-        Err(SettingFault::BadValue(_)) => Ok(Examination::BadValues(bad_values(alloc, document)?)),
-        Err(SettingFault::RangesOverlap) => Ok(Examination::RangesOverlap),
-        Err(SettingFault::SameIds) => Ok(Examination::SameIds),
-        Err(SettingFault::NotToml) => Ok(Examination::NotToml),
-        Err(SettingFault::CantWork(_) | SettingFault::NoMemory) => Err(AllocError),
+        Ok(settings) => examine_settings(alloc, settings),
+        Err(fault) => examine_fault(alloc, document, &fault),
+    }
+}
+
+/// Finds all keys of settings whose values can never work.
+fn examine_settings(alloc: Global, settings: Settings) -> Result<Examination, AllocError> {
+    let unworkable = keys_that_cant_work(alloc, &settings)?;
+    Ok(Examination::WellFormed {
+        settings,
+        unworkable,
+    })
+}
+
+/// Finds all faults of a kind of which a document has one.
+fn examine_fault(
+    alloc: Global,
+    document: &Table,
+    fault: &SettingFault,
+) -> Result<Examination, AllocError> {
+    match fault {
+        SettingFault::NotToml => Ok(Examination::NotToml),
+        SettingFault::UnknownKey(_) => unknown_keys(alloc, document).map(Examination::UnknownKeys),
+        SettingFault::Missing(_) => missing_keys(alloc, document).map(Examination::MissingKeys),
+        SettingFault::BadValue(_) => bad_values(alloc, document).map(Examination::BadValues),
+        SettingFault::RangesOverlap => Ok(Examination::RangesOverlap),
+        SettingFault::SameIds => Ok(Examination::SameIds),
+        SettingFault::CantWork(_) | SettingFault::NoMemory => Err(AllocError),
     }
 }
