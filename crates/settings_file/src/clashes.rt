@@ -39,13 +39,14 @@ pub fn port_clash(settings: &Settings, id: GatewayId, on: OnLoopback) -> Option<
     };
     let [inside_wire, outside_wire] = wire_rows(settings);
     let [link, inside, outside] = own_rows(section, settings.gateway(id));
-    first_clash(&[
+    let rows = [
         row_if(on.inside, inside_wire),
         row_if(on.outside, outside_wire),
         row_if(on.link, link),
         row_if(on.inside, inside),
         row_if(on.outside, outside),
-    ])
+    ];
+    first_clash(&rows)
 }
 
 /// Returns a row without its port where its place isn't on loopback.

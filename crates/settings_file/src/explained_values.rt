@@ -4,7 +4,7 @@ use crate::bad_values::network_of;
 use crate::explained_keys::explain_no_section;
 use crate::explanations::{Place, Source};
 use crate::fields::{Limits, entry, is_port, list};
-use crate::limits::{limits_of, prefix_length};
+use crate::limits::limits_of;
 use crate::lookups::{ip_of, network_section, value_of};
 use crate::neighbours::{self, MAX_NEIGHBOURS};
 use crate::shown::Shown;

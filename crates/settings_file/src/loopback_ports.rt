@@ -75,9 +75,10 @@ fn needed_by(id: GatewayId, on: OnLoopback) -> [bool; 8] {
 /// Returns the first key, in the order of the text, of a loopback port that a box needs and that settings leave out.
 pub fn missing_port(settings: &Settings, id: GatewayId, on: OnLoopback) -> Option<Key> {
     let needed = needed_by(id, on);
-    for (index, (key, port)) in port_rows(settings).iter().enumerate() {
-        if needed[index] && port.is_none() {
-            return Some(*key);
+    let rows = port_rows(settings);
+    for (row, needed) in rows.iter().zip(&needed) {
+        if *needed && row.1.is_none() {
+            return Some(row.0);
         }
     }
     None
@@ -133,9 +134,10 @@ pub fn add_left_out_ports(settings: &Settings, found: &mut Vec<Key>) -> Result<(
         link,
     } = places_with_ports(settings);
     let needed = [inside, outside, link, inside, outside, link, inside, outside];
-    for (index, (key, port)) in port_rows(settings).iter().enumerate() {
-        if needed[index] && port.is_none() {
-            found.push(*key)?;
+    let rows = port_rows(settings);
+    for (row, needed) in rows.iter().zip(&needed) {
+        if *needed && row.1.is_none() {
+            found.push(row.0)?;
         }
     }
     Ok(())
