@@ -5,7 +5,7 @@ use Rattle.settings_file.specs.declared.faults.SettingFault.{SettingFault}
 use Rattle.settings_file.specs.declared.faults.SettingFault.TheVariants as faults
 use Rattle.settings_file.specs.declared.values.Values.{Values}
 use Rattle.settings_file.specs.Assembled.{AreValues, IsAssembled, TellsValues, overlap_of, same_ids_of}
-use Rattle.settings_file.specs.Faults.{TellsBad, first}
+use Rattle.settings_file.specs.Faults.{TellsBad}
 use Rattle.toml.specs.Data.{Data, Members}
 use Rattle.settings.specs.declared.ranges.PortRange.{PortRange}
 use Rattle.settings.specs.declared.gateway_settings.GatewaySettings.{GatewaySettings}
@@ -17,8 +17,8 @@ use Rattle.settings_file.specs.declared.keys.Name.TheVariants.{Zero, One, Virtua
 use Rattle.settings_file.specs.declared.keys.Key.{Key}
 use Rattle.settings_file.specs.Document.{address_at, number_at, number_in, optional_at, or_default, value_of}
 use Rattle.settings_file.specs.Values.{IsRange, IsGateway}
-use Rattle.settings_file.specs.Missing.{all_missing, first_missing}
-use Rattle.settings_file.specs.Unknown.{first_unknown, least_from, unknown_of}
+use Rattle.settings_file.specs.Missing.{first_missing}
+use Rattle.settings_file.specs.Unknown.{first_unknown}
 use Rattle.settings_file.specs.Works.{Works, cant_work}
 use Rattle.settings_file.specs.Settings.{overlap, shares_port, shares_id, first_bad_value, refusal_of, HoldsValues, IsReadFrom, Tells, unknown_key, missing, bad_value, ranges_overlap, same_ids as same_ids_refusal}
 use Rattle.settings_file.specs.Ids.{same_ids}
@@ -95,20 +95,6 @@ refuses_ids : (t : Members) → first_unknown t ≡ None → first_missing t ≡
     → shares_port t ≡ false → shares_id t ≡ true → refusal_of t ≡ Some same_ids_refusal
 unfolding refusal_of
 refuses_ids t u m b p i = rw (u, m, b, p, i) refl
-
--- the least of the unknown paths, and the first of the missing keys
-pub found_unknown : (t : Members) (paths : List (List ℕ)) (found : Option (List ℕ)) → paths ≡ unknown_of t → found ≡ least_from None paths
-    → first_unknown t ≡ found
-unfolding first_unknown
-found_unknown t paths found is h = ap (λ l. least_from None l) (sym is) ∙ sym h
-
-pub found_first : (all items shown : List Key) (found : Option Key) → items ≡ all → shown ≡ items → found ≡ first shown → first all ≡ found
-found_first all items shown found is same h = ap first (sym is) ∙ ap first (sym same) ∙ sym h
-
-pub found_missing : (t : Members) (items shown : List Key) (found : Option Key) → items ≡ all_missing t → shown ≡ items → found ≡ first shown
-    → first_missing t ≡ found
-unfolding first_missing
-found_missing t items shown found is same h = found_first (all_missing t) items shown found is same h
 
 -- a fault that is passed on
 pub passed_on : {T E : Type 0} (r : Result T E) (e : E) (P : E → Type 0) → IsErrAnd r (λ y. y ≡ e) → P e → IfErr r P

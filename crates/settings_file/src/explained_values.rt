@@ -9,7 +9,7 @@ use crate::lookups::{ip_of, network_section, value_of};
 use crate::neighbours::{self, MAX_NEIGHBOURS};
 use crate::shown::Shown;
 use crate::{Key, Name, Section};
-use addresses::Prefix;
+use addresses::{Ip, Prefix};
 use std::fmt::{self, Display, Formatter};
 use toml::{Table, Value};
 
@@ -85,8 +85,8 @@ enum Wanted {
     Within(Limits),
     /// A number within limits, where the value is something else.
     Number(Limits),
-    /// An address in a network.
-    AddressIn(Prefix),
+    /// An address in the network of another one, and the length of its prefix.
+    AddressIn(Ip, u8),
 }
 
 impl Display for Wanted {
@@ -95,8 +95,8 @@ impl Display for Wanted {
             Wanted::Text(text) => f.write_str(text),
             Wanted::Within(Limits { low, high }) => write!(f, "{low} to {high}"),
             Wanted::Number(Limits { low, high }) => write!(f, "a whole number, {low} to {high}"),
-            Wanted::AddressIn(network) => {
-                write!(f, "an address in the network of {}", NetworkOf(*network))
+            Wanted::AddressIn(address, length) => {
+                write!(f, "an address in the network of {address}/{length}")
             }
         }
     }
@@ -140,7 +140,7 @@ fn wanted_range(value: &Value) -> &'static str {
 /// Returns what the value at the key of an address has to be.
 fn wanted_address(document: &Table, key: Key) -> Wanted {
     match (ip_of(document, key), network_for(document, key)) {
-        (Some(_), Some(network)) => Wanted::AddressIn(network),
+        (Some(_), Some(network)) => Wanted::AddressIn(network.address, network.length),
         _ => Wanted::Text("an IPv4 address, as \"192.0.2.1\""),
     }
 }
