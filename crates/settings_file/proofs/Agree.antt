@@ -1,5 +1,5 @@
 -- What a document shares is what its values share, and the first refusal by its parts.
-use Rattle.std.proofs.Common.{◌≡◌, ◌∙◌, ℕ, List, false, true, Option, Some, None, option_map, option_and_then, Result, Ok, Err, IfOk, IfErr, IsErrAnd, OnOk, ap, refl, sym, subst}
+use Rattle.std.proofs.Common.{◌≡◌, ◌∙◌, ℕ, List, false, true, Option, Some, None, option_map, option_and_then, Result, Ok, Err, IfOk, IfErr, IsErrAnd, OnOk, refl, sym, subst}
 use Rattle.std.proofs.lemmas.Option.{none-some, same_Some}
 use Rattle.settings_file.specs.declared.faults.SettingFault.{SettingFault}
 use Rattle.settings_file.specs.declared.faults.SettingFault.TheVariants as faults

@@ -2,8 +2,9 @@
 
 use crate::key_checks::add_failing;
 use crate::neighbours::{self, MAX_NEIGHBOURS};
+use crate::sections::{is_apart, is_section};
 use crate::unknown::keys_of;
-use crate::{Key, Name, Section, fields, limits, sections};
+use crate::{Key, Name, Section, fields, limits};
 use addresses::Prefix;
 use nat_types::Side;
 use std::alloc::{AllocError, Global};
@@ -53,7 +54,7 @@ fn add_bad(
     networks: Networks,
     found: &mut Vec<Key>,
 ) -> Result<(), AllocError> {
-    if !sections::is_section(document, section) {
+    if !is_section(document, section) {
         found.push(Key::whole(section))?;
     }
     for name in keys_of(section) {
@@ -95,19 +96,15 @@ fn is_good_prefix(document: &Table, section: Section, inside: Option<Prefix>) ->
     let Ok(length) = limits::prefix_length(document, section) else {
         return false;
     };
-    match (section, inside, fields::address_at(document, section, Name::Virtual)) {
-        (Section::Outside, Some(inside), Some(address)) => sections::is_apart(inside, address, length),
+    let address = fields::address_at(document, section, Name::Virtual);
+    match (section, inside, address) {
+        (Section::Outside, Some(inside), Some(address)) => is_apart(inside, address, length),
         _ => true,
     }
 }
 
 /// Whether an address is good. It lies in its network, where that is known.
-fn is_good_host(
-    document: &Table,
-    section: Section,
-    name: Name,
-    network: Option<Prefix>,
-) -> bool {
+fn is_good_host(document: &Table, section: Section, name: Name, network: Option<Prefix>) -> bool {
     match network {
         Some(network) => fields::required_host(document, section, name, network).is_ok(),
         None => fields::required_address(document, section, name).is_ok(),

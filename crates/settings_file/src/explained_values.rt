@@ -60,12 +60,7 @@ fn explain_outside_prefix(source: Source<'_>, document: &Table, key: Key) -> Opt
 }
 
 /// Explains a value by what it has to be.
-fn explain_value(
-    source: Source<'_>,
-    document: &Table,
-    key: Key,
-    name: Name,
-) -> Option<String> {
+fn explain_value(source: Source<'_>, document: &Table, key: Key, name: Name) -> Option<String> {
     let value = value_of(document, key)?;
     let wanted = match limits_of(name) {
         Some(limits) if value.is_integer() => Wanted::Within(limits),

@@ -45,7 +45,10 @@ pub(crate) fn port_rows(settings: &Settings) -> [PortRow; 8] {
 pub(crate) fn wire_rows(settings: &Settings) -> [PortRow; 2] {
     [
         (Key::new(Section::Inside, Name::Wire), settings.inside.wire),
-        (Key::new(Section::Outside, Name::Wire), settings.outside.wire),
+        (
+            Key::new(Section::Outside, Name::Wire),
+            settings.outside.wire,
+        ),
     ]
 }
 
@@ -133,7 +136,9 @@ pub fn add_left_out_ports(settings: &Settings, found: &mut Vec<Key>) -> Result<(
         outside,
         link,
     } = places_with_ports(settings);
-    let needed = [inside, outside, link, inside, outside, link, inside, outside];
+    let needed = [
+        inside, outside, link, inside, outside, link, inside, outside,
+    ];
     let rows = port_rows(settings);
     for (row, needed) in rows.iter().zip(&needed) {
         if *needed && row.1.is_none() {

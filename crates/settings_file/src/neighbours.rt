@@ -146,12 +146,7 @@ pub(crate) fn mac_of(neighbour: &Value) -> Option<Mac>
 ///
 /// The first key whose value is bad.
 #[tactic(auto, unfolding(crate::specs::Neighbours::bad_neighbour, crate::specs::Neighbours::neighbour_in))]
-fn neighbour(
-    index: usize,
-    table: &Value,
-    inside: Prefix,
-    outside: Prefix,
-) -> Result<Neighbour, Key>
+fn neighbour(index: usize, table: &Value, inside: Prefix, outside: Prefix) -> Result<Neighbour, Key>
     ensures ok { IfOk result (λ n. neighbour_in (view table.now) ≡ Some n) }
     ensures bad { FindsBad (bad_neighbour (Some (inside.address.0, inside.length))
         (Some (outside.address.0, outside.length)) index (view table.now)) result }
