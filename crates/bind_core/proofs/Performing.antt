@@ -39,7 +39,7 @@ use Rattle.spec_binding.specs.declared.changes.Change.TheVariants.{Keep, Add, Tu
 use Rattle.spec_binding.specs.declared.changes.Transition.{Transition}
 use Rattle.spec_binding.specs.Books.{Book, IsBook, is_any, is_promised, is_synced, load_of, empty_book}
 use Rattle.spec_binding.specs.Rows.{after, changed, with_gained, is_gained, numbers_of, row_of, carry_row, use_row, used_row, quiet, answered, taken_book, taken_answer, taken_ended, taken_what, unsynced_after, unsynced_what, load_taken, load_what, noted_by, stage_after}
-use Rattle.spec_binding.specs.WellFormed.{Fits, HasPair}
+use Rattle.spec_binding.specs.WellFormed.{Fits, HasOwnPair}
 use Rattle.spec_binding.specs.declared.setups.Stage.{Stage}
 use Rattle.spec_binding.specs.declared.setups.Stage.TheVariants.{Lone, Paired, Unsynced}
 use Rattle.nat_types.specs.declared.records.Record.TheVariants as rec
@@ -153,16 +153,16 @@ pub coming-after : (laws : SteadyLaws) (cursor : Cursor) (now : ℕ) (ch : Chang
 coming-after laws cursor now ch c t2 keys are is same =
     ap (coming cursor) same ∙ still-coming laws cursor now ch c.table keys (λ h. steady-table c ch (is (ap is_any are ∙ h))) ∙ sym are
 
-has-pair : (c : Core) (k : Key) → HasPair (book_of c) k → HasPair (table_book c.table) k
-has-pair c k is = record { entry = is.entry; found = is.found; pair = is.pair }
+has-own : (c : Core) (k : Key) → HasOwnPair (book_of c) k → HasOwnPair (table_book c.table) k
+has-own c k is = record { entry = is.entry; found = is.found; own = is.own }
 
 pub fits-table : (c : Core) (ch : Change) → Fits (book_of c) ch → Fits (table_book c.table) ch
 fits-table c Keep is = tt
-fits-table c (Add e) is = record { key = is.key; endpoint = is.endpoint; within = is.within; formed = is.formed }
-fits-table c (Turn k s) is = has-pair c k is
-fits-table c (Renew k) is = has-pair c k is
+fits-table c (Add e) is = record { key = is.key; endpoint = is.endpoint; side = is.side; within = is.within; formed = is.formed }
+fits-table c (Turn k s) is = (has-own c k is.0, is.1)
+fits-table c (Renew k) is = has-own c k is
 fits-table c (Drop k) is = tt
-fits-table c (Yield q p) is = record { entry = is.entry; found = is.found; pair = is.pair; endpoint = is.endpoint; key = is.key; within = is.within; formed = is.formed }
+fits-table c (Yield q p) is = record { entry = is.entry; found = is.found; own = is.own; endpoint = is.endpoint; held = is.held; key = is.key; side = is.side; within = is.within; formed = is.formed }
 fits-table c Want is = refl
 fits-table c (Give g) is = record { most = is.most; distinct = is.distinct; spare = is.spare; formed = is.formed }
 fits-table c (Gain g) is = tt
@@ -262,7 +262,7 @@ load-book c r t2 p2 s2 cs ok stage comes zero one =
     ∙ sym (ap (load_taken (book_of c) r) ok)
   where
     of : Stage → List Record → PortBounds → PortBounds → Book
-    of s cs z o = record { id = c.id; zero = z; one = o; limit = c.limit; stage = s; begun = p2.begun; named = p2.named; entries = t2.entries; owned = t2.owned; wants = c.wants; coming = cs }
+    of s cs z o = record { id = c.id; zero = z; one = o; limit = c.limit; alone = c.alone; stage = s; begun = p2.begun; named = p2.named; entries = t2.entries; owned = t2.owned; wants = c.wants; coming = cs }
 
 unpaired : (b : Book) → is_synced b.stage ≡ false → IsBook b → is_promised b ≡ true → ⊥
 unpaired b h is promised = let paired : is_synced b.stage ≡ true = ap is_synced (is.promised promised) in cc
@@ -340,9 +340,9 @@ none-owned : (xs : List ℕ) → ((p : ℕ) → is_listed p xs ≡ false) → xs
 none-owned [] h = refl
 none-owned (x ∷ xs) h = let here = or_left (x == x) (is_listed x xs) (eq-eqb x x refl) in let none = h x in cc
 
-pub empty-is : (id : GatewayId) (zero one : PortBounds) (limit : Option ℕ) (t : Table) (p : Progress) → t.zero ≡ zero → t.one ≡ one → t.entries ≡ [] → ((port : ℕ) → is_listed port t.owned ≡ false) → p ≡ progress.fresh zero one
-    → (let b : Book = record { id = id; zero = t.zero; one = t.one; limit = limit; stage = Unsynced; begun = p.begun; named = p.named; entries = t.entries; owned = t.owned; wants = false; coming = [] } in b) ≡ empty_book id zero one limit
-empty-is id zero one limit t p z o es owned is =
+pub empty-is : (id : GatewayId) (zero one : PortBounds) (limit : Option ℕ) (alone : ℕ) (t : Table) (p : Progress) → t.zero ≡ zero → t.one ≡ one → t.entries ≡ [] → ((port : ℕ) → is_listed port t.owned ≡ false) → p ≡ progress.fresh zero one
+    → (let b : Book = record { id = id; zero = t.zero; one = t.one; limit = limit; alone = alone; stage = Unsynced; begun = p.begun; named = p.named; entries = t.entries; owned = t.owned; wants = false; coming = [] } in b) ≡ empty_book id zero one limit alone
+empty-is id zero one limit alone t p z o es owned is =
     ap (λ (x : Progress). of t.zero t.one x.begun x.named t.entries t.owned) is
     ∙ ap (λ (x : PortBounds). of x t.one false 0 t.entries t.owned) z
     ∙ ap (λ (x : PortBounds). of zero x false 0 t.entries t.owned) o
@@ -350,7 +350,7 @@ empty-is id zero one limit t p z o es owned is =
     ∙ ap (λ (x : List ℕ). of zero one false 0 [] x) (none-owned t.owned owned)
   where
     of : PortBounds → PortBounds → Bool → ℕ → List Entry → List ℕ → Book
-    of z o begun named entries owned = record { id = id; zero = z; one = o; limit = limit; stage = Unsynced; begun = begun; named = named; entries = entries; owned = owned; wants = false; coming = [] }
+    of z o begun named entries owned = record { id = id; zero = z; one = o; limit = limit; alone = alone; stage = Unsynced; begun = begun; named = named; entries = entries; owned = owned; wants = false; coming = [] }
 
 pub revived-book : (c : Core) (t2 : Table) (stage : Stage) (cursor : Cursor) → t2 ≡ record c.table { entries = t2.entries; lives = t2.lives } → t2.entries ≡ revived_entries c.table.entries
     → book_of (record c { table = t2; stage = stage; wants = false; coming = coming cursor t2 }) ≡ revived_with stage cursor c
@@ -366,10 +366,10 @@ put_alone_is now c c1 c2 book lives hashers is =
     ∙ ap (λ (l : Ledger). let l2 : Ledger = record l { lives = map (life_renewed now) l.lives } in l2) (ledger-parts c1 _ _ _ book lives hashers)
 
 pub restarted-synced : (b : Book) → is_synced b.stage ≡ true → restarted b ≡ record (revived b) { stage = Paired; coming = restart_batch b }
-restarted-synced b h = ap (λ (t : Bool). let x : Book = cond t (record (revived b) { stage = Paired; coming = restart_batch b }) (empty_book b.id b.zero b.one b.limit) in x) h
+restarted-synced b h = ap (λ (t : Bool). let x : Book = cond t (record (revived b) { stage = Paired; coming = restart_batch b }) (empty_book b.id b.zero b.one b.limit b.alone) in x) h
 
-pub restarted-bare : (b : Book) → is_synced b.stage ≡ false → restarted b ≡ empty_book b.id b.zero b.one b.limit
-restarted-bare b h = ap (λ (t : Bool). let x : Book = cond t (record (revived b) { stage = Paired; coming = restart_batch b }) (empty_book b.id b.zero b.one b.limit) in x) h
+pub restarted-bare : (b : Book) → is_synced b.stage ≡ false → restarted b ≡ empty_book b.id b.zero b.one b.limit b.alone
+restarted-bare b h = ap (λ (t : Bool). let x : Book = cond t (record (revived b) { stage = Paired; coming = restart_batch b }) (empty_book b.id b.zero b.one b.limit b.alone) in x) h
 
 pub restarted-ledger : (c c2 : Core) → is_synced c.stage ≡ true → book_of c2 ≡ restarted (book_of c) → c2.table.lives ≡ lives_of_pairs c.table.entries c.table.lives → c2.table.hashers ≡ c.table.hashers → ledger_of c2 ≡ restarted_ledger (ledger_of c)
 restarted-ledger c c2 h book lives hashers =
@@ -382,9 +382,9 @@ bare-ledger c c2 h book lives hashers =
     (lives ∙ sym (ap (λ (t : Bool). let ls : List Activity = cond t (lives_of_pairs c.table.entries c.table.lives) [] in ls) h)) hashers
 
 pub forgotten : (c : Core) (t2 : Table) (p : Progress) (zero one : PortBounds) → t2 ≡ record c.table { entries = []; lives = []; owned = [] } → c.table.zero ≡ zero → c.table.one ≡ one → p ≡ progress.fresh zero one
-    → (let b : Book = record { id = c.id; zero = t2.zero; one = t2.one; limit = c.limit; stage = Unsynced; begun = p.begun; named = p.named; entries = t2.entries; owned = t2.owned; wants = false; coming = [] } in b) ≡ empty_book c.id c.table.zero c.table.one c.limit
+    → (let b : Book = record { id = c.id; zero = t2.zero; one = t2.one; limit = c.limit; alone = c.alone; stage = Unsynced; begun = p.begun; named = p.named; entries = t2.entries; owned = t2.owned; wants = false; coming = [] } in b) ≡ empty_book c.id c.table.zero c.table.one c.limit c.alone
 forgotten c t2 p zero one same z o is =
-    empty-is c.id c.table.zero c.table.one c.limit t2 p (ap (λ (t : Table). t.zero) same) (ap (λ (t : Table). t.one) same) (ap (λ (t : Table). t.entries) same) (λ port. ap (λ (t : Table). is_listed port t.owned) same)
+    empty-is c.id c.table.zero c.table.one c.limit c.alone t2 p (ap (λ (t : Table). t.zero) same) (ap (λ (t : Table). t.one) same) (ap (λ (t : Table). t.entries) same) (λ port. ap (λ (t : Table). is_listed port t.owned) same)
     (is ∙ ap (λ (x : PortBounds). progress.fresh x one) (sym z) ∙ ap (λ (x : PortBounds). progress.fresh c.table.zero x) (sym o))
 
 pub link-synced : (b : Book) (e : Link) → is_synced b.stage ≡ true → restart_link b e ≡ with_promised e (length (restart_batch b))
@@ -394,10 +394,13 @@ pub link-bare : (b : Book) (e : Link) → is_synced b.stage ≡ false → restar
 link-bare b e h = ap (λ (t : Bool). let x : Link = cond t (with_promised e (length (restart_batch b))) e in x) h
 
 used-quiet : (b : Book) (e : Link) (p : Pair) (s : EntryState) → (after b (used_row p s) ≡ b) × (answered e (used_row p s).answer ≡ e)
-used-quiet b e p state.Pending = (refl, refl)
+used-quiet b e p (state.Pending true) = (refl, refl)
+used-quiet b e p (state.Pending false) = (refl, refl)
 used-quiet b e p state.Doomed = (refl, refl)
 used-quiet b e p state.Live = (refl, refl)
-used-quiet b e p state.Closing = (refl, refl)
+used-quiet b e p (state.Closing true) = (refl, refl)
+used-quiet b e p (state.Closing false) = (refl, refl)
+used-quiet b e p state.Alone = (refl, refl)
 used-quiet b e p state.Held = (refl, refl)
 
 -- a packet changes nothing of the book, and nothing is pushed

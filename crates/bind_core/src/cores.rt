@@ -16,11 +16,12 @@ ghost use Rattle.link.specs.Link.{Link as End};
 ghost use Rattle.nat_types.specs.declared.records.Record.{Record as Rec};
 ghost use Rattle.spec_binding.specs.Machine.{Stands, Works};
 ghost use Rattle.spec_binding.specs.Books.{IsBook, is_synced as is_synced_at};
-ghost use Rattle.spec_binding.specs.Books.{is_lone as is_lone_at, is_promised};
+ghost use Rattle.spec_binding.specs.Books.{is_apart as is_apart_at, is_lone as is_lone_at, is_promised};
 ghost use Rattle.spec_binding.specs.WellFormed.{Fits};
-ghost use Rattle.spec_binding.specs.Rows.{is_theirs as is_theirs_port, proposed_row, install_row};
+ghost use Rattle.spec_binding.specs.Rows.{is_takeable as is_takeable_in, proposed_row, install_row};
+ghost use Rattle.spec_binding.specs.Rows.{alone_row, told_row};
 ghost use Rattle.spec_binding.specs.Rows.{grant_row, want_row, none_row, synced_row, new_wish};
-ghost use Rattle.spec_binding.specs.Rows.{is_at_limit as is_at_limit_in, unknown_wish};
+ghost use Rattle.spec_binding.specs.Rows.{is_at_limit as is_at_limit_in};
 ghost use Rattle.spec_binding.specs.Rows.{wish_of, carry_row, noted_by, after, answered, is_full};
 ghost use Rattle.spec_binding.specs.Rows.{idle_row, row_of, unsynced_after, unsynced_what};
 ghost use Rattle.spec_binding.specs.Rows.{quiet as quiet_row, wish as wish_with};
@@ -32,11 +33,13 @@ ghost use Rattle.spec_binding.specs.Books.{empty_book, founded_book};
 ghost use Rattle.nat_types.specs.declared.gateways.GatewayId.TheVariants.{Zero};
 ghost use Rattle.spec_binding.specs.Resets.{back_in, put_alone as put_alone_book, retaken};
 ghost use Rattle.bindings.specs.declared.entries.Entry.{Entry as Known};
-ghost use Rattle.bindings.specs.Entries.{is_pair, slot_of};
+ghost use Rattle.bindings.specs.Entries.{entry_of, is_pair, is_sought, slot_of};
+ghost use Rattle.bindings.specs.Lists.{first_after};
 ghost use Rattle.bindings.specs.Revivals.{lives_of_pairs};
 ghost use Rattle.resync.specs.Loading.{loaded};
 ghost use Rattle.spec_binding.specs.Books.{load_of};
 ghost use Rattle.spec_binding.specs.Ledgers.{alone_ledger, carried_ledger, lives_loaded, rests_for};
+ghost use Rattle.spec_binding.specs.Ledgers.{sought, sought_keys};
 ghost use Rattle.spec_binding.specs.Resets.{restart_batch};
 ghost use Rattle.bind_core.specs.Cores.{book_of, carries_pair, core_after, ledger_of};
 ghost use Rattle.bind_core.specs.Cores.{owned_of, revived_with};
@@ -52,8 +55,8 @@ use crate::grants::{choose_granted, higher, lower};
 use crate::loads::{loading_of, stage_after};
 use crate::resets::note_back;
 use crate::rows::{
-    accept, answering, ask, carry, ending, gives_way, is_lone, is_synced, known, no, quiet, refuse,
-    release, row, wish, yes,
+    accept, add_row, answering, ask, carry, ending, gives_way, is_lone, is_paired, is_synced, known,
+    no, paired, quiet, refuse, release, row, seek, taking, wish, yes,
 };
 use activity::{Packet, Remote, Way};
 use addresses::{Ip, Port, TcpFlags};
@@ -77,6 +80,8 @@ pub struct Core {
     table: Table,
     /// The most pairs that one inside address may have; None where there is no limit.
     limit: Option<u16>,
+    /// After how many centiseconds without an answer of the peer the gateway is apart; 0 is never.
+    alone: u16,
     stage: Stage,
     /// The progress of loading the table from the peer's batch.
     loading: Loading,
@@ -84,7 +89,8 @@ pub struct Core {
     wants: bool,
     /// The place in the promised batch up to which records are drawn.
     cursor: Cursor,
-    /// The keys that the last tick found idle; kept so that a tick takes no memory.
+    /// The keys that a tick listed last, of idle pairs or of those to mark or to tell; kept so that a
+    /// tick takes no memory.
     idle: Vec<Key>,
 }
 
@@ -127,6 +133,16 @@ impl Core {
         is_lone(self.stage)
     }
 
+    /// Whether the gateway goes on without the peer: it is synced and not lone, and for `alone`
+    /// centiseconds the peer hasn't answered.
+    pub fn is_apart(&self, link: &Link, now: u64) -> bool
+        ensures { result ≡ is_apart_at (book_of self.now) link.now now }
+    {
+        is_paired(self.stage)
+            && self.alone != 0
+            && u64::from(self.alone) <= now.saturating_sub(link.answered())
+    }
+
     /// Returns the gateway's table.
     pub fn table(&self) -> &Table
         ensures { result.now ≡ self.now.table }
@@ -134,16 +150,18 @@ impl Core {
         &self.table
     }
 
-    /// Whether the table has exactly this pair, Live or Held. Looks at the pair's key alone. `want`
-    /// changes nothing for the endpoint of such a pair, and answers its port at a gateway that is
-    /// synced.
+    /// Whether the table has exactly this pair, and translates with it. Looks at the pair's key
+    /// alone. `want` changes nothing for the endpoint of such a pair, and answers its port at a gateway
+    /// that is synced, where it is the endpoint's pair.
     #[inline(always)]
     pub fn carries(&self, pair: Pair) -> bool
         ensures exact { result ≡ carries_pair (book_of self.now) pair }
-        ensures quiet { result ≡ true → (full : Bool)
-            → (wish_of (book_of self.now) full pair.endpoint).row ≡ quiet_row }
-        ensures port { result ≡ true → is_synced_at self.now.stage ≡ true → (full : Bool)
-            → wish_of (book_of self.now) full pair.endpoint
+        ensures quiet { result ≡ true → (apart full : Bool)
+            → (wish_of (book_of self.now) apart full pair.endpoint).row ≡ quiet_row }
+        ensures port { result ≡ true → is_synced_at self.now.stage ≡ true
+            → entry_of self.now.table.entries pair.endpoint
+            ≡ slot_of self.now.table.entries pair.key → (apart full : Bool)
+            → wish_of (book_of self.now) apart full pair.endpoint
             ≡ wish_with (PortOf pair.key.port) quiet_row }
     {
         self.table.recall();
@@ -152,26 +170,28 @@ impl Core {
 
     // ---- the record table
 
-    fn is_theirs(&self, port: Port) -> bool
-        ensures { result ≡ is_theirs_port (book_of self.now) port.0 }
+    /// Whether a pair of the peer's may be taken: its key is the peer's and has no entry, and its
+    /// endpoint has no Held pair.
+    fn is_takeable(&self, pair: Pair) -> bool
+        ensures { result ≡ is_takeable_in (book_of self.now) pair }
     {
-        lies_in_either(self.bounds, port) && !self.table.owns(port)
+        lies_in_either(self.bounds, pair.key.port)
+            && !self.table.owns(pair.key.port)
+            && self.table.pair_of_port(pair.key).is_none()
+            && self.table.held_of(pair.endpoint).is_none()
     }
 
     fn proposed(&self, pair: Pair, other: Option<Entry>) -> Transition
         ensures { result ≡ proposed_row (book_of self.now) pair other }
     {
-        let accept = Some(Record::Accept(pair.key));
-        let retaken = Some(NoteKind::Retaken(pair));
         match other {
-            None => {
-                let state = EntryState::Held;
-                row(Change::Add(Entry { pair, state }), accept, retaken)
-            }
+            None => taking(pair),
             Some(entry) => {
                 if gives_way(self.id, entry.state) {
                     let change = Change::Yield(entry.pair.key, pair);
-                    ending(pair.endpoint, row(change, accept, retaken))
+                    let accept = Some(Record::Accept(pair.key));
+                    let row = row(change, accept, Some(NoteKind::Retaken(pair)));
+                    ending(pair.endpoint, row)
                 } else {
                     answering(Record::Refuse(pair.key))
                 }
@@ -182,8 +202,18 @@ impl Core {
     fn install(&self, pair: Pair) -> Transition
         ensures { result ≡ install_row (book_of self.now) pair }
     {
-        if self.is_theirs(pair.key.port) && self.table.pair_of_port(pair.key).is_none() {
+        if self.is_takeable(pair) {
             self.proposed(pair, self.table.port_of(pair.endpoint))
+        } else {
+            answering(Record::Refuse(pair.key))
+        }
+    }
+
+    fn told(&self, pair: Pair) -> Transition
+        ensures { result ≡ told_row (book_of self.now) pair }
+    {
+        if self.is_takeable(pair) {
+            taking(pair)
         } else {
             answering(Record::Refuse(pair.key))
         }
@@ -222,12 +252,13 @@ impl Core {
             Record::No(key) => no(self.table.pair_of_port(key)),
             Record::Want => self.want_taken(),
             Record::Grant(granted) => self.grant_taken(granted),
+            Record::Tell(pair) => self.told(pair),
             Record::Begin | Record::Put(_) | Record::Done | Record::Owner { .. } => quiet(),
         }
     }
 
-    /// Whether the record is an Ask of a pair that is idle, or came by Install and carried nothing
-    /// since.
+    /// Whether the record is an Ask of a pair that is idle, or came by Install or Tell and carried
+    /// nothing since.
     fn rests(&self, entry: &Record, now: u64) -> bool
         ensures { result ≡ rests_for now (ledger_of self.now) entry.now }
     {
@@ -253,7 +284,7 @@ impl Core {
 
     // ---- wishes
 
-    fn no_port(&self, full: bool) -> Transition
+    pub(crate) fn no_port(&self, full: bool) -> Transition
         ensures { result ≡ none_row (book_of self.now) full }
     {
         if !is_lone(self.stage) && !self.wants && !full {
@@ -263,40 +294,20 @@ impl Core {
         }
     }
 
-    fn new_pair(&self, full: bool, pair: Pair) -> PortRequest
-        ensures { result ≡ new_wish (book_of self.now) full pair.endpoint (Some pair.key.port) }
+    pub(crate) fn new_pair(&self, apart: bool, full: bool, pair: Pair) -> PortRequest
+        ensures { result ≡ new_wish (book_of self.now) apart full pair.endpoint (Some
+            pair.key.port) }
     {
         if is_lone(self.stage) {
-            let state = EntryState::Live;
-            let change = Change::Add(Entry { pair, state });
-            let row = row(change, None, Some(NoteKind::Retaken(pair)));
+            let what = Some(NoteKind::Retaken(pair));
+            let row = add_row(pair, EntryState::Live, None, what);
             return wish(Want::Port(pair.key.port), row);
         }
-        if full {
-            return wish(Want::NotNow, quiet());
-        }
-        let state = EntryState::Pending;
-        let change = Change::Add(Entry { pair, state });
-        wish(Want::Wait, row(change, Some(Record::Install(pair)), None))
-    }
-
-    fn new_wish_for(&self, full: bool, endpoint: Endpoint, port: Option<Port>) -> PortRequest
-        ensures { result ≡ new_wish (book_of self.now) full endpoint port }
-    {
-        match port {
-            None => wish(Want::NoPort, self.no_port(full)),
-            Some(port) => {
-                let key = Key {
-                    protocol: endpoint.protocol,
-                    port,
-                };
-                self.new_pair(full, Pair::new(key, endpoint.address, endpoint.port))
-            }
-        }
+        paired(apart, full, pair)
     }
 
     /// Whether an inside address has as many pairs as it may have, or more: those of both gateways count.
-    fn is_at_limit(&self, address: Ip) -> bool
+    pub(crate) fn is_at_limit(&self, address: Ip) -> bool
         ensures { result ≡ is_at_limit_in (book_of self.now) address }
     {
         match self.limit {
@@ -305,37 +316,27 @@ impl Core {
         }
     }
 
-    /// Returns the answer and the row for an endpoint without a pair.
-    fn unknown_wish_for(&self, full: bool, endpoint: Endpoint) -> PortRequest
-        ensures { result ≡ unknown_wish (book_of self.now) full endpoint }
-    {
-        if self.is_at_limit(endpoint.address) {
-            return wish(Want::HostLimit, quiet());
-        }
-        let parity = endpoint.port.parity();
-        let port = self.table.free_like(endpoint.protocol, parity);
-        self.new_wish_for(full, endpoint, port)
-    }
-
     #[inline(always)]
-    pub(crate) fn wish_for(&self, full: bool, endpoint: Endpoint) -> PortRequest
-        ensures { result ≡ wish_of (book_of self.now) full endpoint }
+    pub(crate) fn wish_for(&self, apart: bool, full: bool, endpoint: Endpoint) -> PortRequest
+        ensures { result ≡ wish_of (book_of self.now) apart full endpoint }
     {
         if !is_synced(self.stage) {
             return wish(Want::NotNow, quiet());
         }
         match self.table.port_of(endpoint) {
             Some(entry) => known(entry.pair, entry.state),
-            None => self.unknown_wish_for(full, endpoint),
+            None => self.unknown_wish_for(apart, full, endpoint),
         }
     }
 
     /// Returns what `want` would answer, and changes nothing.
     #[inline(always)]
-    pub fn look(&self, link: &Link, endpoint: Endpoint) -> Want
-        ensures { result ≡ (wish_of (book_of self.now) (is_full link.now) endpoint).answer }
+    pub fn look(&self, link: &Link, endpoint: Endpoint, now: u64) -> Want
+        ensures { let apart = is_apart_at (book_of self.now) link.now now
+            in result ≡ (wish_of (book_of self.now) apart (is_full link.now) endpoint).answer }
     {
-        self.wish_for(is_link_full(link), endpoint).answer
+        let apart = self.is_apart(link, now);
+        self.wish_for(apart, is_link_full(link), endpoint).answer
     }
 
     // ---- what a row does
@@ -460,6 +461,44 @@ impl Core {
         }
     }
 
+    // ---- going on alone
+
+    pub(crate) fn alone_row_of(&self, apart: bool, full: bool, key: Key) -> Transition
+        ensures { result ≡ alone_row (book_of self.now) apart full key }
+    {
+        if is_paired(self.stage) {
+            seek(apart, full, self.table.pair_of_port(key))
+        } else {
+            quiet()
+        }
+    }
+
+    fn next_sought(&self, apart: bool, last: Option<Key>) -> Option<Entry>
+        ensures { result ≡ first_after (is_sought (sought apart)) last self.now.table.entries }
+    {
+        if apart {
+            self.table.waiting_after(last)
+        } else {
+            self.table.alone_after(last)
+        }
+    }
+
+    /// Lists the keys of the entries to mark, where the gateway is apart, or else of those of which
+    /// the peer is to be told. Where there are none, no entry is looked at.
+    pub(crate) fn list_sought(&mut self, apart: bool)
+        ensures { self.new ≡ record self.old {
+          idle = sought_keys apart self.old.table.entries;
+        } }
+    {
+        self.table.recall();
+        self.idle.clear();
+        let mut last = None;
+        while let Some(entry) = self.next_sought(apart, last) {
+            last = Some(entry.pair.key);
+            self.idle.push_reserved(entry.pair.key);
+        }
+    }
+
     pub(crate) fn idle_key_at(&self, i: usize) -> Key
         requires { i < length self.now.idle }
         ensures { slice_get self.now.idle i ≡ Some result }
@@ -576,8 +615,8 @@ impl Core {
 
     // ---- resets
 
-    /// Makes all pairs that were proposed or asked to be closed translate again, notes them, and
-    /// sets the stage and the place in the batch.
+    /// Makes all pairs that were proposed, asked to be closed or made alone Live, notes them, and sets
+    /// the stage and the place in the batch.
     pub(crate) fn revive(&mut self, stage: Stage, cursor: Cursor, now: u64, notes: &mut Vec<Note>)
         requires kept { IsBook (revived_with stage cursor self.old) }
         requires reserved { vec_len notes.old + length self.old.table.entries
@@ -599,7 +638,7 @@ impl Core {
         self.cursor = cursor;
     }
 
-    /// Makes the gateway lone: all pairs that were proposed or asked to be closed translate again,
+    /// Makes the gateway lone: all pairs that were proposed, asked to be closed or made alone are Live
     /// and are noted, and the life of each pair begins anew.
     #[tactic(auto, using(crate::proofs::Performing::put_alone_is))]
     pub(crate) fn put_alone(&mut self, now: u64, notes: &mut Vec<Note>)
@@ -629,9 +668,10 @@ impl Core {
 
     /// Empties the table; the gateway isn't synced then, and has loaded nothing.
     pub(crate) fn forget(&mut self)
-        requires kept { let b = book_of self.old in IsBook (empty_book b.id b.zero b.one b.limit) }
+        requires kept { let b = book_of self.old
+            in IsBook (empty_book b.id b.zero b.one b.limit b.alone) }
         ensures book { let b = book_of self.old
-            in book_of self.new ≡ empty_book b.id b.zero b.one b.limit }
+            in book_of self.new ≡ empty_book b.id b.zero b.one b.limit b.alone }
         ensures lives { self.new.table.lives ≡ [] }
         ensures hashers { self.new.table.hashers ≡ self.old.table.hashers }
         ensures ready { self.new.table.ready ≡ self.old.table.ready }
@@ -660,20 +700,22 @@ impl Core {
 
     /// Returns the core of a gateway without a table. `zero` and `one` are the ranges of gateway 0
     /// and gateway 1; `limit` is the most pairs that one inside address may have, None for any
-    /// number. Takes all the memory of the core but that of `ready` and `owned`; fails where there
-    /// isn't enough.
+    /// number; after `alone` centiseconds without an answer of the peer it is apart, 0 is never.
+    /// Takes all the memory of the core but that of `ready` and `owned`; fails where there isn't
+    /// enough.
     pub fn unsynced(
         alloc: Global,
         id: GatewayId,
         zero: PortBounds,
         one: PortBounds,
         limit: Option<u16>,
+        alone: u16,
         hashers: Hashers,
     ) -> Result<Core, AllocError>
         requires zero { AreBounds zero }
         requires one { AreBounds one }
         ensures ledger { IfOk result (λ c. ledger_of c ≡ record {
-          book = empty_book id zero one limit;
+          book = empty_book id zero one limit alone;
           lives = [];
           hashers = hashers;
         }) }
@@ -690,6 +732,7 @@ impl Core {
             bounds: Bounds { zero, one },
             table,
             limit,
+            alone,
             stage: Stage::Unsynced,
             loading: Loading::new(zero, one),
             wants: false,
@@ -698,26 +741,27 @@ impl Core {
         })
     }
 
-    /// Returns the core of gateway 0, founded alone, which owns the ports of its range. The limit
-    /// and the Err are those of `unsynced`.
+    /// Returns the core of gateway 0, founded alone, which owns the ports of its range. The
+    /// limit, `alone` and the Err are those of `unsynced`.
     pub fn founder(
         alloc: Global,
         zero: PortBounds,
         one: PortBounds,
         limit: Option<u16>,
+        alone: u16,
         hashers: Hashers,
     ) -> Result<Core, AllocError>
         requires zero { AreBounds zero }
         requires one { AreBounds one }
         ensures ledger { IfOk result (λ c. ledger_of c ≡ record {
-          book = founded_book zero one limit;
+          book = founded_book zero one limit alone;
           lives = [];
           hashers = hashers;
         }) }
         ensures hashers { IfOk result (λ c. c.table.hashers ≡ hashers) }
         ensures refused { OnErr result (LacksCore zero one) }
     {
-        let mut core = Core::unsynced(alloc, GatewayId::Zero, zero, one, limit, hashers)?;
+        let mut core = Core::unsynced(alloc, GatewayId::Zero, zero, one, limit, alone, hashers)?;
         core.found(zero, one);
         Ok(core)
     }
@@ -725,8 +769,10 @@ impl Core {
     fn found(&mut self, zero: PortBounds, one: PortBounds)
         requires zero { AreBounds zero }
         requires one { AreBounds one }
-        requires empty { book_of self.old ≡ empty_book Zero zero one self.old.limit }
-        ensures book { book_of self.new ≡ founded_book zero one self.old.limit }
+        requires empty { book_of self.old
+            ≡ empty_book Zero zero one self.old.limit self.old.alone }
+        ensures book { book_of self.new
+            ≡ founded_book zero one self.old.limit self.old.alone }
         ensures lives { self.new.table.lives ≡ self.old.table.lives }
         ensures hashers { self.new.table.hashers ≡ self.old.table.hashers }
     {

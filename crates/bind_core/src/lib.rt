@@ -9,6 +9,7 @@ mod grants;
 mod loads;
 mod resets;
 mod rows;
+mod wishes;
 
 pub use bindings::Hashers;
 pub use cores::Core;

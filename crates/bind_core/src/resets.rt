@@ -12,7 +12,7 @@ fn does_come_back(state: EntryState) -> bool
     ensures { result ≡ comes_back state }
 {
     match state {
-        EntryState::Pending | EntryState::Closing => true,
+        EntryState::Pending { .. } | EntryState::Closing { .. } | EntryState::Alone => true,
         EntryState::Doomed | EntryState::Live | EntryState::Held => false,
     }
 }
@@ -35,7 +35,7 @@ fn key_of(entry: &Entry) -> Key
     entry.pair.key
 }
 
-/// Notes the pairs that were Pending or Closing, by protocol (icmp first) and port.
+/// Notes the pairs that were Pending, Closing or Alone, by protocol (icmp first) and port.
 pub(crate) fn note_back(table: &Table, notes: &mut Vec<Note>, by: GatewayId, at: u64)
     requires sent { CanBeSent table.now }
     requires reserved { vec_len notes.old + length table.now.entries ≤ vec_capacity notes.old }

@@ -4,6 +4,7 @@ mod Taking
 mod Members
 mod Moves
 mod Loads
+mod Marking
 mod Working
 mod Wishing
 mod Pairs

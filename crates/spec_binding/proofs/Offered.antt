@@ -28,3 +28,5 @@ pub use Rattle.spec_binding.proofs.Staying.{turned-place}
 pub use Rattle.spec_binding.proofs.Wishing.{chosen-says, at-key, wish-works, idle-works, carry-works}
 -- A record that is taken is a part of a step.
 pub use Rattle.spec_binding.proofs.Working.{record-works}
+-- where no pair of a rank has an endpoint, no entry is one
+pub use Rattle.spec_binding.proofs.Taking.{unranked}

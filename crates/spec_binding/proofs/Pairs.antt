@@ -81,17 +81,19 @@ those test word says none es d p = (there, back (slot_of es p.key) refl)
         subst (λ (q : Pair). In q (pairs_in test es)) (pair-parts x.pair p (slot-key es p.key x found) parts.1) (at-listed test es p.key x found parts.0)
 
 pub held-says : (s : EntryState) (e : Endpoint) → machine.held (revived (slot_in s e)) ≡ cond (is_pair s) (Some e) None
-held-says state.Pending e = refl
+held-says (state.Pending m) e = refl
 held-says state.Doomed e = refl
 held-says state.Live e = refl
-held-says state.Closing e = refl
+held-says (state.Closing m) e = refl
+held-says state.Alone e = refl
 held-says state.Held e = refl
 
 pub back-says : (s : EntryState) (e : Endpoint) → is_back (slot_in s e) ≡ cond (comes_back s) (Some e) None
-back-says state.Pending e = refl
+back-says (state.Pending m) e = refl
 back-says state.Doomed e = refl
 back-says state.Live e = refl
-back-says state.Closing e = refl
+back-says (state.Closing m) e = refl
+back-says state.Alone e = refl
 back-says state.Held e = refl
 
 -- a table without its first entry still serves no endpoint twice
@@ -141,17 +143,19 @@ in-reverse p (x ∷ xs) =
 -- ---- the pairs that a batch puts are those of the table
 
 pub woken-settled : (s : EntryState) → is_pair s ≡ true → is_settled (woken s) ≡ true
-woken-settled state.Pending h = refl
+woken-settled (state.Pending m) h = refl
 woken-settled state.Doomed h = cc
 woken-settled state.Live h = refl
-woken-settled state.Closing h = refl
+woken-settled (state.Closing m) h = refl
+woken-settled state.Alone h = refl
 woken-settled state.Held h = refl
 
 pub woken-pair : (s : EntryState) → is_pair s ≡ true → is_pair (woken s) ≡ true
-woken-pair state.Pending h = refl
+woken-pair (state.Pending m) h = refl
 woken-pair state.Doomed h = cc
 woken-pair state.Live h = refl
-woken-pair state.Closing h = refl
+woken-pair (state.Closing m) h = refl
+woken-pair state.Alone h = refl
 woken-pair state.Held h = refl
 
 pub settled-pairs : (es : List Entry) → pairs_in is_settled (revived_entries es) ≡ pairs_in is_pair es
