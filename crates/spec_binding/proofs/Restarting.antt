@@ -163,8 +163,9 @@ lie-within c is k e h = at (slot_of c.entries k) refl h
 are-sided : (c : Book) → IsBook c → (own : ℕ → Bool) → ((p : ℕ) → own p ≡ (in_ranges c p && not (owns c p))) → (k : Key) (x : Entry) → slot_of c.entries k ≡ Some x → IsSided (keyed own) k x
 are-sided c is own left k x found =
     let formed : IsWellFormedPair x.pair = is.formed k x found in
-    let small : x.pair.key.port.0 < 65536 = formed.key.1 in (
-      left k.port.0 ∙ ap (λ (b : Bool). b && not (owns c k.port.0)) (is.within k x found) ∙ sym (is.sides k x found),
+    let small : x.pair.key.port.0 < 65536 = formed.key.1 in
+    let inside : in_ranges c k.port.0 ≡ true = is.within k x found in (
+      left k.port.0 ∙ ap (λ (b : Bool). b && not (owns c k.port.0)) inside ∙ sym (is.sides k x found),
       subst (λ (z : Key). z.port.0 < 65536) (slot-key c.entries k x found) small,
     )
 
