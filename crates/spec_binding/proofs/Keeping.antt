@@ -34,7 +34,7 @@ use Rattle.spec_pair.specs.Box.{In, founder}
 use Rattle.spec_pair.specs.Ownership.{AreRising as RunsRise}
 use Rattle.spec_pair.proofs.Offered.{same_boxes}
 use Rattle.spec_binding.specs.declared.setups.Stage.{Stage}
-use Rattle.spec_binding.specs.declared.setups.Stage.TheVariants.{Paired, Lone}
+use Rattle.spec_binding.specs.declared.setups.Stage.TheVariants.{Unsynced, Paired, Lone}
 use Rattle.spec_binding.specs.declared.changes.Change.{Change}
 use Rattle.spec_binding.specs.declared.changes.Change.TheVariants.{Keep, Add, Turn, Renew, Drop, Yield, Want, Give, Gain}
 use Rattle.spec_binding.specs.declared.changes.Transition.{Transition}
