@@ -31,7 +31,7 @@ use Rattle.spec_binding.specs.declared.changes.Want.TheVariants as want
 use Rattle.spec_binding.specs.Books.{Book, IsBook, is_lone, is_promised, is_synced, load_of, is_paired}
 use Rattle.spec_binding.specs.WellFormed.{IsBeside, IsSameBatch}
 use Rattle.spec_binding.specs.Resets.{restart_batch}
-use Rattle.spec_binding.specs.Rows.{alone_row, marked_row, paired_wish, sought_row, telling_row, accept_row, accepted_row, after, carry_row, changed, grant_row, idle_row, is_at_limit, known_wish, left_row, load_taken, may_want, new_pair, new_wish, no_row, none_row, numbers_of, port_for, proposal, quiet, refuse_row, refused_row, release_row, released_row, row, row_of, stage_after, stayed_row, synced_row, taken_answer, taken_book, unsynced_after, use_row, used_row, wish, wish_by, wish_of, yes_row}
+use Rattle.spec_binding.specs.Rows.{alone_row, marked_row, paired_wish, sought_row, telling_row, accept_row, accepted_row, after, carry_row, changed, grant_row, idle_row, is_at_limit, known_wish, left_row, load_taken, may_want, new_pair, new_wish, no_row, none_row, numbers_of, port_for, quiet, refuse_row, refused_row, release_row, released_row, row, row_of, stage_after, stayed_row, synced_row, taken_answer, taken_book, unsynced_after, use_row, used_row, wish, wish_by, wish_of, yes_row}
 use Rattle.spec_binding.proofs.Members.{gained-is}
 use Rattle.spec_binding.proofs.Restarting.{batch-count}
 use Rattle.spec_binding.proofs.Unbroken.{machine_runs}
