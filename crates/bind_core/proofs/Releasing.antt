@@ -6,14 +6,17 @@ use Rattle.std.proofs.lemmas.List.Sums.{sum_by-cons}
 use Rattle.std.proofs.Math.Seq.{drop-cons}
 use Rattle.nat_types.specs.declared.notes.Note.{Note}
 use Rattle.link.specs.Link.{Link}
-use Rattle.spec_binding.specs.Rows.{idle_row, after, answered, noted_by, quiet, release_row, released_row}
+use Rattle.spec_binding.specs.Rows.{idle_row, after, answered, changed, noted_by, numbers_of, quiet, release_row, released_row}
 use Rattle.spec_binding.specs.Ledgers.{Ledger, LetGo, is_reached, ledger_after, release_all, may_ask}
 use Rattle.nat_types.specs.declared.records.Record.{Record}
 use Rattle.spec_pair.specs.Box.{Letter}
 use Rattle.spec_binding.specs.declared.setups.Stage.{Stage}
 use Rattle.spec_binding.specs.declared.setups.Stage.TheVariants.{Unsynced, Paired, Lone}
 use Rattle.spec_binding.specs.Books.{Book, is_apart, is_lone, is_paired, is_synced}
+use Rattle.spec_binding.specs.declared.changes.Change.{Change}
+use Rattle.spec_binding.specs.declared.changes.Change.TheVariants.{Keep, Add, Turn, Renew, Drop, Yield, Want, Give, Gain}
 use Rattle.spec_binding.specs.declared.changes.Transition.{Transition}
+use Rattle.bind_core.proofs.Porting.{gained-rest}
 use Rattle.spec_binding.specs.Machine.{Stands, Works}
 use Rattle.nat_types.specs.declared.pairs.EntryState.{EntryState}
 use Rattle.nat_types.specs.declared.pairs.EntryState.TheVariants.{Pending, Doomed, Live, Closing, Alone, Held}
@@ -150,30 +153,26 @@ fewer k (y ∷ ys) x found = at (has_key k y) found (length-keep (λ (e : Entry)
     at true found kept more = omega (arith, kept)
     at false found kept more = let rest = more found in omega (arith, rest)
 
--- The row of an idle pair, at a gateway that is apart: nothing is pushed, as many notes are made as entries leave, at most, and the gateway is still apart.
-record IsFew (b : Book) (now : ℕ) (r : Transition) : Type 0 where
-  mute : r.answer ≡ None
-  few : length (noted_by b.id now r.what) + length (after b r).entries ≤ length b.entries
-  apart : (e : Link) → is_apart (after b r) e now ≡ is_apart b e now
-
-quiet-few : (b : Book) (now : ℕ) → IsFew b now quiet
-quiet-few b now = record { mute = refl; few = omega arith; apart = λ e. refl }
+-- a row makes no more notes than entries leave
+abbrev IsFew : Book → ℕ → Transition → Type 0
+IsFew b now r = length (noted_by b.id now r.what) + length (after b r).entries ≤ length b.entries
 
 released-few : (b : Book) (now : ℕ) (x : Entry) (s : EntryState) → slot_of b.entries x.pair.key ≡ Some x → IsFew b now (released_row false false x.pair s)
-released-few b now x (Pending m) found = quiet-few b now
-released-few b now x Doomed found = quiet-few b now
-released-few b now x Live found = quiet-few b now
-released-few b now x (Closing m) found = quiet-few b now
-released-few b now x Alone found = let left = fewer x.pair.key b.entries x found in record { mute = refl; few = omega (arith, left); apart = λ e. refl }
-released-few b now x Held found = quiet-few b now
+released-few b now x (Pending m) found = omega arith
+released-few b now x Doomed found = omega arith
+released-few b now x Live found = omega arith
+released-few b now x (Closing m) found = omega arith
+released-few b now x Alone found = let left = fewer x.pair.key b.entries x found in omega (arith, left)
+released-few b now x Held found = omega arith
 
+-- the row of an idle pair, at a gateway that isn't lone and may not ask
 idle-few : (b : Book) (now : ℕ) (k : Key) → is_lone b.stage ≡ false → IsFew b now (idle_row b false k)
 idle-few b now k lone = at (is_synced b.stage) (is_lone b.stage) (slot_of b.entries k) refl lone
   where
     at : (t lone : Bool) (o : Option Entry) → slot_of b.entries k ≡ o → lone ≡ false → IsFew b now (let r : Transition = cond t (release_row lone false o) quiet in r)
-    at false lone o there h = quiet-few b now
+    at false lone o there h = omega arith
     at true true o there h = absurd (cc)
-    at true false None there h = quiet-few b now
+    at true false None there h = omega arith
     at true false (Some x) there h = released-few b now x x.state (ap (slot_of b.entries) (slot-key b.entries k x there) ∙ there)
 
 paired-lone : (s : Stage) → is_paired s ≡ true → is_lone s ≡ false
@@ -181,12 +180,8 @@ paired-lone Unsynced h = refl
 paired-lone Paired h = refl
 paired-lone Lone h = cc
 
--- A gateway that is apart is so after an idle pair is let go, and has room for as many notes more as entries have left, at least.
-pub record IsStillFew (now : ℕ) (l : Ledger) (ns : List Note) (l2 : Ledger) (e2 : Link) (ns2 : List Note) : Type 0 where
-  pub apart : is_apart l2.book e2 now ≡ true
-  pub few : length ns2 + length l2.book.entries ≤ length ns + length l.book.entries
-
-pub still-few : (now : ℕ) (k : Key) (l : Ledger) (e : Link) (ns : List Note) (l2 : Ledger) (e2 : Link) (ns2 : List Note) → IsReleased now k l e ns l2 e2 ns2 → is_apart l.book e now ≡ true → IsStillFew now l ns l2 e2 ns2
+-- a gateway that is apart has room for as many notes more as entries have left, at least
+pub still-few : (now : ℕ) (k : Key) (l : Ledger) (e : Link) (ns : List Note) (l2 : Ledger) (e2 : Link) (ns2 : List Note) → IsReleased now k l e ns l2 e2 ns2 → is_apart l.book e now ≡ true → length ns2 + length l2.book.entries ≤ length ns + length l.book.entries
 still-few now k l e ns l2 e2 ns2 is apart =
     let lone = paired-lone l.book.stage (and_parts (is_paired l.book.stage) (not (l.book.alone == 0) && nat_le l.book.alone (now - e.answered)) apart).0 in
     let asks : may_ask now l.book e ≡ false = ap (λ (t : Bool). not t && is_reached now e) apart in
@@ -194,11 +189,31 @@ still-few now k l e ns l2 e2 ns2 is apart =
     let few : IsFew l.book now row = subst (λ (ask : Bool). IsFew l.book now (idle_row l.book ask k)) (sym asks) (idle-few l.book now k lone) in
     let made : length ns2 ≡ length ns + length (noted_by l.book.id now row.what) = ap length is.notes ∙ length-append ns (noted_by l.book.id now row.what) in
     let left : length l2.book.entries ≡ length (after l.book row).entries = ap (λ (x : Ledger). length x.book.entries) is.ledger in
-    let fit = few.few in
-    record {
-      apart = ap (λ (x : Ledger). is_apart x.book e2 now) is.ledger ∙ ap (λ (x : Link). is_apart (after l.book row) x now) (is.link ∙ ap (answered e) few.mute) ∙ few.apart e ∙ apart;
-      few = omega (arith, made, left, fit);
-    }
+    omega (arith, few, made, left)
+
+-- no change of the book, and no answer, makes the gateway apart or ends that
+book-apart : (ch : Change) (b : Book) (e : Link) (now : ℕ) → is_apart (changed ch b) e now ≡ is_apart b e now
+book-apart Keep b e now = refl
+book-apart (Add x) b e now = refl
+book-apart (Turn k s) b e now = refl
+book-apart (Renew k) b e now = refl
+book-apart (Drop k) b e now = refl
+book-apart (Yield q p) b e now = refl
+book-apart Want b e now = refl
+book-apart (Give g) b e now = refl
+book-apart (Gain g) b e now = ap (λ (x : Book). is_apart x e now) (gained-rest b (numbers_of g))
+
+link-apart : (b : Book) (e : Link) (o : Option Record) (now : ℕ) → is_apart b (answered e o) now ≡ is_apart b e now
+link-apart b e None now = refl
+link-apart b e (Some r) now = refl
+
+pub still-apart : (now : ℕ) (k : Key) (l : Ledger) (e : Link) (ns : List Note) (l2 : Ledger) (e2 : Link) (ns2 : List Note) → IsReleased now k l e ns l2 e2 ns2 → is_apart l2.book e2 now ≡ is_apart l.book e now
+still-apart now k l e ns l2 e2 ns2 is =
+    let row = idle_row l.book (may_ask now l.book e) k in
+    ap (λ (x : Ledger). is_apart x.book e2 now) is.ledger
+    ∙ ap (λ (x : Link). is_apart (changed row.change l.book) x now) is.link
+    ∙ link-apart (changed row.change l.book) e row.answer now
+    ∙ book-apart row.change l.book e now
 
 -- ---- acts
 

@@ -111,6 +111,8 @@ impl Core {
         ensures ready { self.new.table.ready ≡ self.old.table.ready }
         ensures len { vec_len notes.new ≤ vec_len notes.old + length self.old.table.entries }
         ensures capacity { vec_capacity notes.new ≡ vec_capacity notes.old }
+        ensures apart { is_apart_at (book_of self.new) link.new now
+            ≡ is_apart_at (book_of self.old) link.old now }
         // A gateway that is apart notes no more pairs than leave its table.
         ensures few { is_apart_at (book_of self.old) link.old now ≡ true
             → vec_len notes.new + length self.new.table.entries
@@ -147,6 +149,8 @@ impl Core {
         ensures ready { self.new.table.ready ≡ self.old.table.ready }
         ensures len { vec_len notes.new ≤ vec_len notes.old + length self.old.table.entries }
         ensures capacity { vec_capacity notes.new ≡ vec_capacity notes.old }
+        ensures apart { is_apart_at (book_of self.new) link.new now
+            ≡ is_apart_at (book_of self.old) link.old now }
         // A gateway that is apart notes no more pairs than leave its table.
         ensures few { is_apart_at (book_of self.old) link.old now ≡ true
             → vec_len notes.new + length self.new.table.entries

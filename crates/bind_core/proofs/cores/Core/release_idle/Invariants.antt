@@ -14,7 +14,7 @@ pub record SoFar (l : goal.Live-loop-i) : Type 0 where
   pub idle : l.self.idle ≡ idle_keys_of l.fn.self.table (is_lone l.fn.self.stage) l.now
   pub len : vec_len l.notes ≤ vec_len l.fn.notes + l.i
   pub capacity : vec_capacity l.notes ≡ vec_capacity l.fn.notes
-  pub apart : is_apart (book_of l.fn.self) l.fn.link l.now ≡ true → is_apart (book_of l.self) l.link l.now ≡ true
+  pub apart : is_apart (book_of l.self) l.link l.now ≡ is_apart (book_of l.fn.self) l.fn.link l.now
   pub few : is_apart (book_of l.fn.self) l.fn.link l.now ≡ true → vec_len l.notes + length l.self.table.entries ≤ vec_len l.fn.notes + length l.fn.self.table.entries
 
 abbrev pub invariant-loop-i : goal.invariant-loop-i
