@@ -8,9 +8,9 @@ ghost use Rattle.spec_binding.specs.Machine.{Stands, Works};
 ghost use Rattle.spec_binding.specs.Books.{is_apart as is_apart_at};
 ghost use Rattle.spec_binding.specs.Rows.{alone_row, noted_by, answered, is_full};
 ghost use Rattle.bindings.specs.declared.entries.Entry.{Entry as Known};
-ghost use Rattle.bindings.specs.Entries.{is_pair, is_sought, slot_of, translates};
+ghost use Rattle.bindings.specs.Entries.{is_pair, slot_of, translates};
 ghost use Rattle.bindings.specs.Lists.{first_after};
-ghost use Rattle.spec_binding.specs.Ledgers.{sought, sought_keys, go_on_all, ledger_after};
+ghost use Rattle.spec_binding.specs.Ledgers.{is_sought, sought_keys, go_on_all, ledger_after};
 ghost use Rattle.bind_core.specs.Cores.{book_of, ledger_of};
 ghost use Rattle.resync.specs.Batch.{CanBeSent};
 
@@ -25,7 +25,7 @@ use spec_binding::{Transition, alone_rows, alone_waits_for_nobody, alone_works, 
 /// Returns the next entry after a key to mark, where the gateway is apart, or else the next of which
 /// the peer is to be told.
 fn next_sought(table: &Table, apart: bool, last: Option<Key>) -> Option<Entry>
-    ensures { result ≡ first_after (is_sought (sought apart)) last table.now.entries }
+    ensures { result ≡ first_after (is_sought apart) last table.now.entries }
 {
     if apart {
         table.waiting_after(last)
