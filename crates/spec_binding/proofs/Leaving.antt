@@ -31,7 +31,7 @@ use Rattle.spec_binding.specs.declared.changes.Want.TheVariants as want
 use Rattle.spec_binding.specs.Books.{Book, IsBook, is_lone, is_promised, is_synced, load_of, is_paired}
 use Rattle.spec_binding.specs.WellFormed.{IsBeside, IsSameBatch}
 use Rattle.spec_binding.specs.Resets.{restart_batch}
-use Rattle.spec_binding.specs.Rows.{alone_row, marked_row, paired_wish, sought_row, telling_row, accept_row, accepted_row, after, carry_row, changed, grant_row, idle_row, is_at_limit, known_wish, left_row, load_taken, may_want, new_pair, new_wish, no_row, none_row, numbers_of, port_for, proposal, quiet, refuse_row, refused_row, release_row, released_row, row, row_of, stage_after, stayed_row, synced_row, taken_answer, taken_book, unsynced_after, use_row, used_row, wish, wish_by, wish_of, yes_row}
+use Rattle.spec_binding.specs.Rows.{alone_row, marked_row, paired_wish, sought_row, telling_row, accept_row, accepted_row, after, carry_row, changed, grant_row, idle_row, is_at_limit, known_wish, left_row, load_taken, may_want, new_pair, new_wish, no_row, none_row, numbers_of, port_for, quiet, refuse_row, refused_row, release_row, released_row, row, row_of, stage_after, stayed_row, synced_row, taken_answer, taken_book, unsynced_after, use_row, used_row, wish, wish_by, wish_of, yes_row}
 use Rattle.spec_binding.proofs.Members.{gained-is}
 use Rattle.spec_binding.proofs.Restarting.{batch-count}
 use Rattle.spec_binding.proofs.Unbroken.{machine_runs}
@@ -39,20 +39,20 @@ use Rattle.spec_binding.proofs.Working.{loaded-keeps}
 use Rattle.spec_binding.proofs.Wishing.{at-key}
 
 beside : (b : Book) → IsBeside b b
-beside b = record { id = refl; zero = refl; one = refl; limit = refl; stage = refl; begun = refl; named = refl; coming = refl }
+beside b = record { id = refl; zero = refl; one = refl; limit = refl; alone = refl; stage = refl; begun = refl; named = refl; coming = refl }
 
 pub change-leaves : (b : Book) (ch : Change) → IsBeside b (changed ch b)
 change-leaves b Keep = beside b
-change-leaves b (Add e) = record { id = refl; zero = refl; one = refl; limit = refl; stage = refl; begun = refl; named = refl; coming = refl }
-change-leaves b (Turn k s) = record { id = refl; zero = refl; one = refl; limit = refl; stage = refl; begun = refl; named = refl; coming = refl }
-change-leaves b (Renew k) = record { id = refl; zero = refl; one = refl; limit = refl; stage = refl; begun = refl; named = refl; coming = refl }
-change-leaves b (Drop k) = record { id = refl; zero = refl; one = refl; limit = refl; stage = refl; begun = refl; named = refl; coming = refl }
-change-leaves b (Yield q p) = record { id = refl; zero = refl; one = refl; limit = refl; stage = refl; begun = refl; named = refl; coming = refl }
-change-leaves b Want = record { id = refl; zero = refl; one = refl; limit = refl; stage = refl; begun = refl; named = refl; coming = refl }
-change-leaves b (Give g) = record { id = refl; zero = refl; one = refl; limit = refl; stage = refl; begun = refl; named = refl; coming = refl }
+change-leaves b (Add e) = record { id = refl; zero = refl; one = refl; limit = refl; alone = refl; stage = refl; begun = refl; named = refl; coming = refl }
+change-leaves b (Turn k s) = record { id = refl; zero = refl; one = refl; limit = refl; alone = refl; stage = refl; begun = refl; named = refl; coming = refl }
+change-leaves b (Renew k) = record { id = refl; zero = refl; one = refl; limit = refl; alone = refl; stage = refl; begun = refl; named = refl; coming = refl }
+change-leaves b (Drop k) = record { id = refl; zero = refl; one = refl; limit = refl; alone = refl; stage = refl; begun = refl; named = refl; coming = refl }
+change-leaves b (Yield q p) = record { id = refl; zero = refl; one = refl; limit = refl; alone = refl; stage = refl; begun = refl; named = refl; coming = refl }
+change-leaves b Want = record { id = refl; zero = refl; one = refl; limit = refl; alone = refl; stage = refl; begun = refl; named = refl; coming = refl }
+change-leaves b (Give g) = record { id = refl; zero = refl; one = refl; limit = refl; alone = refl; stage = refl; begun = refl; named = refl; coming = refl }
 change-leaves b (Gain g) =
     let is = gained-is b (numbers_of g) in
-    record { id = ap (λ (x : Book). x.id) is; zero = ap (λ (x : Book). x.zero) is; one = ap (λ (x : Book). x.one) is; limit = ap (λ (x : Book). x.limit) is; stage = ap (λ (x : Book). x.stage) is; begun = ap (λ (x : Book). x.begun) is; named = ap (λ (x : Book). x.named) is; coming = ap (λ (x : Book). x.coming) is }
+    record { id = ap (λ (x : Book). x.id) is; zero = ap (λ (x : Book). x.zero) is; one = ap (λ (x : Book). x.one) is; limit = ap (λ (x : Book). x.limit) is; alone = ap (λ (x : Book). x.alone) is; stage = ap (λ (x : Book). x.stage) is; begun = ap (λ (x : Book). x.begun) is; named = ap (λ (x : Book). x.named) is; coming = ap (λ (x : Book). x.coming) is }
 
 -- ---- answers
 
@@ -127,6 +127,7 @@ synced-mute b rests rec.Done h = refl
 synced-mute b rests rec.Want h = cc
 synced-mute b rests (rec.Grant g) h = grant-mute b g
 synced-mute b rests (rec.Owner first last) h = refl
+synced-mute b rests (rec.Tell p) h = cc
 
 pub taken-mute : (b : Book) (rests : Bool) (r : Record) → needs_answer r ≡ false → taken_answer b rests r ≡ None
 taken-mute b rests r h = at (is_synced b.stage) (is_promised b)
@@ -151,6 +152,7 @@ stage-together s rec.Done h = refl
 stage-together s rec.Want h = h
 stage-together s (rec.Grant g) h = h
 stage-together s (rec.Owner first last) h = h
+stage-together s (rec.Tell p) h = h
 
 load-together : (b : Book) (r : Record) (o : Option Load) → is_lone b.stage ≡ false → is_lone (load_taken b r o).stage ≡ false
 load-together b r None h = h
@@ -218,7 +220,7 @@ turn-settled k s (y ∷ ys) x new d found old = at (has_key k y) refl (λ more. 
 -- an entry that goes from one state into another, both settled or both not, is the same part of the batch
 turned-pairs : (k : Key) (s : EntryState) (es : List Entry) → HasDistinctKeys es → ((x : Entry) → slot_of es k ≡ Some x → is_settled x.state ≡ is_settled s) → pairs_in is_settled (with_state k s es) ≡ pairs_in is_settled es
 turned-pairs k s [] d h = refl
-turned-pairs k s (y ∷ ys) d h = at (has_key k y) refl
+turned-pairs k s (y ∷ ys) d h = at (has_key k y) refl (λ more. turned-pairs k s ys d.1 more)
   where
     both : (t u : Bool) (z : Entry) → z.pair ≡ y.pair → u ≡ t → pairs_in is_settled (with_state k s ys) ≡ pairs_in is_settled ys
         → map (λ (z : Entry). z.pair) (cond t (z ∷ filter (λ z. is_settled z.state) (with_state k s ys)) (filter (λ z. is_settled z.state) (with_state k s ys))) ≡ map (λ (z : Entry). z.pair) (cond u (y ∷ filter (λ z. is_settled z.state) ys) (filter (λ z. is_settled z.state) ys))
@@ -227,29 +229,29 @@ turned-pairs k s (y ∷ ys) d h = at (has_key k y) refl
     both false true z same e ih = cc
     both false false z same e ih = ih
 
-    at : (t : Bool) → has_key k y ≡ t → pairs_in is_settled ((let z : Entry = cond t (entry_in s y.pair) y in z) ∷ with_state k s ys) ≡ pairs_in is_settled (y ∷ ys)
-    at true here =
+    at : (t : Bool) → has_key k y ≡ t → (((x : Entry) → slot_of ys k ≡ Some x → is_settled x.state ≡ is_settled s) → pairs_in is_settled (with_state k s ys) ≡ pairs_in is_settled ys) → pairs_in is_settled ((let z : Entry = cond t (entry_in s y.pair) y in z) ∷ with_state k s ys) ≡ pairs_in is_settled (y ∷ ys)
+    at true here ih =
         both (is_settled s) (is_settled y.state) (entry_in s y.pair) refl (h y (cond-true (has_key k y) (Some y) (slot_of ys k) here))
         (ap (pairs_in is_settled) (turn-none k s ys (rest-none k y ys here d.0)))
-    at false there = both (is_settled y.state) (is_settled y.state) y refl refl (turned-pairs k s ys d.1 (λ x found. h x (cond-false (has_key k y) (Some y) (slot_of ys k) there ∙ found)))
+    at false there ih = both (is_settled y.state) (is_settled y.state) y refl refl (ih (λ x found. h x (cond-false (has_key k y) (Some y) (slot_of ys k) there ∙ found)))
 
 -- an entry that isn't settled is no part of the batch, and may go
 dropped-pairs : (k : Key) (es : List Entry) → HasDistinctKeys es → ((x : Entry) → slot_of es k ≡ Some x → is_settled x.state ≡ false) → pairs_in is_settled (without k es) ≡ pairs_in is_settled es
 dropped-pairs k [] d h = refl
-dropped-pairs k (y ∷ ys) d h = at (has_key k y) refl
+dropped-pairs k (y ∷ ys) d h = at (has_key k y) refl (λ more. dropped-pairs k ys d.1 more)
   where
     both : (t : Bool) → pairs_in is_settled (without k ys) ≡ pairs_in is_settled ys
         → map (λ (z : Entry). z.pair) (cond t (y ∷ filter (λ z. is_settled z.state) (without k ys)) (filter (λ z. is_settled z.state) (without k ys))) ≡ map (λ (z : Entry). z.pair) (cond t (y ∷ filter (λ z. is_settled z.state) ys) (filter (λ z. is_settled z.state) ys))
     both true ih = ap (λ (ps : List Pair). y.pair ∷ ps) ih
     both false ih = ih
 
-    at : (t : Bool) → has_key k y ≡ t → pairs_in is_settled (let zs : List Entry = cond (not t) (y ∷ without k ys) (without k ys) in zs) ≡ pairs_in is_settled (y ∷ ys)
-    at true here =
+    at : (t : Bool) → has_key k y ≡ t → (((x : Entry) → slot_of ys k ≡ Some x → is_settled x.state ≡ false) → pairs_in is_settled (without k ys) ≡ pairs_in is_settled ys) → pairs_in is_settled (let zs : List Entry = cond (not t) (y ∷ without k ys) (without k ys) in zs) ≡ pairs_in is_settled (y ∷ ys)
+    at true here ih =
         let none : slot_of ys k ≡ None = rest-none k y ys here d.0 in
         let off : is_settled y.state ≡ false = h y (cond-true (has_key k y) (Some y) (slot_of ys k) here) in
-        dropped-pairs k ys d.1 (λ x found. let clash : None ≡ Some x = sym none ∙ found in absurd (cc))
+        ih (λ x found. let clash : None ≡ Some x = sym none ∙ found in absurd (cc))
         ∙ sym (ap (map (λ (z : Entry). z.pair)) (cond-false (is_settled y.state) (y ∷ filter (λ z. is_settled z.state) ys) (filter (λ z. is_settled z.state) ys) off))
-    at false there = both (is_settled y.state) (dropped-pairs k ys d.1 (λ x found. h x (cond-false (has_key k y) (Some y) (slot_of ys k) there ∙ found)))
+    at false there ih = both (is_settled y.state) (ih (λ x found. h x (cond-false (has_key k y) (Some y) (slot_of ys k) there ∙ found)))
 
 -- an entry that isn't settled is no part of the batch when it goes
 drop-unsettled : (k : Key) (es : List Entry) (x : Entry) → HasDistinctKeys es → slot_of es k ≡ Some x → is_settled x.state ≡ false → pairs_in is_settled (without k es) ≡ pairs_in is_settled es
@@ -339,29 +341,6 @@ module _ (b : Book) where
       at true (Some x) = used-stays x.pair x.state
       at false o = same-batch b
 
--- ---- how long a batch is
-
-on-count : (first last : ℕ) (ps : List ℕ) → length (runs_on first last ps) ≤ suc (length ps)
-on-count first last [] = omega arith
-on-count first last (p ∷ ps) = at (p == suc last) (on-count first p ps) (on-count p p ps)
-  where
-    at : (t : Bool) → length (runs_on first p ps) ≤ suc (length ps) → length (runs_on p p ps) ≤ suc (length ps) → length (let rs : List PortBounds = cond t (runs_on first p ps) (run_of first last ∷ runs_on p p ps) in rs) ≤ suc (suc (length ps))
-    at true one two = omega (arith, one)
-    at false one two = omega (arith, two)
-
-runs-count : (ps : List ℕ) → length (runs_of ps) ≤ length ps
-runs-count [] = omega arith
-runs-count (p ∷ ps) = on-count p p ps
-
-pub batch-room : (b : Book) → length (restart_batch b) ≤ length b.owned + length b.entries + 2
-batch-room b =
-    let count = batch-count b in
-    let runs = runs-count b.owned in
-    let mapped : length (machine_runs (runs_of b.owned)) ≡ length (runs_of b.owned) = length-map (runs_of b.owned) _ in
-    let pairs : length (pairs_in is_pair b.entries) ≡ length (filter (λ (e : Entry). is_pair e.state) b.entries) = length-map (filter (λ (e : Entry). is_pair e.state) b.entries) _ in
-    let kept = length-keep (λ (e : Entry). is_pair e.state) b.entries in
-    omega (arith, count, runs, mapped, pairs, kept)
-
   -- ---- going on alone
 
   marked-stays : IsBook b → (x : Entry) (s : EntryState) → x.state ≡ s → slot_of b.entries x.pair.key ≡ Some x → IsSameBatch b (after b (marked_row x.pair s))
@@ -391,3 +370,26 @@ batch-room b =
       at true true (Some x) found = marked-stays is x x.state refl (at-key b.entries k x found)
       at true false (Some x) found = telling-stays is full x x.state refl (at-key b.entries k x found)
       at false apart o found = same-batch b
+
+-- ---- how long a batch is
+
+on-count : (first last : ℕ) (ps : List ℕ) → length (runs_on first last ps) ≤ suc (length ps)
+on-count first last [] = omega arith
+on-count first last (p ∷ ps) = at (p == suc last) (on-count first p ps) (on-count p p ps)
+  where
+    at : (t : Bool) → length (runs_on first p ps) ≤ suc (length ps) → length (runs_on p p ps) ≤ suc (length ps) → length (let rs : List PortBounds = cond t (runs_on first p ps) (run_of first last ∷ runs_on p p ps) in rs) ≤ suc (suc (length ps))
+    at true one two = omega (arith, one)
+    at false one two = omega (arith, two)
+
+runs-count : (ps : List ℕ) → length (runs_of ps) ≤ length ps
+runs-count [] = omega arith
+runs-count (p ∷ ps) = on-count p p ps
+
+pub batch-room : (b : Book) → length (restart_batch b) ≤ length b.owned + length b.entries + 2
+batch-room b =
+    let count = batch-count b in
+    let runs = runs-count b.owned in
+    let mapped : length (machine_runs (runs_of b.owned)) ≡ length (runs_of b.owned) = length-map (runs_of b.owned) _ in
+    let pairs : length (pairs_in is_pair b.entries) ≡ length (filter (λ (e : Entry). is_pair e.state) b.entries) = length-map (filter (λ (e : Entry). is_pair e.state) b.entries) _ in
+    let kept = length-keep (λ (e : Entry). is_pair e.state) b.entries in
+    omega (arith, count, runs, mapped, pairs, kept)
