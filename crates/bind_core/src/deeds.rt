@@ -1,6 +1,6 @@
 //! The parts of a row, carried out: its change of the table, its answer on the link, its note.
 ghost use Rattle.std.specs.Prelude.{◌≡◌, ℕ, ◌+◌, ◌-◌, ◌<◌, ◌≤◌, ◌^◌, ◌++◌, ◌∷◌, [], length, true};
-ghost use Rattle.std.specs.Prelude.{None, IsTrue, IfSome, if◌then◌else◌, is_some, vec_len, vec_capacity};
+ghost use Rattle.std.specs.Prelude.{None, false, IsTrue, IfSome, if◌then◌else◌, is_some, vec_len, vec_capacity};
 ghost use Rattle.nat_types.specs.declared.pairs.EntryState.TheVariants.{Doomed, Held, Live};
 ghost use Rattle.nat_types.specs.declared.pairs.Key.{Key as OutsidePort};
 ghost use Rattle.activity.specs.Lives.{History, came, with_packet, life_begun, life_carried};
@@ -31,6 +31,13 @@ use bindings::{Entry, PortBounds, Table};
 use link::{Link, RECORDS_IN_A_DATAGRAM};
 use nat_types::{EntryState, GatewayId, Granted, Key, Note, NoteKind, Pair, Record};
 use spec_binding::{Change, Transition};
+
+/// Returns the key of an entry's pair.
+pub(crate) fn key_of(entry: &Entry) -> Key
+    ensures { result ≡ entry.now.pair.key }
+{
+    entry.pair.key
+}
 
 fn came_by_install(state: EntryState) -> bool
     ensures { result ≡ is_held state }
@@ -101,7 +108,6 @@ fn yield_entry(table: &mut Table, key: Key, pair: Pair, now: u64)
       ready = table.old.ready - 1;
     } }
 {
-    table.recall();
     table.set_state(key, EntryState::Doomed);
     let entry = Entry {
         pair,
