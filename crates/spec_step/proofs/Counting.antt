@@ -63,7 +63,7 @@ use Rattle.spec_step.specs.declared.plans.Plan.TheVariants.{Send, Ask, AskAgain,
 use Rattle.spec_step.specs.Machine.{AreBytes, HasBytes}
 use Rattle.spec_step.specs.Parts.{all_framed, all_idle_done, all_taken, answered_by, arp_taken, asked_again, by_plan, by_row, by_verdict, carried_all, carried_by, datagram_in, datagram_read, flags_in, flow_taken, framed, frames_of, handed_in, has_synced, heard_by, heard_unless, idle_done, idle_taken, keeping, link_answered, link_ticked, neighbour_asked, old_dropped, record_done, record_shown, record_told, records_done, released, renewed_behind, request_by, reset, retaken_by, started, taken_again, wait_ended, waiting, wanted_by, wanted_for, with_link, word_taken, by_error_plan, by_error_verdict, error_taken, echo_taken, length_in, refused}
 use Rattle.spec_step.specs.Rests.{most_notes}
-use Rattle.spec_step.specs.Shown.{GatewayAndOutput, Shown, id_of, is_running, scene, station_on, with_notes, with_station}
+use Rattle.spec_step.specs.Shown.{GatewayAndOutput, Shown, id_of, is_apart, is_running, scene, station_on, with_notes, with_station}
 use Rattle.spec_step.specs.Routers.{BothAct, RouterActs}
 use Rattle.spec_step.specs.GivingWay.{GivingWay, left, turn_of}
 use Rattle.spec_step.specs.Steps.{Does, FrameDoes, IsStepOn, ended_on, ticked, word_by, word_refusal}
@@ -108,7 +108,7 @@ row-adds : (s : GatewayAndOutput) (row : Transition) → Adds 1 0 s (by_row s ro
 row-adds s row = adds-noted 1 s (by_row s row) (noted_by (id_of s.shown) s.shown.moment row.what) (noted-one (id_of s.shown) s.shown.moment row.what) refl refl
 
 wanted-adds : (s : GatewayAndOutput) (e : Endpoint) → Adds 1 0 s (wanted_by s e)
-wanted-adds s e = row-adds s (wish_of s.shown.ledger.book (is_full s.shown.link) e).row
+wanted-adds s e = row-adds s (wish_of s.shown.ledger.book (is_apart s.shown) (is_full s.shown.link) e).row
 
 carried-adds : (s : GatewayAndOutput) (k : Key) (p : Carried) → Adds 1 0 s (carried_by s k p)
 carried-adds s k p =

@@ -57,7 +57,7 @@ use Rattle.spec_step.specs.Founding.{begun, founded}
 use Rattle.spec_step.specs.GivingWay.{GivingWay, left, turn_of}
 use Rattle.spec_step.specs.Parts.{all_idle_done, all_taken, answered_by, arp_taken, asked_again, by_plan, by_row, by_verdict, carried_all, datagram_in, datagram_read, flags_in, flow_taken, framed, handed_in, has_synced, heard_by, heard_unless, idle_done, idle_taken, keeping, link_answered, link_ticked, neighbour_asked, old_dropped, record_done, record_shown, record_told, records_done, released, renewed_behind, request_by, reset, retaken_by, routers_started, side_plugged, taken_again, wait_ended, waiting, wanted_by, wanted_for, with_link, with_routers, by_error_plan, by_error_verdict, error_taken, echo_taken, length_in, refused}
 use Rattle.spec_step.specs.Settled.{AreIdle, HaveBegun, IsSettled}
-use Rattle.spec_step.specs.Shown.{GatewayAndOutput, Shown, is_running, is_up, scene, station_on, with_station}
+use Rattle.spec_step.specs.Shown.{GatewayAndOutput, Shown, is_apart, is_running, is_up, scene, station_on, with_station}
 use Rattle.spec_step.specs.Routers.{BothAct, RouterActs}
 use Rattle.spec_step.specs.Steps.{Does, FrameDoes, IsStepOn, ended_on, stopped, ticked, word_by, word_refusal}
 use Rattle.spec_step.specs.Verdict.{exit_by, hop_by, plan_of, reading_on, error_hop, error_plan}
@@ -100,7 +100,7 @@ row-calms s row =
     calm-by g (by_row s row).shown (ap (λ x. (is_synced x && not g.stopped) && not g.away) stage) refl refl (λ k. k)
 
 wanted-calms : (s : GatewayAndOutput) (e : Endpoint) → Calming s (wanted_by s e)
-wanted-calms s e = row-calms s (wish_of s.shown.ledger.book (is_full s.shown.link) e).row
+wanted-calms s e = row-calms s (wish_of s.shown.ledger.book (is_apart s.shown) (is_full s.shown.link) e).row
 
 wanted-for-calms : (s : GatewayAndOutput) (flow : Flow) (by : Translation) → Calming s (wanted_for s flow by)
 wanted-for-calms s flow (Outward p) = wanted-calms s (source_of flow)

@@ -42,7 +42,7 @@ use Rattle.vrrp_states.specs.Table.{Router}
 use Rattle.spec_step.specs.declared.plans.Plan.{Plan}
 use Rattle.spec_step.specs.declared.plans.Plan.TheVariants.{Send, Ask, AskAgain, Wait as WaitFor}
 use Rattle.spec_step.specs.Parts.{all_taken, answered_by, arp_taken, asked_again, by_error_plan, by_error_verdict, by_plan, by_row, by_verdict, carried_all, datagram_in, datagram_read, echo_taken, error_taken, flags_in, flow_taken, framed, handed_in, has_synced, heard_by, heard_unless, keeping, length_in, link_ticked, neighbour_asked, record_done, record_shown, record_told, records_done, refused, released, renewed_behind, request_by, reset, retaken_by, routers_started, side_plugged, started_in, taken_again, wait_ended, wanted_by, wanted_for, with_link, with_routers}
-use Rattle.spec_step.specs.Shown.{GatewayAndOutput, Shown, id_of, is_running, scene, station_on, with_notes, with_station}
+use Rattle.spec_step.specs.Shown.{GatewayAndOutput, Shown, id_of, is_apart, is_running, scene, station_on, with_notes, with_station}
 use Rattle.spec_step.specs.Steps.{word_by}
 use Rattle.spec_step.specs.Verdict.{error_hop, error_plan, exit_by, hop_by, plan_of, reading_on}
 use Rattle.spec_step.proofs.Own.{Said, echo-by, refusal-by, refused-by, said_scene}
@@ -77,7 +77,7 @@ row-stands : (s : GatewayAndOutput) (row : Transition) → Stands s (by_row s ro
 row-stands s row = stands-by s (by_row s row) refl refl
 
 wanted-stands : (s : GatewayAndOutput) (e : Endpoint) → Stands s (wanted_by s e)
-wanted-stands s e = row-stands s (wish_of s.shown.ledger.book (is_full s.shown.link) e).row
+wanted-stands s e = row-stands s (wish_of s.shown.ledger.book (is_apart s.shown) (is_full s.shown.link) e).row
 
 wanted-for-stands : (s : GatewayAndOutput) (flow : Flow) (by : Translation) → Stands s (wanted_for s flow by)
 wanted-for-stands s flow (Outward p) = wanted-stands s (source_of flow)
