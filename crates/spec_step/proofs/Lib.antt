@@ -3,6 +3,7 @@ mod Apart
 mod Asked
 mod Asking
 mod AskingParts
+mod Before
 mod Beginning
 mod Counting
 mod Ending
@@ -40,6 +41,7 @@ mod Sides
 mod Standing
 mod Stepping
 mod TakingOver
+mod Takes
 mod Takings
 mod Telling
 mod Translating

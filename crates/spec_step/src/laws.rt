@@ -419,9 +419,12 @@ pub fn ticks_let_go()
         → CanAskForAll s.shown.ledger s.shown.link s2.shown.moment
         → HasRested s.shown.ledger s2.shown.moment x → IsLetGo s x s2 }
     ensures made_alone { (s : GatewayAndOutput) (now : ℕ) (s2 : GatewayAndOutput) (x : Entry)
-        → IsStepOn s (Tick now) s2 → s.shown.ledger.book.stage ≡ Paired → is_alone x.state ≡ true
+        → IsStepOn s (Tick now) s2 → IsBook s.shown.ledger.book → KeepsBytes s.shown
+        → s.shown.ledger.book.stage ≡ Paired → is_alone x.state ≡ true
         → HasRested s.shown.ledger s2.shown.moment x → NotesRelease s x.pair s2 }
-{}
+{
+    readings_law();
+}
 
 /// A gateway that is apart waits for nobody: after a tick at which it is apart no packet waits for a
 /// pair, and each pair of its table translates.
