@@ -22,6 +22,7 @@ mod LettingGo
 mod Limits
 mod Lines
 mod Near
+mod Nobody
 mod Others
 mod Own
 mod OwnSteps
