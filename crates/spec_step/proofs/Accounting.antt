@@ -104,7 +104,7 @@ frame-rests reads s side bytes (Err reason) s2 read are does = subst (λ (x : Ga
 
 -- ---- records
 
-taken-id : (b : Book) (rests : Bool) (r : Record) → (taken_book b rests r).id ≡ b.id
+pub taken-id : (b : Book) (rests : Bool) (r : Record) → (taken_book b rests r).id ≡ b.id
 taken-id b rests r = at (is_synced b.stage)
   where
     load : (o : Option Load) → (load_taken b r o).id ≡ b.id
@@ -156,7 +156,7 @@ restart-own b now = at (is_synced b.stage)
     at true = retaken-own b.id now (back_in b.entries)
     at false = tt
 
-restarted-id : (b : Book) → (restarted b).id ≡ b.id
+pub restarted-id : (b : Book) → (restarted b).id ≡ b.id
 restarted-id b = at (is_synced b.stage)
   where
     at : (t : Bool) → (let x : Book = cond t (begun_anew b) (empty_book b.id b.zero b.one b.limit b.alone) in x).id ≡ b.id

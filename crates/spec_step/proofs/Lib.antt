@@ -48,5 +48,6 @@ mod Telling
 mod Translating
 mod Truths
 mod Turning
+mod Unmoved
 mod Unused
 mod WhileApart
