@@ -1,5 +1,5 @@
 -- After a tick at which a gateway is apart no packet waits for a pair, and each pair of its table translates.
-use Rattle.std.proofs.Common.{◌≡◌, ℕ, Bool, true, false, cond, not, List, [], ◌∷◌, Option, Some, None, Result, Ok, Err, refl, sym, ap, subst, ◌∙◌}
+use Rattle.std.proofs.Common.{◌≡◌, ◌≢◌, ℕ, Bool, true, false, cond, not, List, [], ◌∷◌, Option, Some, None, Result, Ok, Err, refl, sym, ap, subst, ◌∙◌}
 use Rattle.std.specs.List.{AllByRecursion, filter}
 use Rattle.addresses.specs.declared.internet.Ip.{Ip}
 use Rattle.addresses.specs.declared.ethernet.Mac.{Mac}
@@ -321,3 +321,9 @@ apart-waits reads s now s2 step book kept apart =
     at idle sound true is there = ticked-nobody (gone_alone idle) (gone-nobody reads idle sound is)
     at idle sound false is there =
         let no : false ≡ true = sym is ∙ sym (all-sought-apart false idle (sought_keys false idle.shown.ledger.book.entries)) ∙ there in absurd (cc)
+
+-- while nobody waits at a gateway that is apart, no packet comes to wait for a pair
+pub apart-takes : (g : Shown) (side : Side) (flow : Flow) (length : ℕ) (e : Endpoint) → IsBook g.ledger.book → is_apart g ≡ true → WaitsForNobody g → plan_of g side flow length ≢ Ok (WaitFor e)
+apart-takes g side flow length e book apart none is =
+    wish-waits g.ledger.book (is_full g.link) (source_of flow) book.keys (λ k x there. state-settled x.state (λ pair. none.translate k x there pair))
+    (subst (λ (t : Bool). (wish_of g.ledger.book t (is_full g.link) (source_of flow)).answer ≡ want.Wait) apart (plan-waits g side flow length e is))

@@ -427,11 +427,14 @@ pub fn ticks_let_go()
 }
 
 /// A gateway that is apart waits for nobody: after a tick at which it is apart no packet waits for a
-/// pair, and each pair of its table translates.
+/// pair, and each pair of its table translates. While that is so, no packet comes to wait for one.
 pub fn alone_waits_for_nobody()
-    ensures { (s : GatewayAndOutput) (now : ℕ) (s2 : GatewayAndOutput) → IsStepOn s (Tick now) s2
+    ensures tick { (s : GatewayAndOutput) (now : ℕ) (s2 : GatewayAndOutput) → IsStepOn s (Tick now) s2
         → IsBook s.shown.ledger.book → KeepsBytes s.shown → is_apart s2.shown ≡ true
         → WaitsForNobody s2.shown }
+    ensures packet { (g : Shown) (side : Side) (flow : Flow) (length : ℕ) (e : Endpoint)
+        → IsBook g.ledger.book → is_apart g ≡ true → WaitsForNobody g
+        → plan_of g side flow length ≢ Ok (WaitForPair e) }
 {
     readings_law();
 }
