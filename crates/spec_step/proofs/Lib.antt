@@ -32,6 +32,7 @@ mod Passed
 mod Passing
 mod Reasons
 mod Records
+mod Releasing
 mod Resting
 mod Rooting
 mod Saying
