@@ -1,6 +1,5 @@
 -- After a tick at which a gateway is apart no packet waits for a pair, and each pair of its table translates.
 use Rattle.std.proofs.Common.{◌≡◌, ◌≢◌, ℕ, Bool, true, false, cond, not, List, [], ◌∷◌, Option, Some, None, Result, Ok, Err, refl, sym, ap, subst, ◌∙◌}
-use Rattle.std.specs.List.{AllByRecursion, filter}
 use Rattle.addresses.specs.declared.internet.Ip.{Ip}
 use Rattle.addresses.specs.declared.ethernet.Mac.{Mac}
 use Rattle.addresses.specs.declared.transport.Port.{Port}
@@ -28,7 +27,7 @@ use Rattle.spec_binding.specs.declared.changes.Transition.{Transition}
 use Rattle.spec_binding.specs.declared.changes.Want.{Want}
 use Rattle.spec_binding.specs.declared.changes.Want.TheVariants as want
 use Rattle.spec_binding.specs.Books.{Book, IsBook, is_lone, is_synced}
-use Rattle.spec_binding.specs.Ledgers.{Ledger, go_on_all, sought_keys}
+use Rattle.spec_binding.specs.Ledgers.{Ledger, sought_keys}
 use Rattle.spec_binding.specs.Rows.{after, is_at_limit, is_full, known_wish, may_want, new_pair, new_wish, none_row, paired_wish, port_for, quiet, row, wish, wish_by, wish_of}
 use Rattle.spec_binding.specs.WellFormed.{IsWellFormedEndpoint}
 use Rattle.spec_binding.proofs.Offered.{all-translate, chosen-says, wish-keeps}
@@ -39,7 +38,6 @@ use Rattle.waiting.specs.Waits.{is_for_pair}
 use Rattle.packet_rules.specs.declared.networks.Direction.{Direction}
 use Rattle.packet_rules.specs.declared.networks.Direction.TheVariants as way
 use Rattle.packet_rules.specs.declared.reasons.Reason.{Reason}
-use Rattle.packet_rules.specs.declared.reasons.Reason.TheVariants.{CannotWait}
 use Rattle.packet_rules.specs.declared.translations.Translation.{Translation}
 use Rattle.packet_rules.specs.declared.translations.Translation.TheVariants.{Outward, Inward, Hairpin}
 use Rattle.packet_rules.specs.Flows.{source_of}
@@ -47,10 +45,10 @@ use Rattle.packet_rules.specs.Networks.{direction_of, exit_of}
 use Rattle.packet_rules.specs.Steps.{and_then}
 use Rattle.spec_step.specs.declared.events.Event.TheVariants.{Tick}
 use Rattle.spec_step.specs.declared.plans.Plan.{Plan}
-use Rattle.spec_step.specs.declared.plans.Plan.TheVariants.{Send, Ask, AskAgain, Wait as WaitFor}
+use Rattle.spec_step.specs.declared.plans.Plan.TheVariants.{Ask, AskAgain, Wait as WaitFor}
 use Rattle.spec_step.specs.Apart.{WaitsForNobody}
 use Rattle.spec_step.specs.Machine.{AreBytes, KeepsBytes}
-use Rattle.spec_step.specs.Parts.{all_sought_done, alone_taken, by_plan, by_row, carried_by, datagram_in, gone_alone, handed_in, idle_taken, length_in, link_ticked, old_dropped, peer_told, released, wanted_by}
+use Rattle.spec_step.specs.Parts.{all_sought_done, alone_taken, by_plan, carried_by, datagram_in, gone_alone, handed_in, idle_taken, length_in, link_ticked, old_dropped, peer_told, wanted_by}
 use Rattle.spec_step.specs.Shown.{GatewayAndOutput, Shown, is_apart, scene}
 use Rattle.spec_step.specs.Steps.{IsStepOn}
 use Rattle.spec_step.specs.Verdict.{exit_by, fits_at, hop_by, if_fits, look_for, next_by, plan_by, plan_from, plan_of, plan_on, plan_to, target_pair}

@@ -59,7 +59,7 @@ use Rattle.spec_step.specs.Truly.{AtHand, Known, known_of, packets_of}
 use Rattle.spec_step.specs.Verdict.{reading_on}
 use Rattle.spec_step.proofs.Before.{apart-then}
 use Rattle.spec_step.proofs.Packets.{kept-filter}
-use Rattle.spec_step.proofs.Asking.{Ask-on, Asks, IsFit, IsQuiet, NearStays, NetsStay, Waiting, asking-then, due-more, kept-here, net-stays, new-more, nobody, nothing-asks, quiet-asks, quiet-by, requests-same, row-quiet}
+use Rattle.spec_step.proofs.Asking.{Ask-on, Asks, IsFit, IsQuiet, NearStays, NetsStay, Waiting, asking-then, due-more, net-stays, new-more, nobody, nothing-asks, quiet-asks, quiet-by, requests-same, row-quiet}
 use Rattle.spec_step.proofs.AskingParts.{all-apart, echo-asks, error-asks, one-apart, packet-asks, pairs-ask, refused-asks, released-asks}
 use Rattle.spec_step.proofs.Freeing.{Comes-of, filter-same, filter-both}
 use Rattle.spec_step.proofs.Limits.{count-left, asks-left}

@@ -1,5 +1,5 @@
 -- At a tick a gateway that is apart releases only pairs that were made alone.
-use Rattle.std.proofs.Common.{◌≡◌, ℕ, Bool, true, false, cond, not, ◌&&◌, List, [], ◌∷◌, ◌++◌, Option, Some, None, Result, Ok, Err, refl, sym, ap, subst, ◌∙◌, append_assoc}
+use Rattle.std.proofs.Common.{◌≡◌, ℕ, Bool, true, false, cond, not, ◌&&◌, List, [], ◌∷◌, ◌++◌, Option, Some, None, Ok, refl, sym, ap, subst, ◌∙◌, append_assoc}
 use Rattle.std.specs.List.{AllByRecursion}
 use Rattle.std.proofs.lemmas.List.{append-nil, append_cancel_left}
 use Rattle.addresses.specs.declared.transport.Port.{Port}
@@ -32,14 +32,14 @@ use Rattle.spec_binding.specs.declared.changes.Transition.{Transition}
 use Rattle.spec_binding.specs.declared.changes.Want.TheVariants as want
 use Rattle.spec_binding.specs.Books.{Book, IsBook, is_lone, is_paired, is_synced}
 use Rattle.spec_binding.specs.Ledgers.{Ledger, is_reached, may_ask, sought_keys}
-use Rattle.spec_binding.specs.Rows.{after, alone_row, carry_row, idle_row, is_at_limit, is_full, known_wish, marked_row, may_want, new_pair, new_wish, none_row, noted_by, paired_wish, port_for, proposal, quiet, release_row, released_row, row, sought_row, telling_row, use_row, used_row, wish, wish_by, wish_of}
+use Rattle.spec_binding.specs.Rows.{after, alone_row, carry_row, idle_row, is_at_limit, is_full, known_wish, marked_row, may_want, new_pair, new_wish, none_row, noted_by, paired_wish, port_for, quiet, release_row, released_row, row, sought_row, use_row, used_row, wish, wish_by, wish_of}
 use Rattle.spec_binding.specs.WellFormed.{IsWellFormedEndpoint}
 use Rattle.spec_binding.proofs.Offered.{at-key}
 use Rattle.waiting.specs.declared.waits.Ended.TheVariants.{AllPairs}
 use Rattle.packet_rules.specs.Flows.{source_of}
 use Rattle.spec_step.specs.declared.events.Event.TheVariants.{Tick}
 use Rattle.spec_step.specs.declared.plans.Plan.TheVariants.{Wait as WaitFor}
-use Rattle.spec_step.specs.LettingGo.{IsMadeAlone, ReleasesAlone}
+use Rattle.spec_step.specs.LettingGo.{ReleasesAlone}
 use Rattle.spec_step.specs.Machine.{AreBytes, KeepsBytes}
 use Rattle.spec_step.specs.Parts.{all_idle_done, all_sought_done, alone_taken, by_plan, by_row, carried_by, datagram_in, gone_alone, handed_in, idle_done, idle_taken, length_in, link_ticked, old_dropped, peer_told, sought_done, wanted_by}
 use Rattle.spec_step.specs.Shown.{GatewayAndOutput, id_of, is_apart, scene}

@@ -24,9 +24,8 @@ use Rattle.link.specs.Grammar.{IsWellFormed, IsWellFormedRecord}
 use Rattle.link.specs.Link.{Link, after_take, closed_at, is_due_on_tick, is_restart, records_taken, refusal, sent_on_answer, sent_on_tick}
 use Rattle.link.specs.Reading.{reading}
 use Rattle.link.proofs.Offered.{all_taken as all_formed, reading_takes}
-use Rattle.resync.specs.Loading.{Load, loaded}
 use Rattle.spec_binding.specs.declared.changes.Transition.{Transition}
-use Rattle.spec_binding.specs.Books.{Book, IsBook, empty_book, is_lone, is_synced, load_of}
+use Rattle.spec_binding.specs.Books.{Book, IsBook, empty_book, is_lone, is_synced}
 use Rattle.spec_binding.specs.Ledgers.{Ledger, alone_ledger, carried_ledger, ledger_after, may_ask, restarted_ledger, rests_for, sought_keys, taken_ledger}
 use Rattle.spec_binding.specs.Resets.{back_in, begun_anew, restart_link, restart_notes, restarted, retaken}
 use Rattle.spec_binding.specs.Rows.{after, alone_row, answered, carry_row, idle_row, is_full, noted_by, row_of, taken_answer, taken_book, taken_ended, taken_what, unsynced_after, wish_of}
@@ -37,7 +36,6 @@ use Rattle.spec_pair.specs.Talk.{note}
 use Rattle.waiting.specs.declared.waits.Ended.{Ended}
 use Rattle.waiting.specs.declared.waits.Ended.TheVariants.{AllPairs, One}
 use Rattle.waiting.specs.declared.waits.WaitsFor.TheVariants as wait
-use Rattle.waiting.specs.Packets.{HeldPacket, ended_by, left_by}
 use Rattle.packet_rules.specs.declared.readings.Reading.{Reading}
 use Rattle.packet_rules.specs.declared.readings.Reading.TheVariants.{Arp, Advert, Packet, Error, Asked}
 use Rattle.packet_rules.specs.declared.reasons.Reason.{Reason}
@@ -52,10 +50,9 @@ use Rattle.spec_step.specs.declared.events.Event.{Event}
 use Rattle.spec_step.specs.declared.events.Event.TheVariants.{Frame, Datagram as Comes, Tick, Stop, PeerOff, Side as SideIs}
 use Rattle.spec_step.specs.declared.plans.Plan.TheVariants.{Wait as WaitFor}
 use Rattle.spec_step.specs.Apart.{IsUnmoved}
-use Rattle.spec_step.specs.LettingGo.{NotesRelease}
 use Rattle.spec_step.specs.GivingWay.{GivingWay, left, turn_of}
 use Rattle.spec_step.specs.Machine.{AreBytes, HasBytes, KeepsBytes}
-use Rattle.spec_step.specs.Parts.{acted, all_framed, all_idle_done, all_sought_done, alone_taken, answered_by, arp_taken, by_plan, by_row, carried_by, datagram_in, datagram_read, framed, frames_of, gone_alone, handed_in, has_synced, heard_by, heard_unless, idle_done, idle_taken, keeping, length_in, link_answered, link_ticked, old_dropped, peer_told, record_done, record_shown, record_told, records_done, released, reset, side_plugged, sought_done, started, wait_ended, wanted_by, with_link, word_taken}
+use Rattle.spec_step.specs.Parts.{acted, all_framed, all_idle_done, all_sought_done, alone_taken, answered_by, arp_taken, by_plan, by_row, carried_by, datagram_in, datagram_read, framed, frames_of, gone_alone, handed_in, has_synced, heard_by, heard_unless, idle_done, idle_taken, keeping, length_in, link_answered, link_ticked, old_dropped, peer_told, record_done, record_shown, record_told, records_done, released, reset, sought_done, started, wait_ended, wanted_by, with_link, word_taken}
 use Rattle.spec_step.specs.Routers.{BothAct, RouterActs}
 use Rattle.spec_step.specs.Shown.{GatewayAndOutput, Shown, id_of, is_apart, is_running, scene, station_on, with_notes, with_station}
 use Rattle.spec_step.specs.Steps.{Does, FrameDoes, IsStepOn, ended_on, stopped, ticked, word_by, word_refusal}
