@@ -153,9 +153,9 @@ keeps-add c s p is full free new side inside formed =
     (keys-put (entry_in s p) c.entries is.keys free)
     (one-set c.entries (put_in (entry_in s p) c.entries) p.key (Some (entry_in s p)) is.endpoints (λ q. slot-put (entry_in s p) c.entries q free)
     (λ x y q rank some px hy py same.
-      let e : entry_in s p ≡ x = cc in
-      let own : is_of_rank rank s ≡ true = ap (λ (z : Entry). is_of_rank rank z.state) e ∙ px in
-      absurd (unranked c.entries rank p.endpoint q y (untaken c.entries s p.endpoint rank new own) hy py (sym same ∙ ap (λ (z : Entry). z.pair.endpoint) (sym e)))))
+    let e : entry_in s p ≡ x = cc in
+    let own : is_of_rank rank s ≡ true = ap (λ (z : Entry). is_of_rank rank z.state) e ∙ px in
+    absurd (unranked c.entries rank p.endpoint q y (untaken c.entries s p.endpoint rank new own) hy py (sym same ∙ ap (λ (z : Entry). z.pair.endpoint) (sym e)))))
     (set-sides c is (put_in (entry_in s p) c.entries) p.key (Some (entry_in s p)) (λ q. slot-put (entry_in s p) c.entries q free)
     (λ x some. let e : entry_in s p ≡ x = cc in ap (λ (z : Entry). is_of_rank Second z.state) (sym e) ∙ side))
     (set-placed c is (put_in (entry_in s p) c.entries) p.key (Some (entry_in s p)) (λ q. slot-put (entry_in s p) c.entries q free)
@@ -190,9 +190,9 @@ keeps-turn c k s x is synced found on =
     (keys-turn k s c.entries is.keys)
     (one-set c.entries (with_state k s c.entries) k (Some (entry_in s x.pair)) is.endpoints (λ q. slot-with_state k s c.entries x q found)
     (λ z y q rank some pz hy py same.
-      let e : entry_in s x.pair ≡ z = cc in
-      let old : is_of_rank rank x.state ≡ true = on.ranks rank (ap (λ (w : Entry). is_of_rank rank w.state) e ∙ pz) in
-      is.endpoints k q x y rank found hy old py (ap (λ (w : Entry). w.pair.endpoint) e ∙ same)))
+    let e : entry_in s x.pair ≡ z = cc in
+    let old : is_of_rank rank x.state ≡ true = on.ranks rank (ap (λ (w : Entry). is_of_rank rank w.state) e ∙ pz) in
+    is.endpoints k q x y rank found hy old py (ap (λ (w : Entry). w.pair.endpoint) e ∙ same)))
     (set-sides c is (with_state k s c.entries) k (Some (entry_in s x.pair)) (λ q. slot-with_state k s c.entries x q found)
     (λ z some. let e : entry_in s x.pair ≡ z = cc in ap (λ (w : Entry). is_of_rank Second w.state) (sym e) ∙ on.side ∙ is.sides k x found))
     (set-placed c is (with_state k s c.entries) k (Some (entry_in s x.pair)) (λ q. slot-with_state k s c.entries x q found)
