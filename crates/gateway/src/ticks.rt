@@ -1,8 +1,9 @@
 //! A tick of the clock, and the stop of both routers.
-ghost use Rattle.std.specs.Prelude.{◌≡◌, ◌≤◌, length};
+ghost use Rattle.std.specs.Prelude.{◌≡◌, ◌≤◌, length, true};
 ghost use Rattle.vrrp_states.specs.Table.{IsMoment};
 ghost use Rattle.spec_step.specs.declared.events.Event.TheVariants.{Stop as StopEvent};
 ghost use Rattle.spec_step.specs.Parts.{idle_taken};
+ghost use Rattle.spec_step.specs.Shown.{is_apart};
 ghost use Rattle.spec_step.specs.Steps.{Does, clock_after};
 ghost use Rattle.forwarder.specs.Forwarder.{scene_on, shown_of};
 ghost use Rattle.forwarder.specs.Room.{HasRoomFor, Spends};
@@ -39,8 +40,11 @@ fn release_and_go_on(forwarder: &mut Forwarder, page: &mut OutputBuffer)
     requires room { HasRoomFor (idle_needs forwarder.old) forwarder.old page.old }
     ensures scene { scene_on forwarder.new page.new
         ≡ sought_taken (idle_taken (scene_on forwarder.old page.old)) }
-    ensures spends { Spends (idle_needs forwarder.old) forwarder.old page.old
-        forwarder.new page.new }
+    ensures datagrams { page.new.room.datagrams ≡ page.old.room.datagrams }
+    // A gateway that is apart notes no more pairs than the table had.
+    ensures spends { is_apart (shown_of forwarder.old) ≡ true
+        → Spends (idle_needs forwarder.old) forwarder.old page.old forwarder.new page.new }
+    ensures kept { forwarder.new.kept ≡ forwarder.old.kept }
 {
     idle_at_once();
     sought_at_once();
@@ -60,9 +64,10 @@ pub(crate) fn take_tick(forwarder: &mut Forwarder, page: &mut OutputBuffer, now:
     requires room { HasRoomFor (tick_needs forwarder.old) forwarder.old page.old }
     ensures ticks { TicksTo (scene_on forwarder.old page.old) now
         (scene_on forwarder.new page.new) }
+    ensures datagrams { page.new.room.datagrams ≡ page.old.room.datagrams }
     ensures kept { length forwarder.new.kept ≤ length forwarder.old.kept }
-    ensures spends { Spends (tick_needs forwarder.old) forwarder.old page.old
-        forwarder.new page.new }
+    ensures spends { is_apart_at (shown_of forwarder.old) now ≡ true
+        → Spends (tick_needs forwarder.old) forwarder.old page.old forwarder.new page.new }
 {
     forwarder.moment = clock_after(forwarder.moment, now);
     take_turn(forwarder, page);
