@@ -53,15 +53,16 @@ fn begin_core(
     zero: PortBounds,
     one: PortBounds,
     limit: Option<u16>,
+    alone: u16,
 ) -> Option<Core>
     requires zero { AreBounds zero }
     requires one { AreBounds one }
 {
     let hashers = Hashers::fixed();
     if is_founder {
-        return Core::founder(alloc, zero, one, limit, hashers).ok();
+        return Core::founder(alloc, zero, one, limit, alone, hashers).ok();
     }
-    Core::unsynced(alloc, id, zero, one, limit, hashers).ok()
+    Core::unsynced(alloc, id, zero, one, limit, alone, hashers).ok()
 }
 
 /// Returns how many ports a table's gateway owns, or None where there is no memory for their list.
@@ -107,11 +108,12 @@ impl Side {
         one: PortBounds,
         capacity: usize,
         limit: Option<u16>,
+        alone: u16,
     ) -> Option<Side>
         requires zero { AreBounds zero }
         requires one { AreBounds one }
     {
-        let core = begin_core(alloc, id, is_founder, zero, one, limit)?;
+        let core = begin_core(alloc, id, is_founder, zero, one, limit, alone)?;
         let (core, link) = beside(core, Link::new(alloc, id, 1, capacity)).ok()?;
         Some(Side {
             alloc,
@@ -168,7 +170,7 @@ impl Side {
         let Some(mut notes) = self.prepare() else {
             return case.fault();
         };
-        let looked = self.core.look(&self.link, endpoint);
+        let looked = self.core.look(&self.link, endpoint, self.clock);
         let want = self
             .core
             .want(endpoint, &mut self.link, self.clock, &mut notes);
@@ -204,6 +206,23 @@ impl Side {
         };
         self.core.tick(&mut self.link, self.clock, &mut notes);
         self.tell_done(&notes, case);
+        self.go_on(case);
+    }
+
+    /// Marks what waits, or tells the peer of what was made alone.
+    fn go_on(&mut self, case: &mut Case) {
+        let Some(mut notes) = self.prepare() else {
+            return case.fault();
+        };
+        self.core
+            .mark_or_tell(&mut self.link, self.clock, &mut notes);
+        self.tell_done(&notes, case);
+    }
+
+    /// Prints whether the gateway is apart.
+    pub(crate) fn tell_apart(&self, case: &mut Case) {
+        let is_apart = self.core.is_apart(&self.link, self.clock);
+        begin_part(if is_apart { "apart" } else { "together" }, case);
     }
 
     /// Does a call such as `udp 20000 198.51.100.7 53 out -`: the key, the remote host, the way and the flags.
@@ -290,12 +309,18 @@ impl Side {
         Some(ports + pairs + 2)
     }
 
-    /// Returns the endpoint to which a packet to an outside port goes: that of a Live or Held pair, once the core is
+    /// Returns the endpoint to which a packet to an outside port goes: that of a pair that translates, once the core is
     /// synced. None where there is no such pair.
     pub(crate) fn inbound(&self, key: Key) -> Option<Endpoint> {
         let entry = self.core.table().pair_of_port(key)?;
         match entry.state {
-            EntryState::Live | EntryState::Held if self.core.is_synced() => {
+            EntryState::Live
+            | EntryState::Held
+            | EntryState::Alone
+            | EntryState::Pending { marked: true }
+            | EntryState::Closing { marked: true }
+                if self.core.is_synced() =>
+            {
                 Some(entry.pair.endpoint)
             }
             _ => None,

@@ -5,6 +5,20 @@ use cases_words::Case;
 use nat_types::{Endpoint, EntryState, Key, Note, Pair, Record};
 use spec_binding::Want;
 
+/// Returns the name of a state, as lines have it.
+pub(crate) fn state_name(state: EntryState) -> &'static str {
+    match state {
+        EntryState::Pending { marked: false } => "Pending",
+        EntryState::Pending { marked: true } => "PendingMarked",
+        EntryState::Doomed => "Doomed",
+        EntryState::Live => "Live",
+        EntryState::Closing { marked: false } => "Closing",
+        EntryState::Closing { marked: true } => "ClosingMarked",
+        EntryState::Alone => "Alone",
+        EntryState::Held => "Held",
+    }
+}
+
 /// Whether the line so far ends with its colon.
 fn is_bare(case: &Case) -> bool {
     case.out.last().copied() == Some(b':')
@@ -44,6 +58,7 @@ pub(crate) fn tell_record(item: &Record, case: &mut Case) {
     match *item {
         Record::Install(pair) => case.say("install ", pair),
         Record::Put(pair) => case.say("put ", pair),
+        Record::Tell(pair) => case.say("tell ", pair),
         Record::Accept(key) => tell_key("accept ", key, case),
         Record::Refuse(key) => tell_key("refuse ", key, case),
         Record::Ask(key) => tell_key("ask ", key, case),
@@ -101,7 +116,7 @@ pub(crate) fn tell_endpoint(word: &str, endpoint: Endpoint, case: &mut Case) {
 pub(crate) fn tell_entry(pair: Pair, state: EntryState, case: &mut Case) {
     begin_part("", case);
     case.put(pair);
-    case.show(" ", state);
+    case.say(" ", state_name(state));
 }
 
 pub(crate) fn tell_owned(ports: &[Port], case: &mut Case) {
