@@ -3,7 +3,7 @@ ghost use Rattle.std.specs.Prelude.{◌≡◌};
 ghost use Rattle.bindings.specs.Ports.{AreBounds};
 ghost use Rattle.bindings.specs.Table.{AreInRanges};
 
-use crate::telling::state_name;
+use crate::states::state_name;
 use addresses::{Ip, Port, Protocol};
 use bindings::{Hashers, PortBounds, Table};
 use cases_words::Case;

@@ -4,7 +4,7 @@ ghost use Rattle.bindings.specs.Ports.{AreBounds};
 
 use crate::listing::{list, tell_found};
 use crate::ports::parity;
-use crate::telling::state_name;
+use crate::states::{may_turn, state_name};
 use addresses::Port;
 use bindings::{Entry, Hashers, PortBounds, Table};
 use cases_words::{Actor, Case};
@@ -207,6 +207,9 @@ impl TableCase {
         let (key, state) = (case.key(), case.state());
         match self.table.pair_of_port(key) {
             Some(entry) if entry.state == EntryState::Doomed => case.refuse("it is Doomed"),
+            Some(entry) if !may_turn(entry.state, state) => {
+                case.refuse("its side is another");
+            }
             _ => self.table.set_state(key, state),
         }
     }

@@ -1,23 +1,10 @@
 //! The parts of the answer to a line of one side, printed one after another.
 
+use crate::states::state_name;
 use addresses::Port;
 use cases_words::Case;
 use nat_types::{Endpoint, EntryState, Key, Note, Pair, Record};
 use spec_binding::Want;
-
-/// Returns the name of a state, as lines have it.
-pub(crate) fn state_name(state: EntryState) -> &'static str {
-    match state {
-        EntryState::Pending { marked: false } => "Pending",
-        EntryState::Pending { marked: true } => "PendingMarked",
-        EntryState::Doomed => "Doomed",
-        EntryState::Live => "Live",
-        EntryState::Closing { marked: false } => "Closing",
-        EntryState::Closing { marked: true } => "ClosingMarked",
-        EntryState::Alone => "Alone",
-        EntryState::Held => "Held",
-    }
-}
 
 /// Whether the line so far ends with its colon.
 fn is_bare(case: &Case) -> bool {
