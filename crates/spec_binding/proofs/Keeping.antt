@@ -28,7 +28,7 @@ use Rattle.bindings.proofs.Offered.{found-slot, is-rank, none-ranked, one-rank, 
 use Rattle.port_range.specs.Ports.{is_listed, AreRising}
 use Rattle.link.specs.Grammar.{IsWellFormedPair, IsWellFormedRecord}
 use Rattle.link.specs.Link.{fresh}
-use Rattle.resync.specs.Batch.{AreHeldElsewhere, is_settled, owners_of, puts_of}
+use Rattle.resync.specs.Batch.{AreHeldElsewhere, is_second, is_settled, owners_of, puts_of, record_for}
 use Rattle.resync.specs.Loading.{Load, is_beside, is_new, loaded_state, names_run, none_yet, with_pair, with_run}
 use Rattle.spec_pair.specs.Box.{In, founder}
 use Rattle.spec_pair.specs.Ownership.{AreRising as RunsRise}
@@ -75,15 +75,22 @@ owners-formed b (r ∷ rs) low tail is rise all = (
   owners-formed b rs r.highest.0 tail is rise.1 all,
 )
 
-puts-formed : (ps : List Pair) → ((p : Pair) → In p ps → IsWellFormedPair p) → AllByRecursion IsWellFormedRecord (map (λ p. rec.Put p) ps ++ rec.Done ∷ [])
-puts-formed [] each = (tt, tt)
-puts-formed (p ∷ ps) each = (each p (inl refl), puts-formed ps (λ q i. each q (inr i)))
+record-formed : (pairs : List Pair) (p : Pair) → IsWellFormedPair p → IsWellFormedRecord (record_for pairs p)
+record-formed pairs p formed = at (is_second pairs p)
+  where
+    at : (t : Bool) → IsWellFormedRecord (let r : Record = cond t (rec.Tell p) (rec.Put p) in r)
+    at true = formed
+    at false = formed
+
+puts-formed : (pairs ps : List Pair) → ((p : Pair) → In p ps → IsWellFormedPair p) → AllByRecursion IsWellFormedRecord (map (record_for pairs) ps ++ rec.Done ∷ [])
+puts-formed pairs [] each = (tt, tt)
+puts-formed pairs (p ∷ ps) each = (record-formed pairs p (each p (inl refl)), puts-formed pairs ps (λ q i. each q (inr i)))
 
 pub batch-formed : (b : Book) → IsBook b → AllByRecursion IsWellFormedRecord (restart_batch b)
 batch-formed b is =
-    let puts : AllByRecursion IsWellFormedRecord (map (λ p. rec.Put p) (pairs_in is_settled (revived_entries b.entries)) ++ rec.Done ∷ []) =
-    subst (λ (ps : List Pair). AllByRecursion IsWellFormedRecord (map (λ p. rec.Put p) ps ++ rec.Done ∷ [])) (sym (settled-pairs b.entries))
-    (puts-formed (pairs_in is_pair b.entries) (λ p i. let at = listed-at is_pair b.entries p is.keys i in subst IsWellFormedPair at.pair (is.formed p.key at.entry at.found))) in
+    let puts : AllByRecursion IsWellFormedRecord (puts_of (revived_entries b.entries) ++ rec.Done ∷ []) =
+    subst (λ (ps : List Pair). AllByRecursion IsWellFormedRecord (map (record_for ps) ps ++ rec.Done ∷ [])) (sym (settled-pairs b.entries))
+    (puts-formed (pairs_in is_pair b.entries) (pairs_in is_pair b.entries) (λ p i. let at = listed-at is_pair b.entries p is.keys i in subst IsWellFormedPair at.pair (is.formed p.key at.entry at.found))) in
     (tt, owners-formed b (runs_of b.owned) 0 (puts_of (revived_entries b.entries) ++ rec.Done ∷ []) is (runs-rising (λ p. in_ranges b p) b.owned is.rising is.owned) puts)
 
 pub fed-formed : (b : Book) (records rest : List Record) → IsBook b → b.coming ≡ records ++ rest → AllByRecursion IsWellFormedRecord records
@@ -626,7 +633,7 @@ founded-owns z o p are = range-is z p are ∙ at (in_bounds z p) (in_bounds o p)
     at false false = refl
 
 pub founded-keeps : (zero one : PortBounds) (limit : Option ℕ) (alone : ℕ) → AreBounds zero → AreBounds one → IsPort zero.highest.0 → IsPort one.highest.0 → IsBook (founded_book zero one limit alone)
-founded-keeps z o limit az ao hz ho = record {
+founded-keeps z o limit alone az ao hz ho = record {
   zero = az;
   one = ao;
   highest = (hz, ho);
@@ -646,6 +653,6 @@ founded-keeps z o limit az ao hz ho = record {
   unnamed = λ a n. absurd (cc);
 }
 
-pub founded-box : (zero one : PortBounds) (limit : Option ℕ) (capacity : ℕ) → AreBounds zero → box_at (founded_book zero one limit alone) (fresh Zero 1 capacity) [] 0 ≡ founder (λ p. in_either zero one p && in_bounds zero p)
-founded-box z o limit capacity az = same_boxes (box_at (founded_book z o limit alone) (fresh Zero 1 capacity) [] 0) (founder (λ p. in_either z o p && in_bounds z p))
+pub founded-box : (zero one : PortBounds) (limit : Option ℕ) (alone capacity : ℕ) → AreBounds zero → box_at (founded_book zero one limit alone) (fresh Zero 1 capacity) [] 0 ≡ founder (λ p. in_either zero one p && in_bounds zero p)
+founded-box z o limit alone capacity az = same_boxes (box_at (founded_book z o limit alone) (fresh Zero 1 capacity) [] 0) (founder (λ p. in_either z o p && in_bounds z p))
     (record { up = refl; boot = refl; synced = refl; lone = refl; peer = refl; table = λ k. refl; sent = refl; taken = refl; loading = refl; owned = λ p. founded-owns z o p az; wants = refl; named = refl; promised = refl })

@@ -319,7 +319,7 @@ know-carry since es ls u v k x p found live le more others w = record {
         subst (λ (z : List ℕ). Knows p.at es (lives_with (life_carried k.protocol p) k es ls) k z) (sym more)
         (with_packet p a.0, (life_carried k.protocol p a.1.0, life-here (life_carried k.protocol p) k es ls a.1.0 a.1.1, agrees-carried k.protocol a.0 a.1.0 p a.1.2), accounts-more k.protocol since a.0 (u x.pair) p le a.2)
 
-translating-pair : (s : EntryState) → translates s ≡ true → (is_pair s ≡ true) × (translates (woken s) ≡ true)
+pub translating-pair : (s : EntryState) → translates s ≡ true → (is_pair s ≡ true) × (translates (woken s) ≡ true)
 translating-pair (state.Pending true) h = (refl, refl)
 translating-pair (state.Pending false) h = cc
 translating-pair state.Doomed h = cc

@@ -39,20 +39,20 @@ use Rattle.spec_binding.proofs.Working.{loaded-keeps}
 use Rattle.spec_binding.proofs.Wishing.{at-key}
 
 beside : (b : Book) → IsBeside b b
-beside b = record { id = refl; zero = refl; one = refl; limit = refl; stage = refl; begun = refl; named = refl; coming = refl }
+beside b = record { id = refl; zero = refl; one = refl; limit = refl; alone = refl; stage = refl; begun = refl; named = refl; coming = refl }
 
 pub change-leaves : (b : Book) (ch : Change) → IsBeside b (changed ch b)
 change-leaves b Keep = beside b
-change-leaves b (Add e) = record { id = refl; zero = refl; one = refl; limit = refl; stage = refl; begun = refl; named = refl; coming = refl }
-change-leaves b (Turn k s) = record { id = refl; zero = refl; one = refl; limit = refl; stage = refl; begun = refl; named = refl; coming = refl }
-change-leaves b (Renew k) = record { id = refl; zero = refl; one = refl; limit = refl; stage = refl; begun = refl; named = refl; coming = refl }
-change-leaves b (Drop k) = record { id = refl; zero = refl; one = refl; limit = refl; stage = refl; begun = refl; named = refl; coming = refl }
-change-leaves b (Yield q p) = record { id = refl; zero = refl; one = refl; limit = refl; stage = refl; begun = refl; named = refl; coming = refl }
-change-leaves b Want = record { id = refl; zero = refl; one = refl; limit = refl; stage = refl; begun = refl; named = refl; coming = refl }
-change-leaves b (Give g) = record { id = refl; zero = refl; one = refl; limit = refl; stage = refl; begun = refl; named = refl; coming = refl }
+change-leaves b (Add e) = record { id = refl; zero = refl; one = refl; limit = refl; alone = refl; stage = refl; begun = refl; named = refl; coming = refl }
+change-leaves b (Turn k s) = record { id = refl; zero = refl; one = refl; limit = refl; alone = refl; stage = refl; begun = refl; named = refl; coming = refl }
+change-leaves b (Renew k) = record { id = refl; zero = refl; one = refl; limit = refl; alone = refl; stage = refl; begun = refl; named = refl; coming = refl }
+change-leaves b (Drop k) = record { id = refl; zero = refl; one = refl; limit = refl; alone = refl; stage = refl; begun = refl; named = refl; coming = refl }
+change-leaves b (Yield q p) = record { id = refl; zero = refl; one = refl; limit = refl; alone = refl; stage = refl; begun = refl; named = refl; coming = refl }
+change-leaves b Want = record { id = refl; zero = refl; one = refl; limit = refl; alone = refl; stage = refl; begun = refl; named = refl; coming = refl }
+change-leaves b (Give g) = record { id = refl; zero = refl; one = refl; limit = refl; alone = refl; stage = refl; begun = refl; named = refl; coming = refl }
 change-leaves b (Gain g) =
     let is = gained-is b (numbers_of g) in
-    record { id = ap (λ (x : Book). x.id) is; zero = ap (λ (x : Book). x.zero) is; one = ap (λ (x : Book). x.one) is; limit = ap (λ (x : Book). x.limit) is; stage = ap (λ (x : Book). x.stage) is; begun = ap (λ (x : Book). x.begun) is; named = ap (λ (x : Book). x.named) is; coming = ap (λ (x : Book). x.coming) is }
+    record { id = ap (λ (x : Book). x.id) is; zero = ap (λ (x : Book). x.zero) is; one = ap (λ (x : Book). x.one) is; limit = ap (λ (x : Book). x.limit) is; alone = ap (λ (x : Book). x.alone) is; stage = ap (λ (x : Book). x.stage) is; begun = ap (λ (x : Book). x.begun) is; named = ap (λ (x : Book). x.named) is; coming = ap (λ (x : Book). x.coming) is }
 
 -- ---- answers
 
@@ -127,6 +127,7 @@ synced-mute b rests rec.Done h = refl
 synced-mute b rests rec.Want h = cc
 synced-mute b rests (rec.Grant g) h = grant-mute b g
 synced-mute b rests (rec.Owner first last) h = refl
+synced-mute b rests (rec.Tell p) h = cc
 
 pub taken-mute : (b : Book) (rests : Bool) (r : Record) → needs_answer r ≡ false → taken_answer b rests r ≡ None
 taken-mute b rests r h = at (is_synced b.stage) (is_promised b)
@@ -151,6 +152,7 @@ stage-together s rec.Done h = refl
 stage-together s rec.Want h = h
 stage-together s (rec.Grant g) h = h
 stage-together s (rec.Owner first last) h = h
+stage-together s (rec.Tell p) h = h
 
 load-together : (b : Book) (r : Record) (o : Option Load) → is_lone b.stage ≡ false → is_lone (load_taken b r o).stage ≡ false
 load-together b r None h = h
@@ -339,29 +341,6 @@ module _ (b : Book) where
       at true (Some x) = used-stays x.pair x.state
       at false o = same-batch b
 
--- ---- how long a batch is
-
-on-count : (first last : ℕ) (ps : List ℕ) → length (runs_on first last ps) ≤ suc (length ps)
-on-count first last [] = omega arith
-on-count first last (p ∷ ps) = at (p == suc last) (on-count first p ps) (on-count p p ps)
-  where
-    at : (t : Bool) → length (runs_on first p ps) ≤ suc (length ps) → length (runs_on p p ps) ≤ suc (length ps) → length (let rs : List PortBounds = cond t (runs_on first p ps) (run_of first last ∷ runs_on p p ps) in rs) ≤ suc (suc (length ps))
-    at true one two = omega (arith, one)
-    at false one two = omega (arith, two)
-
-runs-count : (ps : List ℕ) → length (runs_of ps) ≤ length ps
-runs-count [] = omega arith
-runs-count (p ∷ ps) = on-count p p ps
-
-pub batch-room : (b : Book) → length (restart_batch b) ≤ length b.owned + length b.entries + 2
-batch-room b =
-    let count = batch-count b in
-    let runs = runs-count b.owned in
-    let mapped : length (machine_runs (runs_of b.owned)) ≡ length (runs_of b.owned) = length-map (runs_of b.owned) _ in
-    let pairs : length (pairs_in is_pair b.entries) ≡ length (filter (λ (e : Entry). is_pair e.state) b.entries) = length-map (filter (λ (e : Entry). is_pair e.state) b.entries) _ in
-    let kept = length-keep (λ (e : Entry). is_pair e.state) b.entries in
-    omega (arith, count, runs, mapped, pairs, kept)
-
   -- ---- going on alone
 
   marked-stays : IsBook b → (x : Entry) (s : EntryState) → x.state ≡ s → slot_of b.entries x.pair.key ≡ Some x → IsSameBatch b (after b (marked_row x.pair s))
@@ -391,3 +370,26 @@ batch-room b =
       at true true (Some x) found = marked-stays is x x.state refl (at-key b.entries k x found)
       at true false (Some x) found = telling-stays is full x x.state refl (at-key b.entries k x found)
       at false apart o found = same-batch b
+
+-- ---- how long a batch is
+
+on-count : (first last : ℕ) (ps : List ℕ) → length (runs_on first last ps) ≤ suc (length ps)
+on-count first last [] = omega arith
+on-count first last (p ∷ ps) = at (p == suc last) (on-count first p ps) (on-count p p ps)
+  where
+    at : (t : Bool) → length (runs_on first p ps) ≤ suc (length ps) → length (runs_on p p ps) ≤ suc (length ps) → length (let rs : List PortBounds = cond t (runs_on first p ps) (run_of first last ∷ runs_on p p ps) in rs) ≤ suc (suc (length ps))
+    at true one two = omega (arith, one)
+    at false one two = omega (arith, two)
+
+runs-count : (ps : List ℕ) → length (runs_of ps) ≤ length ps
+runs-count [] = omega arith
+runs-count (p ∷ ps) = on-count p p ps
+
+pub batch-room : (b : Book) → length (restart_batch b) ≤ length b.owned + length b.entries + 2
+batch-room b =
+    let count = batch-count b in
+    let runs = runs-count b.owned in
+    let mapped : length (machine_runs (runs_of b.owned)) ≡ length (runs_of b.owned) = length-map (runs_of b.owned) _ in
+    let pairs : length (pairs_in is_pair b.entries) ≡ length (filter (λ (e : Entry). is_pair e.state) b.entries) = length-map (filter (λ (e : Entry). is_pair e.state) b.entries) _ in
+    let kept = length-keep (λ (e : Entry). is_pair e.state) b.entries in
+    omega (arith, count, runs, mapped, pairs, kept)

@@ -19,4 +19,5 @@ mod Knowing
 mod Accounting
 mod Staying
 mod Settling
+mod Serving
 pub mod Offered

@@ -6,7 +6,7 @@ use Rattle.nat_types.specs.Same.{same, same_key, same_pair}
 use Rattle.nat_types.proofs.Offered.{key-self, same-self, pair-eq, pair-self}
 use Rattle.nat_types.specs.declared.gateways.GatewayId.{GatewayId}
 use Rattle.nat_types.specs.declared.notes.NoteKind.{NoteKind}
-use Rattle.nat_types.specs.declared.notes.NoteKind.TheVariants.{Used, Released, Retaken, Synced, Crashed, Booted}
+use Rattle.nat_types.specs.declared.notes.NoteKind.TheVariants.{Used, Released, Retaken, Alone, Synced, Crashed, Booted}
 use Rattle.nat_types.specs.declared.notes.Note.{Note}
 use Rattle.nat_types.specs.declared.pairs.EntryState.{EntryState}
 use Rattle.nat_types.specs.declared.pairs.EntryState.TheVariants as state
@@ -63,6 +63,7 @@ foreign-uses g p by at (Used noted) uses other =
     cond-false (same g by && same_pair p noted) (at ∷ uses) uses (false_from_ne_true (same g by && same_pair p noted) (λ both. both_ways (same g by) other (and_parts (same g by) (same_pair p noted) both).0))
 foreign-uses g p by at (Released noted) uses other = refl
 foreign-uses g p by at (Retaken noted) uses other = refl
+foreign-uses g p by at (Alone noted) uses other = refl
 foreign-uses g p by at Synced uses other = refl
 foreign-uses g p by at Crashed uses other = refl
 foreign-uses g p by at (Booted number) uses other = cond-false (same g by) [] uses other

@@ -209,9 +209,10 @@ pub fn alone_waits_for_nobody()
 /// that notes its release.
 pub fn not_moved()
     ensures wished { (b : Book) (apart full : Bool) (e x : Endpoint) (p : Pair) → IsBook b
-        → serving b x ≡ Some p → serving (after b (wish_of b apart full e).row) x ≡ Some p }
+        → IsWellFormedEndpoint e → serving b x ≡ Some p
+        → serving (after b (wish_of b apart full e).row) x ≡ Some p }
     ensures taken { (b : Book) (rests : Bool) (r : Record) (x : Endpoint) (p : Pair) → IsBook b
-        → is_synced b.stage ≡ true → serving b x ≡ Some p
+        → IsWellFormedRecord r → is_synced b.stage ≡ true → serving b x ≡ Some p
         → Stays (taken_book b rests r) x p (taken_what b rests r) }
     ensures idle { (b : Book) (ask : Bool) (k : Key) (x : Endpoint) (p : Pair) → IsBook b
         → serving b x ≡ Some p → Stays (after b (idle_row b ask k)) x p (idle_row b ask k).what }
