@@ -234,20 +234,20 @@ alone-steady b apart full k = at (is_paired b.stage) apart (slot_of b.entries k)
 
 -- What is said of the row of a mark or a Tell: it adds no entry; one that is full or apart answers nothing, and only one that is apart notes.
 record IsModest (apart full : Bool) (r : Transition) : Type 0 where
-  adds : adds r.change ≡ false
+  bare : adds r.change ≡ false
   mute : full ≡ true → is_some r.answer ≡ false
   still : apart ≡ false → r.what ≡ None
 
 quiet-modest : (apart full : Bool) → IsModest apart full quiet
-quiet-modest apart full = record { adds = refl; mute = λ h. refl; still = λ h. refl }
+quiet-modest apart full = record { bare = refl; mute = λ h. refl; still = λ h. refl }
 
 marked-modest : (full : Bool) (p : Pair) (s : EntryState) → IsModest true full (marked_row p s)
 marked-modest full p (state.Pending true) = quiet-modest true full
-marked-modest full p (state.Pending false) = record { adds = refl; mute = λ h. refl; still = λ h. cc }
+marked-modest full p (state.Pending false) = record { bare = refl; mute = λ h. refl; still = λ h. cc }
 marked-modest full p state.Doomed = quiet-modest true full
 marked-modest full p state.Live = quiet-modest true full
 marked-modest full p (state.Closing true) = quiet-modest true full
-marked-modest full p (state.Closing false) = record { adds = refl; mute = λ h. refl; still = λ h. cc }
+marked-modest full p (state.Closing false) = record { bare = refl; mute = λ h. refl; still = λ h. cc }
 marked-modest full p state.Alone = quiet-modest true full
 marked-modest full p state.Held = quiet-modest true full
 
@@ -257,7 +257,7 @@ telling-modest full p state.Doomed = quiet-modest false full
 telling-modest full p state.Live = quiet-modest false full
 telling-modest full p (state.Closing m) = quiet-modest false full
 telling-modest true p state.Alone = quiet-modest false true
-telling-modest false p state.Alone = record { adds = refl; mute = λ h. cc; still = λ h. refl }
+telling-modest false p state.Alone = record { bare = refl; mute = λ h. cc; still = λ h. refl }
 telling-modest full p state.Held = quiet-modest false full
 
 alone-modest : (b : Book) (apart full : Bool) (k : Key) → IsModest apart full (alone_row b apart full k)
@@ -270,7 +270,7 @@ alone-modest b apart full k = at (is_paired b.stage) apart (slot_of b.entries k)
     at true false (Some x) = telling-modest full x.pair x.state
 
 pub alone-adds : (b : Book) (apart full : Bool) (k : Key) → adds (alone_row b apart full k).change ≡ false
-alone-adds b apart full k = (alone-modest b apart full k).adds
+alone-adds b apart full k = (alone-modest b apart full k).bare
 
 pub alone-still : (b : Book) (full : Bool) (k : Key) → (alone_row b false full k).what ≡ None
 alone-still b full k = (alone-modest b false full k).still refl

@@ -1,27 +1,22 @@
 -- What a tick marks, or tells the peer of.
-use Rattle.std.proofs.Common.{◌≡◌, ℕ, zero, suc, ◌+◌, ◌<◌, ◌≤◌, Bool, true, false, cond, nat_lt, ◌||◌, inl, inr, List, [], ◌∷◌, map, ◌++◌, length, get_or, drop, refl, sym, ap, subst, ◌∙◌, arith, append_assoc, slice_get, Option, Some, None}
+use Rattle.std.proofs.Common.{◌≡◌, ℕ, zero, suc, ◌+◌, ◌<◌, ◌≤◌, Bool, true, false, cond, List, [], ◌∷◌, map, ◌++◌, length, get_or, drop, refl, sym, ap, subst, ◌∙◌, arith, append_assoc, slice_get, Option, Some, None}
 use Rattle.std.specs.List.{filter}
 use Rattle.std.proofs.lemmas.Option.{get_or_from_slice_get, slice_get_within}
 use Rattle.std.proofs.Math.Seq.{drop-cons}
+use Rattle.nat_types.specs.declared.gateways.GatewayId.{GatewayId}
 use Rattle.nat_types.specs.declared.notes.Note.{Note}
-use Rattle.link.specs.Link.{Link}
-use Rattle.spec_binding.specs.Rows.{alone_row, is_full, after, answered, noted_by, quiet, release_row, released_row}
-use Rattle.spec_binding.specs.Ledgers.{Ledger, LetGo, ledger_after, go_on_all, sought, sought_keys}
-use Rattle.nat_types.specs.declared.records.Record.{Record}
-use Rattle.spec_pair.specs.Box.{Letter}
-use Rattle.spec_binding.specs.Books.{Book, is_lone, is_synced}
-use Rattle.spec_binding.specs.declared.changes.Transition.{Transition}
-use Rattle.spec_binding.specs.Machine.{Stands, Works}
-use Rattle.nat_types.specs.declared.pairs.EntryState.{EntryState}
-use Rattle.nat_types.specs.declared.pairs.EntryState.TheVariants.{Pending, Doomed, Live, Closing, Alone, Held}
+use Rattle.nat_types.specs.declared.notes.NoteKind.{NoteKind}
 use Rattle.nat_types.specs.declared.pairs.Key.{Key}
-use Rattle.nat_types.specs.declared.pairs.Pair.{Pair}
-use Rattle.activity.specs.Lives.{Activity}
+use Rattle.nat_types.specs.declared.records.Record.{Record}
 use Rattle.bindings.specs.declared.entries.Entry.{Entry}
 use Rattle.bindings.specs.Entries.{is_sought}
-use Rattle.bindings.proofs.Offered.{find-some}
-use Rattle.std.proofs.lemmas.Bool.{ltb-false}
-use Rattle.bindings.specs.Lives.{idle_keys_in, is_idle_row}
+use Rattle.link.specs.Link.{Link}
+use Rattle.spec_pair.specs.Box.{Letter}
+use Rattle.spec_binding.specs.Books.{Book}
+use Rattle.spec_binding.specs.Rows.{alone_row, is_full, after, answered, noted_by}
+use Rattle.spec_binding.specs.Ledgers.{Ledger, ledger_after, go_on_all, sought, sought_keys}
+use Rattle.spec_binding.specs.Machine.{Stands, Works}
+use Rattle.bind_core.proofs.Deciding.{alone-still}
 
 -- no more keys are sought than the table has entries
 pub few-sought : (apart : Bool) (es : List Entry) → length (sought_keys apart es) ≤ length es
@@ -38,7 +33,7 @@ pub record WentOn (apart : Bool) (now : ℕ) (k : Key) (l : Ledger) (e : Link) (
   pub link : e2 ≡ answered e (alone_row l.book apart (is_full e) k).answer
   pub notes : ns2 ≡ ns ++ noted_by l.book.id now (alone_row l.book apart (is_full e) k).what
 
--- releasing the keys from i on is releasing one and then those from i + 1 on
+-- going on with the keys from i on is going on with one and then with those from i + 1 on
 pub record IsOneMore (apart : Bool) (now : ℕ) (i : ℕ) (keys : List Key) (l : Ledger) (e : Link) (ns : List Note) (l2 : Ledger) (e2 : Link) (ns2 : List Note) : Type 0 where
   pub ledger : (go_on_all apart now (drop i keys) l e).ledger ≡ (go_on_all apart now (drop (i + 1) keys) l2 e2).ledger
   pub link : (go_on_all apart now (drop i keys) l e).link ≡ (go_on_all apart now (drop (i + 1) keys) l2 e2).link
@@ -69,7 +64,7 @@ all-done (suc i) [] h = refl
 all-done zero (k ∷ ks) h = absurd (omega (arith, h))
 all-done (suc i) (k ∷ ks) h = all-done i ks (omega (arith, h))
 
--- after the last key, nothing is released
+-- after the last key, nothing is marked or told
 pub gone : (apart : Bool) (now i : ℕ) (keys : List Key) (l : Ledger) (e : Link) → length keys ≤ i → go_on_all apart now (drop i keys) l e ≡ record { ledger = l; link = e; notes = [] }
 gone apart now i keys l e past = ap (λ (ks : List Key). go_on_all apart now ks l e) (all-done i keys past)
 
@@ -99,11 +94,24 @@ went-works laws apart now (k ∷ ks) l e n h stands =
 
 -- ---- notes
 
+noted-one : (i : GatewayId) (now : ℕ) (what : Option NoteKind) → length (noted_by i now what) ≤ 1
+noted-one i now None = omega arith
+noted-one i now (Some what) = omega arith
+
 -- a mark notes once, and a Tell not at all
+pub noted-most : (b : Book) (apart full : Bool) (k : Key) (now : ℕ) → length (noted_by b.id now (alone_row b apart full k).what) ≤ cond apart 1 0
+noted-most b true full k now = noted-one b.id now (alone_row b true full k).what
+noted-most b false full k now = let none = ap (λ (what : Option NoteKind). length (noted_by b.id now what)) (alone-still b full k) in omega (arith, none)
+
 pub one-at-most : (b : Bool) (n m k : ℕ) → n ≤ m + cond b 1 0 → m ≤ k → n ≤ k + 1
 one-at-most true n m k h g = omega (arith, h, g)
 one-at-most false n m k h g = omega (arith, h, g)
 
 pub no-more : (b : Bool) (n m : ℕ) → b ≡ false → n ≤ m + cond b 1 0 → n ≤ m
-no-more true n m off h = cc
+no-more true n m off h = absurd (cc)
 no-more false n m off h = omega (arith, h)
+
+-- there is room for one more note: while apart there was room for a note of each key, and else none was made
+pub room-for-one : (apart : Bool) (notes start i count entries capacity : ℕ) → i < count → count ≤ entries → notes ≤ start + i → (apart ≡ false → notes ≤ start) → start < capacity → (apart ≡ true → start + entries < capacity) → notes < capacity
+room-for-one true notes start i count entries capacity before few len still reserved marks = let room = marks refl in omega (arith, before, few, len, room)
+room-for-one false notes start i count entries capacity before few len still reserved marks = let none = still refl in omega (arith, none, reserved)

@@ -251,6 +251,7 @@ same-stage s rec.Done = refl
 same-stage s rec.Want = refl
 same-stage s (rec.Grant g) = refl
 same-stage s (rec.Owner first last) = refl
+same-stage s (rec.Tell p) = refl
 
 pub load-book : (c : Core) (r : Record) (t2 : Table) (p2 : Progress) (s2 : Stage) (cs : List Record) → loaded (load_of (book_of c)) r ≡ Some (progress.load_of p2 t2) → s2 ≡ cond (is_whole r) Paired c.stage → cs ≡ c.coming → t2.zero ≡ c.table.zero → t2.one ≡ c.table.one
     → book_of (record c { table = t2; stage = s2; begun = p2.begun; named = p2.named; coming = cs }) ≡ unsynced_after (book_of c) r
@@ -287,6 +288,7 @@ load-what rec.Done l = refl
 load-what rec.Want l = refl
 load-what (rec.Grant g) l = refl
 load-what (rec.Owner first last) l = refl
+load-what (rec.Tell p) l = refl
 
 pub load-noted : (b : Book) (r : Record) (l : Load) (what : Option NoteKind) (now : ℕ) (ns ns2 : List Note) → loaded (load_of b) r ≡ Some l → what ≡ what_loaded r → ns2 ≡ ns ++ noted_by b.id now what → ns2 ≡ ns ++ noted_by b.id now (unsynced_what b r)
 load-noted b r l what now ns ns2 ok is noted =
@@ -305,6 +307,7 @@ refused-what rec.Done = refl
 refused-what rec.Want = refl
 refused-what (rec.Grant g) = refl
 refused-what (rec.Owner first last) = refl
+refused-what (rec.Tell p) = refl
 
 -- a record out of its place changes nothing, and nothing is noted
 pub refused-noted : (b : Book) (r : Record) (now : ℕ) (ns : List Note) → loaded (load_of b) r ≡ None → ns ≡ ns ++ noted_by b.id now (unsynced_what b r)

@@ -1,16 +1,22 @@
 -- The idle pairs of a tick.
-use Rattle.std.proofs.Common.{◌≡◌, ℕ, zero, suc, ◌+◌, ◌<◌, ◌≤◌, Bool, true, false, cond, nat_lt, ◌||◌, inl, inr, List, [], ◌∷◌, ◌++◌, length, get_or, drop, refl, sym, ap, subst, ◌∙◌, arith, append_assoc, slice_get, Option, Some, None}
+use Rattle.std.proofs.Common.{◌≡◌, ℕ, zero, suc, ◌+◌, ◌<◌, ◌≤◌, Bool, true, false, cond, not, nat_lt, nat_le, ◌==◌, ◌-◌, ◌&&◌, ◌||◌, inl, inr, List, [], ◌∷◌, ◌++◌, length, get_or, drop, refl, sym, ap, subst, ◌∙◌, arith, append_assoc, slice_get, Option, Some, None}
 use Rattle.std.proofs.lemmas.Option.{get_or_from_slice_get, slice_get_within}
+use Rattle.std.proofs.lemmas.List.{length-append}
 use Rattle.std.proofs.lemmas.List.Sums.{sum_by-cons}
 use Rattle.std.proofs.Math.Seq.{drop-cons}
 use Rattle.nat_types.specs.declared.notes.Note.{Note}
 use Rattle.link.specs.Link.{Link}
-use Rattle.spec_binding.specs.Rows.{idle_row, after, answered, noted_by, quiet, release_row, released_row}
-use Rattle.spec_binding.specs.Ledgers.{Ledger, LetGo, ledger_after, release_all, may_ask}
+use Rattle.spec_binding.specs.Rows.{idle_row, after, answered, changed, noted_by, numbers_of, quiet, release_row, released_row}
+use Rattle.spec_binding.specs.Ledgers.{Ledger, LetGo, is_reached, ledger_after, release_all, may_ask}
 use Rattle.nat_types.specs.declared.records.Record.{Record}
 use Rattle.spec_pair.specs.Box.{Letter}
-use Rattle.spec_binding.specs.Books.{Book, is_lone, is_synced}
+use Rattle.spec_binding.specs.declared.setups.Stage.{Stage}
+use Rattle.spec_binding.specs.declared.setups.Stage.TheVariants.{Unsynced, Paired, Lone}
+use Rattle.spec_binding.specs.Books.{Book, is_apart, is_lone, is_paired, is_synced}
+use Rattle.spec_binding.specs.declared.changes.Change.{Change}
+use Rattle.spec_binding.specs.declared.changes.Change.TheVariants.{Keep, Add, Turn, Renew, Drop, Yield, Want, Give, Gain}
 use Rattle.spec_binding.specs.declared.changes.Transition.{Transition}
+use Rattle.bind_core.proofs.Porting.{gained-rest}
 use Rattle.spec_binding.specs.Machine.{Stands, Works}
 use Rattle.nat_types.specs.declared.pairs.EntryState.{EntryState}
 use Rattle.nat_types.specs.declared.pairs.EntryState.TheVariants.{Pending, Doomed, Live, Closing, Alone, Held}
@@ -19,8 +25,9 @@ use Rattle.nat_types.specs.declared.pairs.Pair.{Pair}
 use Rattle.activity.specs.Lives.{Activity}
 use Rattle.bindings.specs.declared.entries.Entry.{Entry}
 use Rattle.bindings.specs.Entries.{has_key, is_alone, slot_of, state_count}
-use Rattle.bindings.proofs.Offered.{find-some}
-use Rattle.std.proofs.lemmas.Bool.{ltb-false}
+use Rattle.bindings.specs.Lists.{without}
+use Rattle.bindings.proofs.Offered.{find-some, length-keep, slot-key}
+use Rattle.std.proofs.lemmas.Bool.{and_parts, ltb-false}
 use Rattle.bindings.specs.Lives.{idle_keys_in, is_idle_row}
 
 -- no more keys are idle than the table has entries
@@ -134,6 +141,79 @@ none-go now ks l e h =
     let more = neither (may_ask now l.book e) (nat_lt 0 count) parts.1 in
     let few = ltb-false 0 count more.1 in
     none-from now ks l e parts.0 more.0 (omega (arith, few))
+
+-- ---- a gateway that is apart
+
+-- the entries without that of a key are fewer
+fewer : (k : Key) (es : List Entry) (x : Entry) → slot_of es k ≡ Some x → suc (length (without k es)) ≤ length es
+fewer k [] x found = absurd (cc)
+fewer k (y ∷ ys) x found = at (has_key k y) found (length-keep (λ (e : Entry). not (has_key k e)) ys) (λ there. fewer k ys x there)
+  where
+    at : (b : Bool) → cond b (Some y) (slot_of ys k) ≡ Some x → length (without k ys) ≤ length ys → (slot_of ys k ≡ Some x → suc (length (without k ys)) ≤ length ys) → suc (length (let zs : List Entry = cond (not b) (y ∷ without k ys) (without k ys) in zs)) ≤ suc (length ys)
+    at true found kept more = omega (arith, kept)
+    at false found kept more = let rest = more found in omega (arith, rest)
+
+-- a row makes no more notes than entries leave
+abbrev IsFew : Book → ℕ → Transition → Type 0
+IsFew b now r = length (noted_by b.id now r.what) + length (after b r).entries ≤ length b.entries
+
+released-few : (b : Book) (now : ℕ) (x : Entry) (s : EntryState) → slot_of b.entries x.pair.key ≡ Some x → IsFew b now (released_row false false x.pair s)
+released-few b now x (Pending m) found = omega arith
+released-few b now x Doomed found = omega arith
+released-few b now x Live found = omega arith
+released-few b now x (Closing m) found = omega arith
+released-few b now x Alone found = let left = fewer x.pair.key b.entries x found in omega (arith, left)
+released-few b now x Held found = omega arith
+
+-- the row of an idle pair, at a gateway that isn't lone and may not ask
+idle-few : (b : Book) (now : ℕ) (k : Key) → is_lone b.stage ≡ false → IsFew b now (idle_row b false k)
+idle-few b now k lone = at (is_synced b.stage) (is_lone b.stage) (slot_of b.entries k) refl lone
+  where
+    at : (t lone : Bool) (o : Option Entry) → slot_of b.entries k ≡ o → lone ≡ false → IsFew b now (let r : Transition = cond t (release_row lone false o) quiet in r)
+    at false lone o there h = omega arith
+    at true true o there h = absurd (cc)
+    at true false None there h = omega arith
+    at true false (Some x) there h = released-few b now x x.state (ap (slot_of b.entries) (slot-key b.entries k x there) ∙ there)
+
+paired-lone : (s : Stage) → is_paired s ≡ true → is_lone s ≡ false
+paired-lone Unsynced h = refl
+paired-lone Paired h = refl
+paired-lone Lone h = cc
+
+-- a gateway that is apart has room for as many notes more as entries have left, at least
+pub still-few : (now : ℕ) (k : Key) (l : Ledger) (e : Link) (ns : List Note) (l2 : Ledger) (e2 : Link) (ns2 : List Note) → IsReleased now k l e ns l2 e2 ns2 → is_apart l.book e now ≡ true → length ns2 + length l2.book.entries ≤ length ns + length l.book.entries
+still-few now k l e ns l2 e2 ns2 is apart =
+    let lone = paired-lone l.book.stage (and_parts (is_paired l.book.stage) (not (l.book.alone == 0) && nat_le l.book.alone (now - e.answered)) apart).0 in
+    let asks : may_ask now l.book e ≡ false = ap (λ (t : Bool). not t && is_reached now e) apart in
+    let row = idle_row l.book (may_ask now l.book e) k in
+    let few : IsFew l.book now row = subst (λ (ask : Bool). IsFew l.book now (idle_row l.book ask k)) (sym asks) (idle-few l.book now k lone) in
+    let made : length ns2 ≡ length ns + length (noted_by l.book.id now row.what) = ap length is.notes ∙ length-append ns (noted_by l.book.id now row.what) in
+    let left : length l2.book.entries ≡ length (after l.book row).entries = ap (λ (x : Ledger). length x.book.entries) is.ledger in
+    omega (arith, few, made, left)
+
+-- no change of the book, and no answer, makes the gateway apart or ends that
+book-apart : (ch : Change) (b : Book) (e : Link) (now : ℕ) → is_apart (changed ch b) e now ≡ is_apart b e now
+book-apart Keep b e now = refl
+book-apart (Add x) b e now = refl
+book-apart (Turn k s) b e now = refl
+book-apart (Renew k) b e now = refl
+book-apart (Drop k) b e now = refl
+book-apart (Yield q p) b e now = refl
+book-apart Want b e now = refl
+book-apart (Give g) b e now = refl
+book-apart (Gain g) b e now = ap (λ (x : Book). is_apart x e now) (gained-rest b (numbers_of g))
+
+link-apart : (b : Book) (e : Link) (o : Option Record) (now : ℕ) → is_apart b (answered e o) now ≡ is_apart b e now
+link-apart b e None now = refl
+link-apart b e (Some r) now = refl
+
+pub still-apart : (now : ℕ) (k : Key) (l : Ledger) (e : Link) (ns : List Note) (l2 : Ledger) (e2 : Link) (ns2 : List Note) → IsReleased now k l e ns l2 e2 ns2 → is_apart l2.book e2 now ≡ is_apart l.book e now
+still-apart now k l e ns l2 e2 ns2 is =
+    let row = idle_row l.book (may_ask now l.book e) k in
+    ap (λ (x : Ledger). is_apart x.book e2 now) is.ledger
+    ∙ ap (λ (x : Link). is_apart (changed row.change l.book) x now) is.link
+    ∙ link-apart (changed row.change l.book) e row.answer now
+    ∙ book-apart row.change l.book e now
 
 -- ---- acts
 

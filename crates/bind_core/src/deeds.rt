@@ -32,6 +32,13 @@ use link::{Link, RECORDS_IN_A_DATAGRAM};
 use nat_types::{EntryState, GatewayId, Granted, Key, Note, NoteKind, Pair, Record};
 use spec_binding::{Change, Transition};
 
+/// Returns the key of an entry's pair.
+pub(crate) fn key_of(entry: &Entry) -> Key
+    ensures { result ≡ entry.now.pair.key }
+{
+    entry.pair.key
+}
+
 fn came_by_install(state: EntryState) -> bool
     ensures { result ≡ is_held state }
 {
@@ -101,7 +108,6 @@ fn yield_entry(table: &mut Table, key: Key, pair: Pair, now: u64)
       ready = table.old.ready - 1;
     } }
 {
-    table.recall();
     table.set_state(key, EntryState::Doomed);
     let entry = Entry {
         pair,

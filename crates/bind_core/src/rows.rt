@@ -1,10 +1,10 @@
 //! The rows of the record table for one entry: the effect of a record, a wish, a tick or a packet.
 //! A row is a `Transition`: the change of the table, the answer on the link, the note, and the
 //! endpoint whose packets needn't wait any more.
-ghost use Rattle.std.specs.Prelude.{◌≡◌, None, Some, if◌then◌else◌, true};
+ghost use Rattle.std.specs.Prelude.{◌≡◌, None, Some, true};
 ghost use Rattle.spec_binding.specs.declared.changes.Change.TheVariants.{Add, Drop, Turn};
 ghost use Rattle.bindings.specs.Entries.{entry_in};
-ghost use Rattle.nat_types.specs.declared.pairs.EntryState.TheVariants.{Alone, Closing, Held, Live, Pending};
+ghost use Rattle.nat_types.specs.declared.pairs.EntryState.TheVariants.{Alone, Held, Live};
 ghost use Rattle.nat_types.specs.declared.notes.NoteKind.TheVariants.{Alone as NoteAlone};
 ghost use Rattle.spec_binding.specs.Books.{is_synced as is_synced_at, is_lone as is_lone_at};
 ghost use Rattle.spec_binding.specs.Books.{is_paired as is_paired_at};
@@ -359,15 +359,11 @@ pub(crate) fn release(is_lone: bool, may_ask: bool, entry: Option<Entry>) -> Tra
     }
 }
 
-fn mark_row(pair: Pair, is_asked: bool) -> Transition
-    ensures { result ≡ row_with (Turn pair.key (if is_asked then Closing true else Pending true))
-        None (Some (NoteAlone pair)) }
+/// Returns the row by which a pair goes on though an answer is awaited. `state` is its state with a
+/// mark.
+fn mark_row(pair: Pair, state: EntryState) -> Transition
+    ensures { result ≡ row_with (Turn pair.key state) None (Some (NoteAlone pair)) }
 {
-    let state = if is_asked {
-        EntryState::Closing { marked: true }
-    } else {
-        EntryState::Pending { marked: true }
-    };
     row(Change::Turn(pair.key, state), None, Some(NoteKind::Alone(pair)))
 }
 
@@ -375,8 +371,10 @@ fn marked(pair: Pair, state: EntryState) -> Transition
     ensures { result ≡ marked_row pair state }
 {
     match state {
-        EntryState::Pending { marked: false } => ending(pair.endpoint, mark_row(pair, false)),
-        EntryState::Closing { marked: false } => mark_row(pair, true),
+        EntryState::Pending { marked: false } => {
+            ending(pair.endpoint, mark_row(pair, EntryState::Pending { marked: true }))
+        }
+        EntryState::Closing { marked: false } => mark_row(pair, EntryState::Closing { marked: true }),
         EntryState::Pending { marked: true }
         | EntryState::Closing { marked: true }
         | EntryState::Doomed

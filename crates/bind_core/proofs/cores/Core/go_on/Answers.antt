@@ -1,4 +1,5 @@
-use Rattle.std.proofs.Common.{◌≡◌, ◌<◌, Bool, true, is_some, ◌++◌, sym, ap, subst, ◌∙◌}
+use Rattle.std.proofs.Common.{◌≡◌, ◌<◌, Bool, true, is_some, ◌++◌, length, sym, ap, subst, ◌∙◌, arith}
+use Rattle.std.proofs.lemmas.List.{length-append}
 use Rattle.std.specs.Option.{IfSome}
 use Rattle.link.specs.Grammar.{IsWellFormedRecord}
 use Rattle.link.specs.Link.{free_places}
@@ -9,6 +10,7 @@ use Rattle.spec_binding.specs.WellFormed.{Fits}
 use Rattle.bind_core.specs.Changes.{IsSteady, adds}
 use Rattle.bind_core.specs.Cores.{Core, book_of}
 use Rattle.bind_core.proofs.Deciding.{alone-steady, alone-adds, alone-places}
+use Rattle.bind_core.proofs.GoingOn.{noted-most}
 use Rattle.bind_core.proofs.Performing.{ledger-then, ready-kept}
 use Rattle.bind_core.proofs.cores.Core.go_on.Goals as goal
 
@@ -47,12 +49,17 @@ returns c =
     let b = book_of c.args.self.now in
     let is = c.alone_row_of-row.ensures ∙ ap (λ (full : Bool). alone_row b c.args.apart full c.args.key) c.is_link_full-full.ensures in
     let row = alone_row b c.args.apart (is_full c.args.link.now) c.args.key in
+    let notes = c.perform.ensures.notes ∙ ap (λ (x : Transition). c.args.notes.now.items ++ noted_by c.args.self.now.id c.args.now x.what) is in
+    let made = ap length notes ∙ length-append c.args.notes.now.items (noted_by c.args.self.now.id c.args.now row.what) in
+    let most = noted-most b c.args.apart (is_full c.args.link.now) c.args.key c.args.now in
+    let had = c.args.notes.now.ok.0 in
+    let has = c.perform.new.notes.ok.0 in
     record {
       ledger = ledger-then c.args.now c.args.self.now c.perform.new.self c.alone_row_of-row.result row c.perform.ensures.core is;
       link = c.perform.ensures.link ∙ ap (λ (x : Transition). answered c.args.link.now x.answer) is;
-      notes = c.perform.ensures.notes ∙ ap (λ (x : Transition). c.args.notes.now.items ++ noted_by c.args.self.now.id c.args.now x.what) is;
+      notes = notes;
       ready = ready-kept c.args.now c.args.self.now c.perform.new.self c.alone_row_of-row.result (ap (λ (x : Transition). adds x.change) c.alone_row_of-row.ensures ∙ alone-adds b c.args.apart c.is_link_full-full.result c.args.key) c.perform.ensures.core;
       idle = ap (λ (k : Core). k.idle) c.perform.ensures.core;
-      len = c.perform.ensures.len;
+      len = omega (arith, made, most, had, has);
       capacity = c.perform.ensures.capacity;
     }

@@ -1,12 +1,13 @@
-use Rattle.std.proofs.Common.{◌≡◌, ◌≤◌, Bool, true, false, ◌++◌, [], Some, slice_get, length, refl, sym, ap, ◌∙◌, arith}
+use Rattle.std.proofs.Common.{◌≡◌, ◌-◌, ◌<◌, ◌≤◌, ◌==◌, nat_le, Bool, not, ◌&&◌, List, ◌++◌, [], Some, slice_get, length, vec_len, vec_capacity, refl, sym, ap, ◌∙◌, arith}
 use Rattle.std.proofs.lemmas.List.{append-nil}
 use Rattle.spec_binding.specs.Ledgers.{Ledger, LetGo, go_on_all, sought_keys}
 use Rattle.std.proofs.lemmas.Bool.{and_parts}
+use Rattle.bindings.specs.declared.entries.Entry.{Entry}
 use Rattle.bindings.specs.Entries.{slot_of}
-use Rattle.spec_binding.specs.Books.{is_paired}
+use Rattle.spec_binding.specs.Books.{is_apart, is_paired}
 use Rattle.bind_core.specs.Cores.{Core, book_of, ledger_of}
 use Rattle.bind_core.proofs.Performing.{works-as}
-use Rattle.bind_core.proofs.GoingOn.{few-sought, no-more, one-at-most, one-more-at, gone, AloneLaws, went-works}
+use Rattle.bind_core.proofs.GoingOn.{few-sought, no-more, one-at-most, room-for-one, one-more-at, gone, AloneLaws, went-works}
 use Rattle.bind_core.proofs.cores.Core.mark_or_tell.Goals as goal
 
 pub returns-clause-len : goal.returns-clause-len
@@ -19,17 +20,15 @@ returns-clause-len c =
 
 pub go_on-requires : goal.go_on-requires
 go_on-requires c =
+    let keys = sought_keys c.is_apart-apart.result c.args.self.now.table.entries in
     let few = few-sought c.is_apart-apart.result c.args.self.now.table.entries in
     let end = c.idle_count-i-end.ensures in
-    let keys = ap (λ (k : Core). length k.idle) c.list_sought.ensures in
-    let len = c.loop-i.invariant.len in
+    let sizes = ap (λ (k : Core). length k.idle) c.list_sought.ensures in
+    let below = c.loop-i-test.true in
+    let before : c.loop-i.i < length keys = omega (arith, end, sizes, below) in
+    let room = room-for-one c.is_apart-apart.result (vec_len c.loop-i.notes) (vec_len c.args.notes.now) c.loop-i.i (length keys) (length c.args.self.now.table.entries) (vec_capacity c.args.notes.now) before few c.loop-i.invariant.len c.loop-i.invariant.still c.requires.reserved (λ apart. c.requires.marks (sym c.is_apart-apart.ensures ∙ apart)) in
     let capacity = c.loop-i.invariant.capacity in
-    let before = c.loop-i-test.true in
-    record { reserved = at c.is_apart-apart.result refl few end keys len capacity before }
-  where
-    at : (b : Bool) → c.is_apart-apart.result ≡ b → length (sought_keys c.is_apart-apart.result c.args.self.now.table.entries) ≤ length c.args.self.now.table.entries → _
-    at true apart few end keys len capacity before = let reserved = c.requires.marks (sym c.is_apart-apart.ensures ∙ apart) in omega (arith, few, end, keys, len, capacity, reserved, before)
-    at false together few end keys len capacity before = let reserved = c.requires.reserved in let still = c.loop-i.invariant.still together in omega (arith, still, capacity, reserved)
+    record { reserved = omega (arith, room, capacity) }
 
 pub loop-i-preserved : goal.loop-i-preserved
 loop-i-preserved c =
@@ -75,28 +74,37 @@ none-left c =
     omega (arith, sizes, end, past)
 
 pub returns-clause-ledger : goal.returns-clause-ledger
-returns-clause-ledger c = sym (ap (λ (g : LetGo). g.ledger) (gone c.is_apart-apart.result c.args.now c.loop-i.i _ (ledger_of c.loop-i.self) c.loop-i.link (none-left c))) ∙ c.loop-i.invariant.ledger
+returns-clause-ledger c =
+    sym (ap (λ (g : LetGo). g.ledger) (gone c.is_apart-apart.result c.args.now c.loop-i.i _ (ledger_of c.loop-i.self) c.loop-i.link (none-left c)))
+    ∙ c.loop-i.invariant.ledger
+    ∙ ap (λ (b : Bool). (go_on_all b c.args.now (sought_keys b c.args.self.now.table.entries) (ledger_of c.args.self.now) c.args.link.now).ledger) c.is_apart-apart.ensures
 
 pub returns-clause-link : goal.returns-clause-link
-returns-clause-link c = sym (ap (λ (g : LetGo). g.link) (gone c.is_apart-apart.result c.args.now c.loop-i.i _ (ledger_of c.loop-i.self) c.loop-i.link (none-left c))) ∙ c.loop-i.invariant.link
+returns-clause-link c =
+    sym (ap (λ (g : LetGo). g.link) (gone c.is_apart-apart.result c.args.now c.loop-i.i _ (ledger_of c.loop-i.self) c.loop-i.link (none-left c)))
+    ∙ c.loop-i.invariant.link
+    ∙ ap (λ (b : Bool). (go_on_all b c.args.now (sought_keys b c.args.self.now.table.entries) (ledger_of c.args.self.now) c.args.link.now).link) c.is_apart-apart.ensures
 
 pub returns-clause-notes : goal.returns-clause-notes
 returns-clause-notes c =
     sym (ap (λ (g : LetGo). c.loop-i.notes.items ++ g.notes) (gone c.is_apart-apart.result c.args.now c.loop-i.i _ (ledger_of c.loop-i.self) c.loop-i.link (none-left c)) ∙ append-nil c.loop-i.notes.items)
     ∙ c.loop-i.invariant.notes
+    ∙ ap (λ (b : Bool). c.args.notes.now.items ++ (go_on_all b c.args.now (sought_keys b c.args.self.now.table.entries) (ledger_of c.args.self.now) c.args.link.now).notes) c.is_apart-apart.ensures
 
 pub returns-clause-works : goal.returns-clause-works
 returns-clause-works c = λ h n stands.
-    let keys = sought_keys c.is_apart-apart.result c.args.self.now.table.entries in
+    let apart = is_apart (book_of c.args.self.now) c.args.link.now c.args.now in
+    let keys = sought_keys apart c.args.self.now.table.entries in
     let laws : AloneLaws = record { alone = c.alone_works.ensures; join = c.works_join.ensures; nothing = c.works_nothing.ensures } in
     works-as c.args.now [] [] (book_of c.args.self.now) c.args.link.now n _ (book_of c.loop-i.self) _ c.loop-i.link n _ h
     (ap (λ (l : Ledger). l.book) (returns-clause-ledger c)) (returns-clause-link c)
-    (went-works laws c.is_apart-apart.result c.args.now keys (ledger_of c.args.self.now) c.args.link.now n h stands)
+    (went-works laws apart c.args.now keys (ledger_of c.args.self.now) c.args.link.now n h stands)
 
 -- while apart, what waited is marked
 pub returns-clause-translate : goal.returns-clause-translate
 returns-clause-translate c = λ apart k x found pair.
-    let paired = (and_parts (is_paired c.args.self.now.stage) _ apart).0 in
-    let marks = c.is_apart-apart.ensures ∙ apart in
-    let entries = ap (λ (l : Ledger). l.book.entries) (returns-clause-ledger c) ∙ ap (λ (b : Bool). (go_on_all b c.args.now (sought_keys b c.args.self.now.table.entries) (ledger_of c.args.self.now) c.args.link.now).ledger.book.entries) marks in
-    c.alone_waits_for_nobody.ensures.translate c.args.now (ledger_of c.args.self.now) c.args.link.now k x c.recall.ensures.book paired (sym (ap (λ es. slot_of es k) entries) ∙ found) pair
+    let b = book_of c.args.self.now in
+    let paired = (and_parts (is_paired b.stage) (not (b.alone == 0) && nat_le b.alone (c.args.now - c.args.link.now.answered)) apart).0 in
+    let entries = ap (λ (l : Ledger). l.book.entries) (returns-clause-ledger c)
+    ∙ ap (λ (t : Bool). (go_on_all t c.args.now (sought_keys t c.args.self.now.table.entries) (ledger_of c.args.self.now) c.args.link.now).ledger.book.entries) apart in
+    c.alone_waits_for_nobody.ensures.translate c.args.now (ledger_of c.args.self.now) c.args.link.now k x c.recall.ensures.book paired (sym (ap (λ (es : List Entry). slot_of es k) entries) ∙ found) pair
