@@ -22,11 +22,11 @@ use Rattle.link.specs.Reading.{reading}
 use Rattle.link.proofs.Offered.{all_taken, reading_takes}
 use Rattle.resync.specs.Loading.{Load, loaded}
 use Rattle.spec_binding.specs.Books.{Book, empty_book, is_lone, is_synced, IsBook, load_of}
-use Rattle.spec_binding.specs.Ledgers.{Ledger, alone_ledger, ledger_after, release_all, may_ask, restarted_ledger, rests_for, taken_ledger}
+use Rattle.spec_binding.specs.Ledgers.{Ledger, alone_ledger, ledger_after, release_all, may_ask, restarted_ledger, rests_for, taken_ledger, go_on_all, sought_keys}
 use Rattle.spec_binding.specs.Resets.{back_in, begun_anew, restart_link, restart_notes, restarted, retaken}
-use Rattle.spec_binding.specs.Rows.{after, answered, load_taken, noted_by, row_of, taken_answer, taken_book, taken_ended, taken_what, unsynced_after, idle_row}
+use Rattle.spec_binding.specs.Rows.{after, answered, load_taken, noted_by, row_of, taken_answer, taken_book, taken_ended, taken_what, unsynced_after, idle_row, alone_row, is_full}
 use Rattle.spec_binding.specs.Uses.{Accounts}
-use Rattle.spec_binding.proofs.Offered.{alone-keeps, fed-keeps, idle-keeps, restart-keeps, taken-keeps, change-leaves, alone-accounts, fed-accounts, later-accounts, let-go-accounts, restarted-accounts, taken-accounts}
+use Rattle.spec_binding.proofs.Offered.{alone-keeps, fed-keeps, idle-keeps, restart-keeps, taken-keeps, change-leaves, alone-accounts, fed-accounts, later-accounts, let-go-accounts, restarted-accounts, taken-accounts, alone-row-keeps, go-on-accounts}
 use Rattle.waiting.specs.declared.waits.Ended.TheVariants.{AllPairs, One}
 use Rattle.waiting.specs.declared.waits.WaitsFor.TheVariants as wait
 use Rattle.packet_rules.specs.declared.readings.Reading.{Reading}
@@ -42,15 +42,15 @@ use Rattle.vrrp_states.specs.Table.{Event as RouterEvent}
 use Rattle.spec_step.specs.declared.events.Event.{Event}
 use Rattle.spec_step.specs.declared.events.Event.TheVariants.{Frame, Datagram as Comes, Tick, Stop, PeerOff, Side as SideIs}
 use Rattle.spec_step.specs.Machine.{AreBytes, HasBytes, KeepsBytes}
-use Rattle.spec_step.specs.Parts.{acted, all_framed, all_idle_done, answered_by, arp_taken, datagram_in, datagram_read, framed, frames_of, handed_in, has_synced, heard_by, heard_unless, idle_done, idle_taken, link_answered, link_ticked, old_dropped, record_done, record_shown, record_told, records_done, released, reset, started, wait_ended, with_link, word_taken}
+use Rattle.spec_step.specs.Parts.{acted, all_framed, all_idle_done, answered_by, arp_taken, datagram_in, datagram_read, framed, frames_of, handed_in, has_synced, heard_by, heard_unless, idle_done, idle_taken, link_answered, link_ticked, old_dropped, record_done, record_shown, record_told, records_done, released, reset, started, wait_ended, with_link, word_taken, all_sought_done, alone_taken, gone_alone, peer_told, sought_done}
 use Rattle.spec_step.specs.Rests.{AreBy, Rests}
-use Rattle.spec_step.specs.Shown.{GatewayAndOutput, Shown, id_of, is_running, scene, station_on, with_notes, with_station}
+use Rattle.spec_step.specs.Shown.{GatewayAndOutput, Shown, id_of, is_running, scene, station_on, with_notes, with_station, is_apart}
 use Rattle.spec_step.specs.Routers.{BothAct, RouterActs}
 use Rattle.spec_step.specs.GivingWay.{GivingWay, left, turn_of}
 use Rattle.spec_step.specs.Steps.{Does, FrameDoes, IsStepOn, clock_after, ended_on, stopped, ticked, word_by, word_refusal}
 use Rattle.spec_step.specs.Verdict.{reading_on}
 use Rattle.spec_step.proofs.Turning.{back_as, turn-by}
-use Rattle.spec_step.proofs.Idle.{idle-at-once}
+use Rattle.spec_step.proofs.Idle.{idle-at-once, sought-at-once}
 use Rattle.spec_step.proofs.Packets.{Reads, kept-filter, read-formed}
 use Rattle.spec_step.proofs.Passing.{IsSound}
 use Rattle.spec_step.proofs.Resting.{Rested, Resting, by-join, flow-rests, framed-rests, noted-own, released-rests, resting-noted, resting-nothing, resting-then, resting-unseen, echo-rests, error-rests, refused-rests}
@@ -159,7 +159,7 @@ restart-own b now = at (is_synced b.stage)
 restarted-id : (b : Book) → (restarted b).id ≡ b.id
 restarted-id b = at (is_synced b.stage)
   where
-    at : (t : Bool) → (let x : Book = cond t (begun_anew b) (empty_book b.id b.zero b.one b.limit) in x).id ≡ b.id
+    at : (t : Bool) → (let x : Book = cond t (begun_anew b) (empty_book b.id b.zero b.one b.limit b.alone) in x).id ≡ b.id
     at true = refl
     at false = refl
 
@@ -221,7 +221,7 @@ word-rests reads s n (Some reason) is = resting-nothing s
 let-go-own : (now : ℕ) (ks : List Key) (l : Ledger) (e : Link) → AreBy l.book.id now (release_all now ks l e).notes × ((release_all now ks l e).ledger.book.id ≡ l.book.id)
 let-go-own now [] l e = (tt, refl)
 let-go-own now (k ∷ ks) l e =
-    let row = idle_row l.book (may_ask now e) k in
+    let row = idle_row l.book (may_ask now l.book e) k in
     let l2 = ledger_after now row.change l in
     let rest = let-go-own now ks l2 (answered e row.answer) in
     let same = (change-leaves l.book row.change).id in (
@@ -232,7 +232,7 @@ let-go-own now (k ∷ ks) l e =
 
 all-idle-keep : (s : GatewayAndOutput) (ks : List Key) → IsBook s.shown.ledger.book → IsBook (all_idle_done s ks).shown.ledger.book
 all-idle-keep s [] is = is
-all-idle-keep s (k ∷ ks) is = all-idle-keep (idle_done s k) ks (idle-keeps s.shown.ledger.book (may_ask s.shown.moment s.shown.link) k is)
+all-idle-keep s (k ∷ ks) is = all-idle-keep (idle_done s k) ks (idle-keeps s.shown.ledger.book (may_ask s.shown.moment s.shown.ledger.book s.shown.link) k is)
 
 idle-rests : (s : GatewayAndOutput) → Resting s (idle_taken s)
 idle-rests s =
@@ -245,6 +245,44 @@ idle-rests s =
     (resting-noted s r.ledger r.link r.notes own.0 own.1
     (λ is. subst (λ (x : GatewayAndOutput). IsBook x.shown.ledger.book) same (all-idle-keep s ks is))
     (λ before is a. let-go-accounts g.moment l g.link before is a))
+
+go-on-own : (apart : Bool) (now : ℕ) (ks : List Key) (l : Ledger) (e : Link) → AreBy l.book.id now (go_on_all apart now ks l e).notes × ((go_on_all apart now ks l e).ledger.book.id ≡ l.book.id)
+go-on-own apart now [] l e = (tt, refl)
+go-on-own apart now (k ∷ ks) l e =
+    let row = alone_row l.book apart (is_full e) k in
+    let l2 = ledger_after now row.change l in
+    let rest = go-on-own apart now ks l2 (answered e row.answer) in
+    let same = (change-leaves l.book row.change).id in (
+      by-join l.book.id now (noted_by l.book.id now row.what) (go_on_all apart now ks l2 (answered e row.answer)).notes (noted-own l.book.id now row.what)
+          (subst (λ (i : GatewayId). AreBy i now (go_on_all apart now ks l2 (answered e row.answer)).notes) same rest.0),
+      rest.1 ∙ same,
+    )
+
+pub all-sought-keep : (apart : Bool) (s : GatewayAndOutput) (ks : List Key) → IsBook s.shown.ledger.book → IsBook (all_sought_done apart s ks).shown.ledger.book
+all-sought-keep apart s [] is = is
+all-sought-keep apart s (k ∷ ks) is = all-sought-keep apart (sought_done apart s k) ks (alone-row-keeps s.shown.ledger.book apart (is_full s.shown.link) k is)
+
+all-sought-rest : (apart : Bool) (s : GatewayAndOutput) (ks : List Key) → Resting s (all_sought_done apart s ks)
+all-sought-rest apart s ks =
+    let g = s.shown in let l = g.ledger in
+    let r = go_on_all apart g.moment ks l g.link in
+    let own = go-on-own apart g.moment ks l g.link in
+    let same = sought-at-once s apart ks in
+    subst (λ (x : GatewayAndOutput). Resting s x) (sym same)
+    (resting-noted s r.ledger r.link r.notes own.0 own.1
+    (λ is. subst (λ (x : GatewayAndOutput). IsBook x.shown.ledger.book) same (all-sought-keep apart s ks is))
+    (λ before is a. go-on-accounts g.moment apart ks l g.link before is a))
+
+-- the ledger accounts for the trace after what is between the idle pairs of a tick and the link
+alone-rests : Reads → (s : GatewayAndOutput) → Resting s (alone_taken s)
+alone-rests reads s = at (is_apart s.shown)
+  where
+    at : (t : Bool) → Resting s (let x : GatewayAndOutput = cond t (gone_alone s) (peer_told s) in x)
+    at true =
+        let keys = sought_keys true s.shown.ledger.book.entries in
+        let marked = all_sought_done true s keys in
+        resting-then s marked (gone_alone s) (all-sought-rest true s keys) (released-rests reads marked AllPairs)
+    at false = all-sought-rest false s (sought_keys false s.shown.ledger.book.entries)
 
 old-rests : (s : GatewayAndOutput) → Resting s (old_dropped s)
 old-rests s = resting-unseen s (old_dropped s) refl refl refl (λ k. kept-filter _ s.shown.kept k)
@@ -274,10 +312,13 @@ does-rest reads s (Tick now) done does has =
     let turned = does.0 in
     let middle = does.1 in
     let young = old_dropped middle in
+    let idle = idle_taken young in
+    let last = alone_taken idle in
     subst (λ (x : GatewayAndOutput). Resting start x) (sym does.4)
-    (resting-then start turned (idle_taken young) (turn-rests start turned does.2)
-    (resting-then turned middle (idle_taken young) (both-rest turned table.Tick middle does.3)
-    (resting-then middle young (idle_taken young) (old-rests middle) (idle-rests young))))
+    (resting-then start turned last (turn-rests start turned does.2)
+    (resting-then turned middle last (both-rest turned table.Tick middle does.3)
+    (resting-then middle young last (old-rests middle)
+    (resting-then young idle last (idle-rests young) (alone-rests reads idle)))))
 does-rest reads s Stop done does has =
     let middle = does.0 in
     subst (λ (x : GatewayAndOutput). Resting s x) (sym does.2)

@@ -46,3 +46,4 @@ mod Translating
 mod Truths
 mod Turning
 mod Unused
+mod WhileApart

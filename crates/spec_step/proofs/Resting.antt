@@ -42,7 +42,7 @@ use Rattle.spec_step.specs.declared.plans.Plan.TheVariants.{Send, Ask, AskAgain,
 use Rattle.spec_step.specs.Machine.{AreBytes, KeepsBytes}
 use Rattle.spec_step.specs.Parts.{all_taken, asked_again, by_plan, by_verdict, carried, carried_all, carried_by, flags_in, flow_taken, framed, keeping, neighbour_asked, released, remote, renewed_behind, request_by, retaken_by, taken_again, wanted_by, wanted_for, by_error_plan, by_error_verdict, error_taken, echo_taken, length_in, refused}
 use Rattle.spec_step.specs.Rests.{AreBy}
-use Rattle.spec_step.specs.Shown.{GatewayAndOutput, id_of, scene, station_on, with_notes}
+use Rattle.spec_step.specs.Shown.{GatewayAndOutput, id_of, is_apart, scene, station_on, with_notes}
 use Rattle.spec_step.specs.Verdict.{exit_by, hop_by, plan_of, reading_on, error_hop, error_plan}
 use Rattle.spec_step.proofs.Packets.{PlanFits, Reads, kept-filter, kept-more, plan-fits, read-formed}
 use Rattle.spec_step.proofs.Own.{Said, echo-by, refusal-by, refused-by, said_scene}
@@ -124,11 +124,12 @@ noted-own id now (Some what) = ((refl, refl), tt)
 pub wanted-rests : (s : GatewayAndOutput) (e : Endpoint) → IsWellFormedEndpoint e → Resting s (wanted_by s e)
 wanted-rests s e formed =
     let g = s.shown in let b = g.ledger.book in
+    let apart = is_apart g in
     let full = is_full g.link in
-    let row = (wish_of b full e).row in
+    let row = (wish_of b apart full e).row in
     resting-noted s (ledger_after g.moment row.change g.ledger) (answered g.link row.answer) (noted_by b.id g.moment row.what)
-    (noted-own b.id g.moment row.what) (change-leaves b row.change).id (λ is. wish-keeps b full e is formed)
-    (λ before is a. wished-accounts g.moment g.ledger before full e is a)
+    (noted-own b.id g.moment row.what) (change-leaves b row.change).id (λ is. wish-keeps b apart full e is formed)
+    (λ before is a. wished-accounts g.moment g.ledger before apart full e is a)
 
 carried-rests : (s : GatewayAndOutput) (k : Key) (r : Remote) (w : Way) (flags : TcpFlags) → Resting s (carried_by s k (carried r w flags s.shown.moment))
 carried-rests s k r w flags =
