@@ -45,5 +45,6 @@ mod Telling
 mod Translating
 mod Truths
 mod Turning
+mod Plain
 mod Unused
 mod WhileApart
