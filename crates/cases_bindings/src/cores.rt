@@ -113,6 +113,7 @@ fn call(side: &mut Side, case: &mut Case) {
         "carried" => side.carried(case),
         "inbound" => inbound(side, case),
         "hear" => side.hear_again(case),
+        "answer" => side.hear_answer(case),
         "restart" => restart(side, case),
         "off" => side.peer_off(case.number(), case),
         "table" => side.tell(case),

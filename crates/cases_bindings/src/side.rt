@@ -28,18 +28,20 @@ pub(crate) struct Side {
     core: Core,
     link: Link,
     clock: u64,
-    /// The number of the link's records that were printed.
+    /// The number of the link's records that were printed, and aren't acknowledged.
     printed: usize,
+    /// The number of records that the peer acknowledged in this session.
+    acknowledged: usize,
 }
 
-/// Returns a datagram of the peer without records.
-fn empty_datagram(sender: GatewayId, boot: u64) -> Datagram {
+/// Returns a datagram of the peer without records, which acknowledges so many.
+fn empty_datagram(sender: GatewayId, boot: u64, delivered: usize) -> Datagram {
     Datagram {
         sender,
         boot,
         receiver_boot: 1,
         serves: true,
-        delivered: 0,
+        delivered: delivered as u64,
         first: 1,
         records: ArrayVec::new(),
     }
@@ -122,6 +124,7 @@ impl Side {
             link,
             clock: 0,
             printed: 0,
+            acknowledged: 0,
         })
     }
 
@@ -240,7 +243,8 @@ impl Side {
     /// Gives the link a datagram without records of a boot of the peer, and returns whether it begins a session.
     fn hear(&mut self, boot: u64, case: &mut Case) -> bool {
         let mut bytes = Vec::new(self.alloc);
-        case.keep(write(&empty_datagram(self.id.other(), boot), &mut bytes));
+        let datagram = empty_datagram(self.id.other(), boot, self.acknowledged);
+        case.keep(write(&datagram, &mut bytes));
         match self.link.take(bytes.as_slice(), self.clock) {
             Ok(taken) => taken.restarted,
             Err(_) => {
@@ -248,6 +252,13 @@ impl Side {
                 false
             }
         }
+    }
+
+    /// Gives the link a datagram of the known boot of the peer that acknowledges all records.
+    pub(crate) fn hear_answer(&mut self, case: &mut Case) {
+        self.acknowledged = self.acknowledged.saturating_add(self.printed);
+        self.printed = 0;
+        self.hear_again(case);
     }
 
     /// Gives the link a datagram of the boot of the peer that is known already.
@@ -264,6 +275,7 @@ impl Side {
         if boot <= self.link.known_peer() {
             return refuse("it isn't greater", case);
         }
+        self.acknowledged = 0;
         self.hear(boot, case);
         self.printed = 0;
         match self.prepare() {
@@ -340,6 +352,7 @@ impl Side {
         }
         self.link.close(boot);
         self.printed = 0;
+        self.acknowledged = 0;
         self.core.peer_off(&self.link, self.clock, &mut notes);
         self.tell_done(&notes, case);
     }
