@@ -15,7 +15,7 @@ use Rattle.waiting.specs.declared.waits.Ended.TheVariants.{AllPairs}
 use Rattle.waiting.specs.Packets.{HeldPacket}
 use Rattle.spec_binding.specs.declared.changes.Transition.{Transition}
 use Rattle.spec_binding.specs.Books.{Book, is_apart as is_book_apart, is_lone}
-use Rattle.spec_binding.specs.Ledgers.{Ledger, ledger_after, may_ask, release_all, sought_keys}
+use Rattle.spec_binding.specs.Ledgers.{ledger_after, may_ask, sought_keys}
 use Rattle.spec_binding.specs.Rows.{answered, idle_row}
 use Rattle.spec_binding.proofs.Offered.{change-leaves}
 use Rattle.spec_step.specs.declared.events.Event.TheVariants.{Tick}
@@ -30,7 +30,7 @@ use Rattle.gateway.specs.Ticks.{TicksTo, is_apart_at, sought_taken}
 use Rattle.gateway.proofs.Lasting.{framed-same}
 
 -- what a gateway is apart by: its stage, its settings' time, and when the peer last answered
-pub apart-so : (b b2 : Book) (e e2 : Link) (now : ℕ) → b2.stage ≡ b.stage → b2.alone ≡ b.alone → e2.answered ≡ e.answered → is_book_apart b2 e2 now ≡ is_book_apart b e now
+apart-so : (b b2 : Book) (e e2 : Link) (now : ℕ) → b2.stage ≡ b.stage → b2.alone ≡ b.alone → e2.answered ≡ e.answered → is_book_apart b2 e2 now ≡ is_book_apart b e now
 apart-so b b2 e e2 now stage alone answers = rw (stage, alone, answers) refl
 
 -- pushing an answer, or none, leaves when the peer last answered
@@ -45,15 +45,6 @@ row-apart s row =
     apart-so g.ledger.book (ledger_after g.moment row.change g.ledger).book g.link (answered g.link row.answer) g.moment beside.stage beside.alone (answered-still g.link row.answer)
 
 -- idle pairs that are let go leave it
-pub released-apart : (now at : ℕ) (ks : List Key) (l : Ledger) (e : Link) → is_book_apart (release_all now ks l e).ledger.book (release_all now ks l e).link at ≡ is_book_apart l.book e at
-released-apart now at [] l e = refl
-released-apart now at (k ∷ ks) l e =
-    let row = idle_row l.book (may_ask now l.book e) k in
-    let l2 = ledger_after now row.change l in
-    let e2 = answered e row.answer in
-    let beside = change-leaves l.book row.change in
-    released-apart now at ks l2 e2 ∙ apart-so l.book l2.book e e2 at beside.stage beside.alone (answered-still e row.answer)
-
 idle-apart : (s : GatewayAndOutput) (keys : List Key) → is_apart (all_idle_done s keys).shown ≡ is_apart s.shown
 idle-apart s [] = refl
 idle-apart s (k ∷ ks) = idle-apart (idle_done s k) ks ∙ row-apart s (idle_row s.shown.ledger.book (may_ask s.shown.moment s.shown.ledger.book s.shown.link) k)

@@ -1,23 +1,14 @@
-use Rattle.std.proofs.Common.{rules, sym, ap, ◌∙◌, arith}
+use Rattle.std.proofs.Common.{rules, sym, ◌∙◌, arith}
 use Rattle.bindings.specs.Lives.{idle_keys_in}
-use Rattle.link.specs.Link.{Link}
-use Rattle.spec_binding.specs.Books.{is_apart as is_book_apart, is_lone}
-use Rattle.spec_binding.specs.Ledgers.{Ledger, release_all, sought_keys}
-use Rattle.bind_core.specs.Cores.{book_of, ledger_of}
+use Rattle.spec_binding.specs.Books.{is_lone}
+use Rattle.spec_binding.specs.Ledgers.{release_all, sought_keys}
 use Rattle.spec_step.specs.Shown.{is_apart, scene, with_notes}
 use Rattle.forwarder.specs.Forwarder.{scene_on}
-use Rattle.gateway.proofs.Apart.{released-apart}
 use Rattle.gateway.proofs.ticks.release_and_go_on.Goals as goal
 
 pub mark_or_tell-requires-clause-marks : goal.mark_or_tell-requires-clause-marks
 mark_or_tell-requires-clause-marks c = λ apart.
-    let f = c.args.forwarder.now in
-    let l = ledger_of f.core in
-    let keys = idle_keys_in (is_lone l.book.stage) f.moment l.book.entries l.lives in
-    let still = ap (λ (x : Ledger). is_book_apart x.book c.tick.new.link f.moment) c.tick.ensures.ledger
-    ∙ ap (λ (e : Link). is_book_apart (release_all f.moment keys l f.link).ledger.book e f.moment) c.tick.ensures.link
-    ∙ released-apart f.moment f.moment keys l f.link in
-    let few = c.tick.ensures.few (sym still ∙ apart) in
+    let few = c.tick.ensures.few (sym c.tick.ensures.apart ∙ apart) in
     let room = c.requires.room.notes in
     let reserved = c.take_notes-notes.ensures.room in
     omega (arith, few, room, reserved, c.tick.ensures.capacity)
