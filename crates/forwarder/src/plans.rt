@@ -32,7 +32,7 @@ fn own_pair(flow: Flow, port: Port) -> Pair
 }
 
 /// Returns the pair of an entry that translates. The Err is `NoBinding` where there is no entry or
-/// its proposal was given up, and `CannotWait` where the pair isn't agreed or is being closed.
+/// its proposal was given up, and `CannotWait` where the pair waits for an answer and isn't marked.
 #[inline(always)]
 pub(crate) fn pair_of(entry: Option<Entry>) -> Result<Pair, Reason>
     ensures { result ≡ pair_at entry }
@@ -40,8 +40,14 @@ pub(crate) fn pair_of(entry: Option<Entry>) -> Result<Pair, Reason>
     match entry {
         None => Err(Reason::NoBinding),
         Some(entry) => match entry.state {
-            EntryState::Live | EntryState::Held => Ok(entry.pair),
-            EntryState::Pending | EntryState::Closing => Err(Reason::CannotWait),
+            EntryState::Live
+            | EntryState::Held
+            | EntryState::Alone
+            | EntryState::Pending { marked: true }
+            | EntryState::Closing { marked: true } => Ok(entry.pair),
+            EntryState::Pending { marked: false } | EntryState::Closing { marked: false } => {
+                Err(Reason::CannotWait)
+            }
             EntryState::Doomed => Err(Reason::NoBinding),
         },
     }
@@ -132,7 +138,8 @@ impl Forwarder {
     fn look_for(&self, flow: Flow) -> Want
         ensures { result ≡ look_for (shown_of self.now) flow }
     {
-        self.core.look(&self.link, source_endpoint(flow))
+        self.core
+            .look(&self.link, source_endpoint(flow), self.moment)
     }
 
     /// Returns the pair of the outside port to which a packet goes, or why there is none.
