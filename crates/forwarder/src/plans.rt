@@ -31,8 +31,9 @@ fn own_pair(flow: Flow, port: Port) -> Pair
     Pair::new(key, flow.source, flow.source_port)
 }
 
-/// Returns the pair of an entry that translates. The Err is `NoBinding` where there is no entry or
-/// its proposal was given up, and `CannotWait` where the pair waits for an answer and isn't marked.
+/// Returns the pair of an entry that translates, as a marked one does. The Err is `NoBinding` where
+/// there is no entry or its proposal was given up, and `CannotWait` where the pair isn't agreed or is
+/// being closed.
 #[inline(always)]
 pub(crate) fn pair_of(entry: Option<Entry>) -> Result<Pair, Reason>
     ensures { result ≡ pair_at entry }
@@ -40,13 +41,13 @@ pub(crate) fn pair_of(entry: Option<Entry>) -> Result<Pair, Reason>
     match entry {
         None => Err(Reason::NoBinding),
         Some(entry) => match entry.state {
-            EntryState::Live
-            | EntryState::Held
-            | EntryState::Alone
-            | EntryState::Pending { marked: true }
-            | EntryState::Closing { marked: true } => Ok(entry.pair),
-            EntryState::Pending { marked: false } | EntryState::Closing { marked: false } => {
-                Err(Reason::CannotWait)
+            EntryState::Live | EntryState::Alone | EntryState::Held => Ok(entry.pair),
+            EntryState::Pending { marked } | EntryState::Closing { marked } => {
+                if marked {
+                    Ok(entry.pair)
+                } else {
+                    Err(Reason::CannotWait)
+                }
             }
             EntryState::Doomed => Err(Reason::NoBinding),
         },
@@ -133,7 +134,7 @@ impl Forwarder {
         }
     }
 
-    /// Returns what the endpoint of a packet's source would be given; nothing changes.
+    /// Returns what the endpoint of a packet's source would be given now; nothing changes.
     #[inline(always)]
     fn look_for(&self, flow: Flow) -> Want
         ensures { result ≡ look_for (shown_of self.now) flow }

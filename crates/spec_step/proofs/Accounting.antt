@@ -105,7 +105,7 @@ frame-rests reads s side bytes (Err reason) s2 read are does = subst (λ (x : Ga
 
 -- ---- records
 
-taken-id : (b : Book) (rests : Bool) (r : Record) → (taken_book b rests r).id ≡ b.id
+pub taken-id : (b : Book) (rests : Bool) (r : Record) → (taken_book b rests r).id ≡ b.id
 taken-id b rests r = at (is_synced b.stage)
   where
     load : (o : Option Load) → (load_taken b r o).id ≡ b.id
@@ -157,7 +157,7 @@ restart-own b now = at (is_synced b.stage)
     at true = retaken-own b.id now (back_in b.entries)
     at false = tt
 
-restarted-id : (b : Book) → (restarted b).id ≡ b.id
+pub restarted-id : (b : Book) → (restarted b).id ≡ b.id
 restarted-id b = at (is_synced b.stage)
   where
     at : (t : Bool) → (let x : Book = cond t (begun_anew b) (empty_book b.id b.zero b.one b.limit b.alone) in x).id ≡ b.id
@@ -275,7 +275,7 @@ all-sought-rest apart s ks is_so =
     (λ before is a. go-on-accounts g.moment apart ks l g.link before is a))
 
 -- the ledger accounts for the trace after what is between the idle pairs of a tick and the link
-alone-rests : Reads → (s : GatewayAndOutput) → Resting s (alone_taken s)
+pub alone-rests : Reads → (s : GatewayAndOutput) → Resting s (alone_taken s)
 alone-rests reads s = at (is_apart s.shown) refl
   where
     at : (t : Bool) → is_apart s.shown ≡ t → Resting s (let x : GatewayAndOutput = cond t (gone_alone s) (peer_told s) in x)
@@ -302,6 +302,14 @@ turn-rests s s2 takes =
     back true = resting-unseen s _ refl refl refl (λ k. k)
     back false = resting-unseen s _ refl refl refl (λ k. k)
 
+-- the ledger accounts for a tick up to its idle pairs
+pub idle-rests-from : (s : GatewayAndOutput) (now : ℕ) (turned middle : GatewayAndOutput) → GivingWay (ticked s now) turned → BothAct turned table.Tick middle → Resting (ticked s now) (idle_taken (old_dropped middle))
+idle-rests-from s now turned middle gives both =
+    let young = old_dropped middle in
+    resting-then (ticked s now) turned (idle_taken young) (turn-rests (ticked s now) turned gives)
+    (resting-then turned middle (idle_taken young) (both-rest turned table.Tick middle both)
+    (resting-then middle young (idle_taken young) (old-rests middle) (idle-rests young)))
+
 -- ---- an event's own parts
 
 does-rest : Reads → (s : GatewayAndOutput) (event : Event) (done : GatewayAndOutput) → Does s event done → HasBytes event → Resting (begun_on s event) done
@@ -310,16 +318,9 @@ does-rest reads s (Comes bytes) done does has =
     subst (λ (x : GatewayAndOutput). Resting s x) (sym does) (datagram-rests reads s bytes.now (reading bytes.now) refl has)
 does-rest reads s (Tick now) done does has =
     let start = ticked s now in
-    let turned = does.0 in
-    let middle = does.1 in
-    let young = old_dropped middle in
-    let idle = idle_taken young in
-    let last = alone_taken idle in
+    let idle = idle_taken (old_dropped does.1) in
     subst (λ (x : GatewayAndOutput). Resting start x) (sym does.4)
-    (resting-then start turned last (turn-rests start turned does.2)
-    (resting-then turned middle last (both-rest turned table.Tick middle does.3)
-    (resting-then middle young last (old-rests middle)
-    (resting-then young idle last (idle-rests young) (alone-rests reads idle)))))
+    (resting-then start idle (alone_taken idle) (idle-rests-from s now does.0 does.1 does.2 does.3) (alone-rests reads idle))
 does-rest reads s Stop done does has =
     let middle = does.0 in
     subst (λ (x : GatewayAndOutput). Resting s x) (sym does.2)

@@ -360,7 +360,7 @@ quiet-by s s2 frames notes entries kept known stations wired = record {
   wired = wired;
 }
 
-row-quiet : (s : GatewayAndOutput) (row : Transition) → RowRoots s.shown.ledger.book row → IsQuiet s (by_row s row)
+pub row-quiet : (s : GatewayAndOutput) (row : Transition) → RowRoots s.shown.ledger.book row → IsQuiet s (by_row s row)
 row-quiet s row roots = record {
   frames = refl;
   notes = noted_by (id_of s.shown) s.shown.moment row.what;

@@ -535,23 +535,23 @@ all-told-adds s (k ∷ ks) =
 alone-within : (c : ℕ) (s : GatewayAndOutput) → Within c (length s.shown.ledger.book.entries + 3 * c) s (alone_taken (idle_taken s))
 alone-within c s = at (is_apart (idle_taken s).shown) refl
   where
-    idle : GatewayAndOutput
-    idle = idle_taken s
-
-    keys : List Key
-    keys = sought_keys true idle.shown.ledger.book.entries
-
-    at : (t : Bool) → is_apart idle.shown ≡ t → Within c (length s.shown.ledger.book.entries + 3 * c) s (let x : GatewayAndOutput = cond t (gone_alone idle) (peer_told idle) in x)
-    at true apart =
-        let marked = all_sought_done true idle keys in
-        let one = all-marked-adds idle keys in
+    marked-adds : is_apart (idle_taken s).shown ≡ true → (let idle = idle_taken s in Adds (length s.shown.ledger.book.entries) 0 s (all_sought_done true idle (sought_keys true idle.shown.ledger.book.entries)))
+    marked-adds apart =
+        let idle = idle_taken s in
+        let one = all-marked-adds idle (sought_keys true idle.shown.ledger.book.entries) in
         let few = idle-taken-few s (sym (idle-apart s) ∙ apart) in
-        let first : Adds (length s.shown.ledger.book.entries) 0 s marked = record {
+        record {
           notes = omega (arith, one.notes, few, few-sought true idle.shown.ledger.book.entries);
           kept = omega (arith, one.kept, (idle-adds s).kept);
-        } in
-        within-then c (length s.shown.ledger.book.entries) (3 * c) s marked (gone_alone idle) (within-adds c (length s.shown.ledger.book.entries) s marked first) (released-within c marked AllPairs)
+        }
+
+    at : (t : Bool) → is_apart (idle_taken s).shown ≡ t → Within c (length s.shown.ledger.book.entries + 3 * c) s (let idle : GatewayAndOutput = idle_taken s in let x : GatewayAndOutput = cond t (gone_alone idle) (peer_told idle) in x)
+    at true apart =
+        let idle = idle_taken s in
+        let marked = all_sought_done true idle (sought_keys true idle.shown.ledger.book.entries) in
+        within-then c (length s.shown.ledger.book.entries) (3 * c) s marked (gone_alone idle) (within-adds c (length s.shown.ledger.book.entries) s marked (marked-adds apart)) (released-within c marked AllPairs)
     at false apart =
+        let idle = idle_taken s in
         let told = all-told-adds idle (sought_keys false idle.shown.ledger.book.entries) in
         let idles = idle-adds s in
         within-adds c (length s.shown.ledger.book.entries + 3 * c) s (peer_told idle) (record { notes = omega (arith, idles.notes, told.notes); kept = omega (arith, idles.kept, told.kept) })

@@ -15,7 +15,7 @@ use Rattle.icmp.specs.declared.packets.ErrorFlow.{ErrorFlow}
 use Rattle.ipv4.specs.declared.flows.Flow.{Flow}
 use Rattle.ipv4.specs.declared.packets.Packet.{Packet as Datagram}
 use Rattle.bindings.specs.declared.entries.Entry.{Entry}
-use Rattle.bindings.specs.Entries.{entry_in, entry_of, held_entry_of, own_entry_of, translates}
+use Rattle.bindings.specs.Entries.{entry_in, entry_of, held_entry_of, translates}
 use Rattle.bindings.proofs.Offered.{entry-serves, entry-slot}
 use Rattle.std.specs.Option.{option_or}
 use Rattle.bindings.specs.Ports.{in_bounds, in_either, is_free_in, is_open_in, highest_of, lowest_of}

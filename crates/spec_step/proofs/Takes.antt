@@ -1,6 +1,6 @@
 -- A relation of scenes that holds of each small part of a taking holds of the taking, and of the takings of all packets
 -- whose wait is over.
-use Rattle.std.proofs.Common.{◌≡◌, ℕ, Bool, true, false, cond, List, [], ◌∷◌, ◌++◌, Option, Result, Ok, Err, refl}
+use Rattle.std.proofs.Common.{◌≡◌, ℕ, Bool, true, false, cond, List, [], ◌∷◌, ◌++◌, Result, Ok, Err, refl}
 use Rattle.std.specs.List.{AllByRecursion, filter}
 use Rattle.addresses.specs.declared.internet.Ip.{Ip}
 use Rattle.addresses.specs.declared.transport.TcpFlags.{TcpFlags}
@@ -15,7 +15,6 @@ use Rattle.activity.specs.declared.packets.Packet.{Packet as Carried}
 use Rattle.activity.specs.declared.packets.Way.TheVariants as goes
 use Rattle.spec_binding.specs.WellFormed.{IsWellFormedEndpoint}
 use Rattle.waiting.specs.declared.waits.Ended.{Ended}
-use Rattle.waiting.specs.declared.waits.WaitsFor.{WaitsFor}
 use Rattle.waiting.specs.declared.waits.WaitsFor.TheVariants as wait
 use Rattle.waiting.specs.Packets.{HeldPacket, asks_again, ended_by, left_by, with_asked}
 use Rattle.waiting.specs.Waits.{is_for_pair}

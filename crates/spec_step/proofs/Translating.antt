@@ -26,7 +26,7 @@ use Rattle.spec_binding.specs.declared.changes.Transition.{Transition}
 use Rattle.spec_binding.specs.declared.changes.Want.TheVariants as want
 use Rattle.spec_binding.specs.declared.changes.PortRequest.{PortRequest}
 use Rattle.spec_binding.specs.Books.{Book, IsBook, is_lone, is_synced}
-use Rattle.spec_binding.specs.Rows.{after, carry_row, is_at_limit, known_wish, may_want, new_pair, new_wish, none_row, noted_by, paired_wish, port_for, proposal, quiet, row, use_row, used_row, wish, wish_by, wish_of}
+use Rattle.spec_binding.specs.Rows.{after, carry_row, is_at_limit, known_wish, may_want, new_pair, new_wish, none_row, noted_by, paired_wish, port_for, quiet, row, use_row, used_row, wish, wish_by, wish_of}
 use Rattle.spec_binding.proofs.Offered.{at-key, chosen-says}
 use Rattle.packet_rules.specs.Flows.{target_of}
 use Rattle.spec_step.specs.Shown.{Shown}

@@ -1,5 +1,5 @@
 -- What a tick notes while the gateway is apart: no more than one note for each entry that it had.
-use Rattle.std.proofs.Common.{◌≡◌, ◌≤◌, ℕ, suc, ◌+◌, ◌-◌, ◌==◌, Bool, true, false, cond, not, ◌&&◌, nat_le, List, [], ◌∷◌, length, map, Option, Some, None, inl, inr, refl, sym, ap, ◌∙◌, arith}
+use Rattle.std.proofs.Common.{◌≡◌, ◌≤◌, ℕ, suc, ◌+◌, ◌-◌, ◌==◌, Bool, true, false, cond, not, ◌&&◌, nat_le, List, [], ◌∷◌, length, Option, Some, None, inl, inr, refl, ap, ◌∙◌, arith}
 use Rattle.std.specs.List.{filter}
 use Rattle.std.proofs.lemmas.Bool.{and_parts}
 use Rattle.std.proofs.lemmas.List.{length-append, length-map}
@@ -8,7 +8,6 @@ use Rattle.nat_types.specs.declared.gateways.GatewayId.{GatewayId}
 use Rattle.nat_types.specs.declared.pairs.EntryState.{EntryState}
 use Rattle.nat_types.specs.declared.pairs.EntryState.TheVariants as state
 use Rattle.nat_types.specs.declared.pairs.Key.{Key}
-use Rattle.nat_types.specs.declared.notes.NoteKind.{NoteKind}
 use Rattle.nat_types.specs.declared.records.Record.{Record}
 use Rattle.bindings.specs.declared.entries.Entry.{Entry}
 use Rattle.bindings.specs.Entries.{has_key, is_sought, slot_of}
@@ -19,7 +18,7 @@ use Rattle.link.specs.Link.{Link}
 use Rattle.spec_binding.specs.declared.changes.Transition.{Transition}
 use Rattle.spec_binding.specs.declared.setups.Stage.{Stage}
 use Rattle.spec_binding.specs.declared.setups.Stage.TheVariants.{Unsynced, Paired, Lone}
-use Rattle.spec_binding.specs.Books.{Book, is_lone, is_paired, is_synced}
+use Rattle.spec_binding.specs.Books.{Book, is_apart as is_book_apart, is_lone, is_paired, is_synced}
 use Rattle.spec_binding.specs.Ledgers.{is_reached, may_ask, sought, sought_keys}
 use Rattle.spec_binding.specs.Rows.{after, alone_row, answered, idle_row, is_full, noted_by, quiet, release_row, released_row, sought_row, telling_row}
 use Rattle.spec_binding.proofs.Offered.{at-key, change-leaves}
@@ -28,12 +27,15 @@ use Rattle.spec_step.specs.Shown.{GatewayAndOutput, Shown, id_of, is_apart}
 
 -- ---- whether a gateway is apart
 
+pub apart-book : (b b2 : Book) (e e2 : Link) (now : ℕ) → b2.stage ≡ b.stage → b2.alone ≡ b.alone → e2.answered ≡ e.answered → is_book_apart b2 e2 now ≡ is_book_apart b e now
+apart-book b b2 e e2 now stage alone heard =
+    ap (λ (x : Stage). is_paired x && (not (b2.alone == 0) && nat_le b2.alone (now - e2.answered))) stage
+    ∙ ap (λ (n : ℕ). is_paired b.stage && (not (n == 0) && nat_le n (now - e2.answered))) alone
+    ∙ ap (λ (n : ℕ). is_paired b.stage && (not (b.alone == 0) && nat_le b.alone (now - n))) heard
+
 pub apart-same : (g g2 : Shown) → g2.ledger.book.stage ≡ g.ledger.book.stage → g2.ledger.book.alone ≡ g.ledger.book.alone → g2.link.answered ≡ g.link.answered → g2.moment ≡ g.moment → is_apart g2 ≡ is_apart g
 apart-same g g2 stage alone heard now =
-    ap (λ (x : Stage). is_paired x && (not (g2.ledger.book.alone == 0) && nat_le g2.ledger.book.alone (g2.moment - g2.link.answered))) stage
-    ∙ ap (λ (n : ℕ). is_paired g.ledger.book.stage && (not (n == 0) && nat_le n (g2.moment - g2.link.answered))) alone
-    ∙ ap (λ (n : ℕ). is_paired g.ledger.book.stage && (not (g.ledger.book.alone == 0) && nat_le g.ledger.book.alone (g2.moment - n))) heard
-    ∙ ap (λ (n : ℕ). is_paired g.ledger.book.stage && (not (g.ledger.book.alone == 0) && nat_le g.ledger.book.alone (n - g.link.answered))) now
+    ap (λ (n : ℕ). is_book_apart g2.ledger.book g2.link n) now ∙ apart-book g.ledger.book g2.ledger.book g.link g2.link g.moment stage alone heard
 
 pub answered-as : (e : Link) (o : Option Record) → (answered e o).answered ≡ e.answered
 answered-as e None = refl

@@ -2,7 +2,8 @@
 use Rattle.std.specs.Prelude.{◌≡◌, ◌≤◌, ℕ, ◌+◌, ◌||◌, Bool, true, false, Option, Some, None, List, ◌++◌, length, if◌then◌else◌}
 use Rattle.std.specs.List.{Contains}
 use Rattle.nat_types.specs.declared.notes.Note.{Note}
-use Rattle.nat_types.specs.declared.notes.NoteKind.TheVariants.{Released}
+use Rattle.nat_types.specs.declared.notes.NoteKind.{NoteKind}
+use Rattle.nat_types.specs.declared.notes.NoteKind.TheVariants.{Used, Released, Retaken, Alone, Synced, Crashed, Booted}
 use Rattle.nat_types.specs.declared.pairs.EntryState.TheVariants.{Closing}
 use Rattle.nat_types.specs.declared.pairs.Pair.{Pair}
 use Rattle.bindings.specs.declared.entries.Entry.{Entry}
@@ -48,3 +49,20 @@ pub record IsLetGo (s : GatewayAndOutput) (x : Entry) (s2 : GatewayAndOutput) : 
   pub left : let l = s.shown.ledger in
       slot_of s2.shown.ledger.book.entries x.pair.key ≡ left_of (is_lone l.book.stage) x
   pub noted : NotesRelease s x.pair s2
+
+-- the table has the pair, which was made alone and of which the peer has nothing
+pub record IsMadeAlone (l : Ledger) (p : Pair) : Type 0 where
+  pub entry : Entry
+  pub found : slot_of l.book.entries p.key ≡ Some entry
+  pub pair : entry.pair ≡ p
+  pub alone : is_alone entry.state ≡ true
+
+-- a release that is noted is of a pair that was made alone
+abbrev pub ReleasesAlone : Ledger → NoteKind → Type 0
+ReleasesAlone l (Used p) = Unit {0}
+ReleasesAlone l (Released p) = IsMadeAlone l p
+ReleasesAlone l (Retaken p) = Unit {0}
+ReleasesAlone l (Alone p) = Unit {0}
+ReleasesAlone l Synced = Unit {0}
+ReleasesAlone l Crashed = Unit {0}
+ReleasesAlone l (Booted number) = Unit {0}

@@ -27,9 +27,9 @@ pub record Rests (old new : GatewayAndOutput) : Type 0 where
   pub plain : old.shown.ledger.book.alone ≡ 0 → IsPlain notes
   pub accounts : (before : List Note) → AccountsOn old.shown before → AccountsOn new.shown (reverse notes ++ before)
 
--- The most notes that a step makes: one for each entry that is revived or let go, three for each kept packet that is
--- taken again, three for the event's own packet, and for each of 64 records one, and three for each kept packet that it
--- may free.
+-- The most notes that a step makes: one for each entry that is revived, let go or marked (a tick marks only what it
+-- didn't let go), three for each kept packet that is taken again, three for the event's own packet, and for each of 64
+-- records one, and three for each kept packet that it may free.
 abbrev pub most_notes : Shown → ℕ
 most_notes g =
     let freed = 3 * length g.kept in

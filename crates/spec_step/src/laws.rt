@@ -1,6 +1,7 @@
 //! The laws of a step of a gateway. Each law is the contract of a function that does nothing.
 
 ghost use Rattle.std.specs.Prelude.{◌≡◌, ◌≢◌, ◌↔◌, Ok, ◌≤◌, ◌<◌, ◌+◌, ◌^◌, ◌∷◌, ◌++◌, ℕ, true, false, [], Bool, List, length, reverse, Err, Some};
+ghost use Rattle.std.specs.List.{AllByRecursion};
 ghost use Rattle.nat_types.specs.declared.gateways.GatewayId.{GatewayId};
 ghost use Rattle.nat_types.specs.declared.gateways.Side.{Side};
 ghost use Rattle.nat_types.specs.declared.notes.NoteKind.TheVariants.{Booted, Crashed};
@@ -45,6 +46,7 @@ ghost use Rattle.spec_step.specs.GoingOn.{GoesByOwn, HasAllPairs, HasNoPort, May
 ghost use Rattle.spec_step.specs.Machine.{AreBytes, Goes, HasBytes, HasPushed, IsAlone, IsStanding, KeepsBytes};
 ghost use Rattle.spec_step.specs.Machine.{letters_in, words_in};
 ghost use Rattle.spec_step.specs.LettingGo.{CanAskForAll, HasRested, IsLetGo, NotesRelease};
+ghost use Rattle.spec_step.specs.LettingGo.{ReleasesAlone};
 ghost use Rattle.spec_step.specs.Others.{AreOthers};
 ghost use Rattle.spec_step.specs.OwnAnswers.{AreWithin, SaysJust, ShowsNothing, all_own_of, own_of};
 ghost use Rattle.spec_step.specs.Parts.{all_idle_done, all_sought_done, all_taken, echo_taken, error_taken, flow_taken, length_in, refused, retaken_by};
@@ -409,7 +411,7 @@ pub fn takes_over()
 /// A pair that has rested is let go. After its rest and a tick, an entry that may be let go is gone
 /// at a lone gateway. Else, where the peer may be asked for all such entries, the entry is closing,
 /// or gone where its pair was made alone. The pair's release is noted, and of a pair that was made
-/// alone it is so wherever the gateway isn't lone.
+/// alone it is so wherever the gateway isn't lone. A gateway that is apart releases no other pair.
 pub fn ticks_let_go()
     ensures alone { (s : GatewayAndOutput) (now : ℕ) (s2 : GatewayAndOutput) (x : Entry)
         → IsStepOn s (Tick now) s2 → is_lone s.shown.ledger.book.stage ≡ true
@@ -419,16 +421,26 @@ pub fn ticks_let_go()
         → CanAskForAll s.shown.ledger s.shown.link s2.shown.moment
         → HasRested s.shown.ledger s2.shown.moment x → IsLetGo s x s2 }
     ensures made_alone { (s : GatewayAndOutput) (now : ℕ) (s2 : GatewayAndOutput) (x : Entry)
-        → IsStepOn s (Tick now) s2 → s.shown.ledger.book.stage ≡ Paired → is_alone x.state ≡ true
+        → IsStepOn s (Tick now) s2 → IsBook s.shown.ledger.book → KeepsBytes s.shown
+        → s.shown.ledger.book.stage ≡ Paired → is_alone x.state ≡ true
         → HasRested s.shown.ledger s2.shown.moment x → NotesRelease s x.pair s2 }
-{}
+    ensures apart { (s : GatewayAndOutput) (now : ℕ) (s2 : GatewayAndOutput) (notes : List Note)
+        → IsStepOn s (Tick now) s2 → IsBook s.shown.ledger.book → KeepsBytes s.shown
+        → is_apart s2.shown ≡ true → s2.told.notes ≡ s.told.notes ++ notes
+        → AllByRecursion (λ n. ReleasesAlone s.shown.ledger n.what) notes }
+{
+    readings_law();
+}
 
 /// A gateway that is apart waits for nobody: after a tick at which it is apart no packet waits for a
-/// pair, and each pair of its table translates.
+/// pair, and each pair of its table translates. While that is so, no packet comes to wait for one.
 pub fn alone_waits_for_nobody()
-    ensures { (s : GatewayAndOutput) (now : ℕ) (s2 : GatewayAndOutput) → IsStepOn s (Tick now) s2
+    ensures tick { (s : GatewayAndOutput) (now : ℕ) (s2 : GatewayAndOutput) → IsStepOn s (Tick now) s2
         → IsBook s.shown.ledger.book → KeepsBytes s.shown → is_apart s2.shown ≡ true
         → WaitsForNobody s2.shown }
+    ensures packet { (g : Shown) (side : Side) (flow : Flow) (length : ℕ) (e : Endpoint)
+        → IsBook g.ledger.book → is_apart g ≡ true → WaitsForNobody g
+        → plan_of g side flow length ≢ Ok (WaitForPair e) }
 {
     readings_law();
 }
