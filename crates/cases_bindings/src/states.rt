@@ -1,7 +1,7 @@
 //! The states of entries, as lines have them.
 ghost use Rattle.std.specs.Prelude.{◌≡◌, true};
 ghost use Rattle.slots.specs.declared.ranks.Rank.{Rank};
-ghost use Rattle.bindings.specs.Entries.{is_of_rank};
+ghost use Rattle.bindings.specs.Entries.{is_markable, is_of_rank};
 
 use nat_types::EntryState;
 
@@ -29,5 +29,15 @@ pub(crate) fn may_turn(from: EntryState, to: EntryState) -> bool
         (_, EntryState::Doomed) | (EntryState::Held, EntryState::Held) => true,
         (EntryState::Held | EntryState::Doomed, _) | (_, EntryState::Held) => false,
         _ => true,
+    }
+}
+
+/// Whether a pair in this state may be marked: an answer about it is awaited.
+pub(crate) fn is_markable(state: EntryState) -> bool
+    ensures { result ≡ is_markable state }
+{
+    match state {
+        EntryState::Pending { .. } | EntryState::Closing { .. } => true,
+        EntryState::Doomed | EntryState::Live | EntryState::Alone | EntryState::Held => false,
     }
 }

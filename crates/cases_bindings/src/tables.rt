@@ -4,7 +4,7 @@ ghost use Rattle.bindings.specs.Ports.{AreBounds};
 
 use crate::listing::{list, tell_found};
 use crate::ports::parity;
-use crate::states::{may_turn, state_name};
+use crate::states::{is_markable, may_turn, state_name};
 use addresses::Port;
 use bindings::{Entry, Hashers, PortBounds, Table};
 use cases_words::{Actor, Case};
@@ -217,10 +217,7 @@ impl TableCase {
     fn mark(&mut self, case: &mut Case) {
         let key = case.key();
         match self.table.pair_of_port(key) {
-            Some(Entry {
-                state: EntryState::Pending { .. } | EntryState::Closing { .. },
-                ..
-            }) => self.table.mark(key),
+            Some(entry) if is_markable(entry.state) => self.table.mark(key),
             _ => case.refuse("it is neither Pending nor Closing"),
         }
     }
