@@ -28,7 +28,7 @@ use Rattle.spec_binding.specs.declared.changes.PortRequest.{PortRequest}
 use Rattle.spec_binding.specs.declared.changes.Want.TheVariants as want
 use Rattle.spec_binding.specs.Books.{Book, IsBook, is_lone, is_paired, is_promised, is_synced}
 use Rattle.spec_binding.specs.WellFormed.{Fits, HasOwnPair, IsNewEntry, IsWellFormedEndpoint}
-use Rattle.spec_binding.specs.Rows.{accept_row, accepted_row, alone_row, answering, is_takeable, marked_row, paired_wish, sought_row, taking, telling_row, told_row, ask_row, asked_row, carry_row, ending, gives_way, grant_row, idle_row, install_row, is_at_limit, is_theirs, known_wish, left_row, may_want, new_pair, new_wish, no_row, none_row, port_for, proposal, proposed_row, quiet, refuse_row, refused_row, release_row, released_row, row, row_of, stayed_row, synced_row, taken_answer, use_row, used_row, wish, wish_by, wish_of, yes_row}
+use Rattle.spec_binding.specs.Rows.{accept_row, accepted_row, alone_row, answering, is_takeable, marked_row, paired_wish, sought_row, taking, telling_row, told_row, ask_row, asked_row, carry_row, ending, gives_way, grant_row, idle_row, install_row, is_at_limit, known_wish, left_row, may_want, new_pair, new_wish, no_row, none_row, port_for, proposed_row, quiet, refuse_row, refused_row, release_row, released_row, row, row_of, stayed_row, synced_row, taken_answer, use_row, used_row, wish, wish_by, wish_of, yes_row}
 use Rattle.spec_binding.proofs.Moves.{may-give, ranges-port}
 use Rattle.spec_binding.proofs.Taking.{MayTake, takes}
 use Rattle.spec_binding.proofs.Wishing.{at-key, chosen-says}

@@ -3,7 +3,7 @@ use Rattle.std.proofs.Common.{◌≡◌, ℕ, zero, suc, ◌+◌, ◌-◌, ◌<�
 use Rattle.std.specs.List.{filter, AllByRecursion, range_with_len}
 use Rattle.std.proofs.lemmas.Bool.{and_parts, and_from, both_ways, cases_Bool, cond-true, cond-false, eqb-true, false_from_ne_true, le-leb, leb-true, or_cases}
 use Rattle.nat_types.specs.Same.{same_key}
-use Rattle.nat_types.proofs.Offered.{key-eq, key-true}
+use Rattle.nat_types.proofs.Offered.{key-eq}
 use Rattle.nat_types.specs.Granted.{Granted, IsPort}
 use Rattle.nat_types.specs.declared.gateways.GatewayId.{GatewayId}
 use Rattle.nat_types.specs.declared.gateways.GatewayId.TheVariants.{Zero}
@@ -34,7 +34,7 @@ use Rattle.spec_pair.specs.Box.{In, founder}
 use Rattle.spec_pair.specs.Ownership.{AreRising as RunsRise}
 use Rattle.spec_pair.proofs.Offered.{same_boxes}
 use Rattle.spec_binding.specs.declared.setups.Stage.{Stage}
-use Rattle.spec_binding.specs.declared.setups.Stage.TheVariants.{Paired, Lone}
+use Rattle.spec_binding.specs.declared.setups.Stage.TheVariants.{Unsynced, Paired, Lone}
 use Rattle.spec_binding.specs.declared.changes.Change.{Change}
 use Rattle.spec_binding.specs.declared.changes.Change.TheVariants.{Keep, Add, Turn, Renew, Drop, Yield, Want, Give, Gain}
 use Rattle.spec_binding.specs.declared.changes.Transition.{Transition}
@@ -153,9 +153,9 @@ keeps-add c s p is full free new side inside formed =
     (keys-put (entry_in s p) c.entries is.keys free)
     (one-set c.entries (put_in (entry_in s p) c.entries) p.key (Some (entry_in s p)) is.endpoints (λ q. slot-put (entry_in s p) c.entries q free)
     (λ x y q rank some px hy py same.
-      let e : entry_in s p ≡ x = cc in
-      let own : is_of_rank rank s ≡ true = ap (λ (z : Entry). is_of_rank rank z.state) e ∙ px in
-      absurd (unranked c.entries rank p.endpoint q y (untaken c.entries s p.endpoint rank new own) hy py (sym same ∙ ap (λ (z : Entry). z.pair.endpoint) (sym e)))))
+    let e : entry_in s p ≡ x = cc in
+    let own : is_of_rank rank s ≡ true = ap (λ (z : Entry). is_of_rank rank z.state) e ∙ px in
+    absurd (unranked c.entries rank p.endpoint q y (untaken c.entries s p.endpoint rank new own) hy py (sym same ∙ ap (λ (z : Entry). z.pair.endpoint) (sym e)))))
     (set-sides c is (put_in (entry_in s p) c.entries) p.key (Some (entry_in s p)) (λ q. slot-put (entry_in s p) c.entries q free)
     (λ x some. let e : entry_in s p ≡ x = cc in ap (λ (z : Entry). is_of_rank Second z.state) (sym e) ∙ side))
     (set-placed c is (put_in (entry_in s p) c.entries) p.key (Some (entry_in s p)) (λ q. slot-put (entry_in s p) c.entries q free)
@@ -190,9 +190,9 @@ keeps-turn c k s x is synced found on =
     (keys-turn k s c.entries is.keys)
     (one-set c.entries (with_state k s c.entries) k (Some (entry_in s x.pair)) is.endpoints (λ q. slot-with_state k s c.entries x q found)
     (λ z y q rank some pz hy py same.
-      let e : entry_in s x.pair ≡ z = cc in
-      let old : is_of_rank rank x.state ≡ true = on.ranks rank (ap (λ (w : Entry). is_of_rank rank w.state) e ∙ pz) in
-      is.endpoints k q x y rank found hy old py (ap (λ (w : Entry). w.pair.endpoint) e ∙ same)))
+    let e : entry_in s x.pair ≡ z = cc in
+    let old : is_of_rank rank x.state ≡ true = on.ranks rank (ap (λ (w : Entry). is_of_rank rank w.state) e ∙ pz) in
+    is.endpoints k q x y rank found hy old py (ap (λ (w : Entry). w.pair.endpoint) e ∙ same)))
     (set-sides c is (with_state k s c.entries) k (Some (entry_in s x.pair)) (λ q. slot-with_state k s c.entries x q found)
     (λ z some. let e : entry_in s x.pair ≡ z = cc in ap (λ (w : Entry). is_of_rank Second w.state) (sym e) ∙ on.side ∙ is.sides k x found))
     (set-placed c is (with_state k s c.entries) k (Some (entry_in s x.pair)) (λ q. slot-with_state k s c.entries x q found)

@@ -31,7 +31,7 @@ use Rattle.spec_binding.specs.declared.changes.Want.TheVariants as want
 use Rattle.spec_binding.specs.Books.{Book, IsBook, is_lone, is_promised, is_synced, load_of, is_paired}
 use Rattle.spec_binding.specs.WellFormed.{IsBeside, IsSameBatch}
 use Rattle.spec_binding.specs.Resets.{restart_batch}
-use Rattle.spec_binding.specs.Rows.{alone_row, marked_row, paired_wish, sought_row, telling_row, accept_row, accepted_row, after, carry_row, changed, grant_row, idle_row, is_at_limit, known_wish, left_row, load_taken, may_want, new_pair, new_wish, no_row, none_row, numbers_of, port_for, proposal, quiet, refuse_row, refused_row, release_row, released_row, row, row_of, stage_after, stayed_row, synced_row, taken_answer, taken_book, unsynced_after, use_row, used_row, wish, wish_by, wish_of, yes_row}
+use Rattle.spec_binding.specs.Rows.{alone_row, marked_row, paired_wish, sought_row, telling_row, accept_row, accepted_row, after, carry_row, changed, grant_row, idle_row, is_at_limit, known_wish, left_row, load_taken, may_want, new_pair, new_wish, no_row, none_row, numbers_of, port_for, quiet, refuse_row, refused_row, release_row, released_row, row, row_of, stage_after, stayed_row, synced_row, taken_answer, taken_book, unsynced_after, use_row, used_row, wish, wish_by, wish_of, yes_row}
 use Rattle.spec_binding.proofs.Members.{gained-is}
 use Rattle.spec_binding.proofs.Restarting.{batch-count}
 use Rattle.spec_binding.proofs.Unbroken.{machine_runs}
@@ -220,7 +220,7 @@ turn-settled k s (y ∷ ys) x new d found old = at (has_key k y) refl (λ more. 
 -- an entry that goes from one state into another, both settled or both not, is the same part of the batch
 turned-pairs : (k : Key) (s : EntryState) (es : List Entry) → HasDistinctKeys es → ((x : Entry) → slot_of es k ≡ Some x → is_settled x.state ≡ is_settled s) → pairs_in is_settled (with_state k s es) ≡ pairs_in is_settled es
 turned-pairs k s [] d h = refl
-turned-pairs k s (y ∷ ys) d h = at (has_key k y) refl
+turned-pairs k s (y ∷ ys) d h = at (has_key k y) refl (λ more. turned-pairs k s ys d.1 more)
   where
     both : (t u : Bool) (z : Entry) → z.pair ≡ y.pair → u ≡ t → pairs_in is_settled (with_state k s ys) ≡ pairs_in is_settled ys
         → map (λ (z : Entry). z.pair) (cond t (z ∷ filter (λ z. is_settled z.state) (with_state k s ys)) (filter (λ z. is_settled z.state) (with_state k s ys))) ≡ map (λ (z : Entry). z.pair) (cond u (y ∷ filter (λ z. is_settled z.state) ys) (filter (λ z. is_settled z.state) ys))
@@ -229,29 +229,29 @@ turned-pairs k s (y ∷ ys) d h = at (has_key k y) refl
     both false true z same e ih = cc
     both false false z same e ih = ih
 
-    at : (t : Bool) → has_key k y ≡ t → pairs_in is_settled ((let z : Entry = cond t (entry_in s y.pair) y in z) ∷ with_state k s ys) ≡ pairs_in is_settled (y ∷ ys)
-    at true here =
+    at : (t : Bool) → has_key k y ≡ t → (((x : Entry) → slot_of ys k ≡ Some x → is_settled x.state ≡ is_settled s) → pairs_in is_settled (with_state k s ys) ≡ pairs_in is_settled ys) → pairs_in is_settled ((let z : Entry = cond t (entry_in s y.pair) y in z) ∷ with_state k s ys) ≡ pairs_in is_settled (y ∷ ys)
+    at true here ih =
         both (is_settled s) (is_settled y.state) (entry_in s y.pair) refl (h y (cond-true (has_key k y) (Some y) (slot_of ys k) here))
         (ap (pairs_in is_settled) (turn-none k s ys (rest-none k y ys here d.0)))
-    at false there = both (is_settled y.state) (is_settled y.state) y refl refl (turned-pairs k s ys d.1 (λ x found. h x (cond-false (has_key k y) (Some y) (slot_of ys k) there ∙ found)))
+    at false there ih = both (is_settled y.state) (is_settled y.state) y refl refl (ih (λ x found. h x (cond-false (has_key k y) (Some y) (slot_of ys k) there ∙ found)))
 
 -- an entry that isn't settled is no part of the batch, and may go
 dropped-pairs : (k : Key) (es : List Entry) → HasDistinctKeys es → ((x : Entry) → slot_of es k ≡ Some x → is_settled x.state ≡ false) → pairs_in is_settled (without k es) ≡ pairs_in is_settled es
 dropped-pairs k [] d h = refl
-dropped-pairs k (y ∷ ys) d h = at (has_key k y) refl
+dropped-pairs k (y ∷ ys) d h = at (has_key k y) refl (λ more. dropped-pairs k ys d.1 more)
   where
     both : (t : Bool) → pairs_in is_settled (without k ys) ≡ pairs_in is_settled ys
         → map (λ (z : Entry). z.pair) (cond t (y ∷ filter (λ z. is_settled z.state) (without k ys)) (filter (λ z. is_settled z.state) (without k ys))) ≡ map (λ (z : Entry). z.pair) (cond t (y ∷ filter (λ z. is_settled z.state) ys) (filter (λ z. is_settled z.state) ys))
     both true ih = ap (λ (ps : List Pair). y.pair ∷ ps) ih
     both false ih = ih
 
-    at : (t : Bool) → has_key k y ≡ t → pairs_in is_settled (let zs : List Entry = cond (not t) (y ∷ without k ys) (without k ys) in zs) ≡ pairs_in is_settled (y ∷ ys)
-    at true here =
+    at : (t : Bool) → has_key k y ≡ t → (((x : Entry) → slot_of ys k ≡ Some x → is_settled x.state ≡ false) → pairs_in is_settled (without k ys) ≡ pairs_in is_settled ys) → pairs_in is_settled (let zs : List Entry = cond (not t) (y ∷ without k ys) (without k ys) in zs) ≡ pairs_in is_settled (y ∷ ys)
+    at true here ih =
         let none : slot_of ys k ≡ None = rest-none k y ys here d.0 in
         let off : is_settled y.state ≡ false = h y (cond-true (has_key k y) (Some y) (slot_of ys k) here) in
-        dropped-pairs k ys d.1 (λ x found. let clash : None ≡ Some x = sym none ∙ found in absurd (cc))
+        ih (λ x found. let clash : None ≡ Some x = sym none ∙ found in absurd (cc))
         ∙ sym (ap (map (λ (z : Entry). z.pair)) (cond-false (is_settled y.state) (y ∷ filter (λ z. is_settled z.state) ys) (filter (λ z. is_settled z.state) ys) off))
-    at false there = both (is_settled y.state) (dropped-pairs k ys d.1 (λ x found. h x (cond-false (has_key k y) (Some y) (slot_of ys k) there ∙ found)))
+    at false there ih = both (is_settled y.state) (ih (λ x found. h x (cond-false (has_key k y) (Some y) (slot_of ys k) there ∙ found)))
 
 -- an entry that isn't settled is no part of the batch when it goes
 drop-unsettled : (k : Key) (es : List Entry) (x : Entry) → HasDistinctKeys es → slot_of es k ≡ Some x → is_settled x.state ≡ false → pairs_in is_settled (without k es) ≡ pairs_in is_settled es

@@ -1,15 +1,15 @@
 -- After a tick at which a gateway is apart, each pair of its table translates.
-use Rattle.std.proofs.Common.{◌≡◌, ℕ, Bool, true, false, cond, not, ◌||◌, Option, Some, None, inl, inr, List, [], ◌∷◌, map, refl, sym, ap, subst, ◌∙◌}
+use Rattle.std.proofs.Common.{◌≡◌, ℕ, Bool, true, false, cond, Option, Some, None, inl, inr, List, [], ◌∷◌, map, refl, sym, ap, ◌∙◌}
 use Rattle.std.specs.List.{filter}
 use Rattle.std.proofs.lemmas.Bool.{both_ways, cases_Bool, cond-true, cond-false, false_from_ne_true, or_cases, or_left, or_right}
 use Rattle.nat_types.specs.Same.{same_key}
-use Rattle.nat_types.proofs.Offered.{key-eq, key-self}
+use Rattle.nat_types.proofs.Offered.{key-eq}
 use Rattle.nat_types.specs.declared.pairs.EntryState.{EntryState}
 use Rattle.nat_types.specs.declared.pairs.EntryState.TheVariants as state
 use Rattle.nat_types.specs.declared.pairs.Endpoint.{Endpoint}
 use Rattle.nat_types.specs.declared.pairs.Key.{Key}
 use Rattle.bindings.specs.declared.entries.Entry.{Entry}
-use Rattle.bindings.specs.Entries.{entry_in, entry_of, has_key, is_pair, set_at, slot_of, translates, waits}
+use Rattle.bindings.specs.Entries.{entry_in, entry_of, has_key, is_pair, slot_of, translates, waits}
 use Rattle.bindings.specs.Lists.{with_state}
 use Rattle.bindings.specs.Lives.{is_among}
 use Rattle.bindings.proofs.Offered.{entry-slot, find-some, slot-key, slot-with_state}

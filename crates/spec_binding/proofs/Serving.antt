@@ -3,7 +3,7 @@ use Rattle.std.proofs.Common.{◌≡◌, ◌⊎◌, Bool, true, false, cond, Opt
 use Rattle.std.specs.Option.{option_or}
 use Rattle.std.proofs.lemmas.Bool.{both_ways, cases_Bool, cond-true, cond-false, false_from_ne_true}
 use Rattle.nat_types.specs.Same.{same_key}
-use Rattle.nat_types.proofs.Offered.{key-eq, key-self}
+use Rattle.nat_types.proofs.Offered.{key-eq}
 use Rattle.nat_types.specs.Granted.{Granted}
 use Rattle.nat_types.specs.declared.gateways.GatewayId.{GatewayId}
 use Rattle.nat_types.specs.declared.notes.NoteKind.{NoteKind}
@@ -21,8 +21,8 @@ use Rattle.slots.specs.declared.ranks.Rank.TheVariants.{First, Second}
 use Rattle.bindings.specs.declared.entries.Entry.{Entry}
 use Rattle.bindings.specs.Entries.{entry_in, entry_of, entry_on, is_of_rank, is_pair, set_at, slot_of, translates, HasDistinctKeys}
 use Rattle.bindings.specs.Lists.{put_in, with_state, without, IsOneToOne}
-use Rattle.bindings.specs.Revivals.{revived_entries, revived_slot, woken, woken_entry}
-use Rattle.bindings.proofs.Offered.{entry-serves, entry-slot, found-slot, pair-rank, ranked-serves, slot-key, slot-put, slot-revived, slot-with_state, slot-without}
+use Rattle.bindings.specs.Revivals.{revived_entries, revived_slot, woken_entry}
+use Rattle.bindings.proofs.Offered.{entry-slot, found-slot, pair-rank, ranked-serves, slot-put, slot-revived, slot-with_state, slot-without}
 use Rattle.link.specs.Grammar.{IsWellFormedRecord}
 use Rattle.spec_binding.specs.declared.changes.Change.TheVariants.{Add, Turn, Drop, Yield, Gain}
 use Rattle.spec_binding.specs.declared.changes.Change.TheVariants as change_of

@@ -1,7 +1,7 @@
 -- Each row, and each other change, leaves a ledger that accounts for the trace.
-use Rattle.std.proofs.Common.{◌≡◌, ℕ, zero, suc, nat_lt, Bool, true, false, cond, ◌&&◌, is_none, Option, Some, None, inl, inr, List, [], ◌∷◌, ◌++◌, reverse, refl, sym, ap, subst, ◌∙◌}
+use Rattle.std.proofs.Common.{◌≡◌, ℕ, zero, suc, nat_lt, Bool, true, false, cond, Option, Some, None, inl, inr, List, [], ◌∷◌, ◌++◌, reverse, refl, sym, ap, subst, ◌∙◌}
 use Rattle.std.specs.List.{insert}
-use Rattle.std.proofs.lemmas.Bool.{and_parts, both_ways, cond-false, false_from_ne_true, or_cases}
+use Rattle.std.proofs.lemmas.Bool.{both_ways, cond-false, false_from_ne_true, or_cases}
 use Rattle.addresses.specs.declared.transport.Port.{Port}
 use Rattle.nat_types.specs.Same.{same_key}
 use Rattle.nat_types.proofs.Offered.{key-eq}
@@ -32,9 +32,9 @@ use Rattle.spec_binding.specs.declared.changes.PortRequest.{PortRequest}
 use Rattle.spec_binding.specs.declared.changes.Want.TheVariants as want
 use Rattle.spec_binding.specs.Books.{Book, IsBook, is_lone, is_paired, is_promised, is_synced}
 use Rattle.spec_binding.specs.Ledgers.{Ledger, lives_after, rests_for}
-use Rattle.spec_binding.specs.Rows.{accept_row, accepted_row, alone_row, answering, is_takeable, marked_row, paired_wish, sought_row, taking, telling_row, told_row, ask_row, asked_row, ending, gives_way, grant_row, idle_row, install_row, is_at_limit, is_theirs, known_wish, left_row, may_want, new_pair, new_wish, no_row, noted_by, numbers_of, port_for, proposal, proposed_row, quiet, refuse_row, refused_row, release_row, released_row, row, row_of, stayed_row, synced_row, wish, wish_by, wish_of, yes_row}
+use Rattle.spec_binding.specs.Rows.{accept_row, accepted_row, alone_row, answering, is_takeable, marked_row, paired_wish, sought_row, taking, telling_row, told_row, ask_row, asked_row, ending, gives_way, grant_row, idle_row, install_row, is_at_limit, known_wish, left_row, may_want, new_pair, new_wish, no_row, noted_by, numbers_of, port_for, proposed_row, quiet, refuse_row, refused_row, release_row, released_row, row, row_of, stayed_row, synced_row, wish, wish_by, wish_of, yes_row}
 use Rattle.spec_binding.specs.Uses.{Accounts, KnowUses, uses_of}
-use Rattle.spec_binding.proofs.Accounting.{Stays, idle-by, rested-idle, rested-still, rested-unused, stays-quiet}
+use Rattle.spec_binding.proofs.Accounting.{Stays, idle-by, rested-idle, rested-unused, stays-quiet}
 use Rattle.spec_binding.proofs.Knowing.{know-add, know-again, know-as, know-drop, know-turn}
 use Rattle.spec_binding.proofs.Members.{gained-is}
 use Rattle.spec_binding.proofs.Taking.{takes}

@@ -1,7 +1,7 @@
 -- Whose wait a record ends.
-use Rattle.std.proofs.Common.{◌≡◌, Bool, true, false, cond, ◌&&◌, is_none, Option, Some, None, inl, inr, List, refl, sym, ap, subst, ◌∙◌}
+use Rattle.std.proofs.Common.{◌≡◌, Bool, true, false, cond, Option, Some, None, inl, inr, List, refl, sym, ap, subst, ◌∙◌}
 use Rattle.std.specs.Prelude.{◌↔◌}
-use Rattle.std.proofs.lemmas.Bool.{and_parts, both_ways, cases_Bool, cond-true, cond-false, false_from_ne_true}
+use Rattle.std.proofs.lemmas.Bool.{both_ways, cases_Bool, cond-true, cond-false, false_from_ne_true}
 use Rattle.nat_types.specs.Same.{same_key}
 use Rattle.nat_types.proofs.Offered.{key-eq, key-true}
 use Rattle.nat_types.specs.Granted.{Granted}
@@ -23,10 +23,10 @@ use Rattle.bindings.proofs.Offered.{slot-without, slot-with_state, slot-put, ent
 use Rattle.link.specs.Grammar.{IsWellFormedRecord}
 use Rattle.spec_binding.specs.declared.changes.Change.TheVariants.{Add, Yield, Gain}
 use Rattle.spec_binding.specs.declared.changes.Transition.{Transition}
-use Rattle.spec_binding.specs.Books.{Book, IsBook, is_promised, is_synced}
-use Rattle.spec_binding.specs.Rows.{accept_row, accepted_row, after, answering, ask_row, asked_row, changed, ending, gives_way, grant_row, install_row, is_takeable, taking, told_row, left_row, no_row, numbers_of, proposed_row, quiet, refuse_row, refused_row, row, row_of, stayed_row, synced_row, taken_book, taken_ended, unsynced_after, want_row, yes_row}
+use Rattle.spec_binding.specs.Books.{Book, IsBook, is_paired, is_promised, is_synced}
+use Rattle.spec_binding.specs.Rows.{accept_row, accepted_row, after, alone_row, answering, ask_row, asked_row, changed, ending, gives_way, grant_row, install_row, is_takeable, left_row, marked_row, no_row, numbers_of, proposed_row, quiet, refuse_row, refused_row, row, row_of, sought_row, stayed_row, synced_row, taken_book, taken_ended, taking, telling_row, told_row, unsynced_after, want_row, yes_row}
 use Rattle.spec_binding.specs.Waits.{is_pending, is_waiting, waits_by}
-use Rattle.spec_binding.proofs.Keeping.{taken-keeps}
+use Rattle.spec_binding.proofs.Keeping.{alone-row-keeps, taken-keeps}
 use Rattle.spec_binding.proofs.Members.{gained-is}
 use Rattle.spec_binding.proofs.Taking.{takes, unranked}
 use Rattle.spec_binding.proofs.Wishing.{at-key}
@@ -343,6 +343,55 @@ module _ (b : Book) (is : IsBook b) where
       at : (t : Bool) → Ends b (let w : Transition = cond t quiet (synced_row b rests r) in w)
       at true = quiet-ends b
       at false = synced-ends r rests
+
+  -- ---- a pair that is marked, or told of, at a tick
+
+  marked-ends : (x : Entry) (s : EntryState) → x.state ≡ s → slot_of b.entries x.pair.key ≡ Some x → Ends b (marked_row x.pair s)
+  marked-ends x (state.Pending true) at found = quiet-ends b
+  marked-ends x (state.Pending false) at found = lost-ends b (marked_row x.pair (state.Pending false)) x.pair.key x is refl at (turned b.entries x.pair.key x (state.Pending true) found marked-settled)
+  marked-ends x state.Doomed at found = quiet-ends b
+  marked-ends x state.Live at found = quiet-ends b
+  marked-ends x (state.Closing true) at found = quiet-ends b
+  marked-ends x (state.Closing false) at found = other-ends b (marked_row x.pair (state.Closing false)) x.pair.key x refl (λ h. closing-settled false (sym at ∙ h)) (turned b.entries x.pair.key x (state.Closing true) found (closing-settled true))
+  marked-ends x state.Alone at found = quiet-ends b
+  marked-ends x state.Held at found = quiet-ends b
+
+  telling-ends : (full : Bool) (x : Entry) (s : EntryState) → x.state ≡ s → slot_of b.entries x.pair.key ≡ Some x → Ends b (telling_row full x.pair s)
+  telling-ends full x (state.Pending m) at found = quiet-ends b
+  telling-ends full x state.Doomed at found = quiet-ends b
+  telling-ends full x state.Live at found = quiet-ends b
+  telling-ends full x (state.Closing m) at found = quiet-ends b
+  telling-ends true x state.Alone at found = quiet-ends b
+  telling-ends false x state.Alone at found = other-ends b (telling_row false x.pair state.Alone) x.pair.key x refl (λ h. alone-settled (sym at ∙ h)) (turned b.entries x.pair.key x (state.Pending true) found marked-settled)
+  telling-ends full x state.Held at found = quiet-ends b
+
+  alone-ends : (apart full : Bool) (k : Key) → Ends b (alone_row b apart full k)
+  alone-ends apart full k = at (is_paired b.stage) apart (slot_of b.entries k) refl
+    where
+      at : (t apart : Bool) (o : Option Entry) → slot_of b.entries k ≡ o → Ends b (let r : Transition = cond t (sought_row apart full o) quiet in r)
+      at false apart o there = quiet-ends b
+      at true apart None there = quiet-ends b
+      at true true (Some x) there = marked-ends x x.state refl (at-key b.entries k x there)
+      at true false (Some x) there = telling-ends full x x.state refl (at-key b.entries k x there)
+
+-- what a tick marks or tells ends the waits of exactly those endpoints that waited before it and don't after it
+pub ends-ticked : (b : Book) (apart full : Bool) (k : Key) (e : Endpoint) → IsBook b
+    → ((alone_row b apart full k).ended ≡ Some e) ↔ ((is_waiting b e ≡ true) × (is_waiting (after b (alone_row b apart full k)) e ≡ false))
+ends-ticked b apart full k e is = (
+  λ h.
+      let parts = ends.ended e h in
+      (waits-seen b e is parts.0, false_from_ne_true (is_waiting next e) (λ again. parts.1 (waits-found next e then_ again))),
+  λ h. ends.only e (waits-found b e is h.0) (λ w. both_ways (is_waiting next e) h.1 (waits-seen next e then_ w)),
+)
+  where
+    next : Book
+    next = after b (alone_row b apart full k)
+
+    ends : Ends b (alone_row b apart full k)
+    ends = alone-ends b is apart full k
+
+    then_ : IsBook next
+    then_ = alone-row-keeps b apart full k is
 
 -- at a synced gateway a record ends the waits of exactly those endpoints that waited before it and don't after it
 pub ends-waits : (b : Book) (rests : Bool) (r : Record) (e : Endpoint) → IsBook b → IsWellFormedRecord r → is_synced b.stage ≡ true

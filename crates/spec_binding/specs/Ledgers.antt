@@ -13,9 +13,7 @@ use Rattle.activity.specs.declared.packets.Packet.{Packet}
 use Rattle.activity.specs.Lives.{Activity, life_begun, life_carried, life_renewed}
 use Rattle.slots.specs.declared.hashers.Hashers.{Hashers}
 use Rattle.bindings.specs.declared.entries.Entry.{Entry}
-use Rattle.bindings.specs.declared.tallies.Sought.{Sought}
-use Rattle.bindings.specs.declared.tallies.Sought.TheVariants.{ToMark, ToTell}
-use Rattle.bindings.specs.Entries.{is_sought}
+use Rattle.bindings.specs.Entries.{is_alone, waits}
 use Rattle.bindings.specs.Lists.{place_in}
 use Rattle.bindings.specs.Lives.{lives_with, lives_without, rests_at, is_unused_at}
 use Rattle.bindings.specs.Revivals.{lives_of_pairs}
@@ -132,13 +130,15 @@ release_all now (k ∷ ks) l e =
 abbrev pub keys_in : (EntryState → Bool) → List Entry → List Key
 keys_in test es = map (λ x. x.pair.key) (filter (λ x. test x.state) es)
 
--- what a tick seeks: a gateway that is apart marks what waits, and another one tells the peer of what was made alone
-abbrev pub sought : Bool → Sought
-sought apart = (if apart then ToMark else ToTell)
+-- whether a tick seeks an entry in this state: a gateway that is apart marks what waits, and another one tells the peer of
+-- what was made alone
+abbrev pub is_sought : Bool → EntryState → Bool
+is_sought true s = waits s
+is_sought false s = is_alone s
 
 -- the keys of the entries that a tick seeks
 abbrev pub sought_keys : Bool → List Entry → List Key
-sought_keys apart es = keys_in (is_sought (sought apart)) es
+sought_keys apart es = keys_in (is_sought apart) es
 
 -- the entries of these keys are marked, or told of, one after another, each after the ones before
 abbrev pub go_on_all : Bool → ℕ → List Key → Ledger → Link → LetGo

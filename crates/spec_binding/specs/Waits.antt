@@ -1,5 +1,5 @@
 -- The endpoints whose packets wait for the peer's answer.
-use Rattle.std.specs.Prelude.{Bool, true, false, not, Option, Some, None}
+use Rattle.std.specs.Prelude.{Bool, false, not, Option, Some, None}
 use Rattle.nat_types.specs.declared.pairs.EntryState.{EntryState}
 use Rattle.nat_types.specs.declared.pairs.EntryState.TheVariants.{Pending, Doomed, Live, Closing, Alone, Held}
 use Rattle.nat_types.specs.declared.pairs.Endpoint.{Endpoint}

@@ -50,8 +50,8 @@ ghost use Rattle.spec_binding.specs.Uses.{Accounts, uses_of};
 pub fn rows_fit()
     ensures taken { (b : Book) (rests : Bool) (r : Record) → IsBook b → IsWellFormedRecord r
         → Fits b (row_of b rests r).change }
-    ensures wished { (b : Book) (apart full : Bool) (e : Endpoint) → IsBook b → IsWellFormedEndpoint e
-        → Fits b (wish_of b apart full e).row.change }
+    ensures wished { (b : Book) (apart full : Bool) (e : Endpoint) → IsBook b
+        → IsWellFormedEndpoint e → Fits b (wish_of b apart full e).row.change }
     ensures idle { (b : Book) (ask : Bool) (k : Key) → IsBook b
         → Fits b (idle_row b ask k).change }
     ensures carried { (b : Book) (k : Key) → IsBook b → Fits b (carry_row b k).change }
@@ -64,8 +64,8 @@ pub fn answers_fit()
         → IfSome (taken_answer b rests r) IsWellFormedRecord }
     ensures row { (b : Book) (rests : Bool) (r : Record) → IsBook b → IsWellFormedRecord r
         → IfSome (row_of b rests r).answer IsWellFormedRecord }
-    ensures wished { (b : Book) (apart full : Bool) (e : Endpoint) → IsBook b → IsWellFormedEndpoint e
-        → IfSome (wish_of b apart full e).row.answer IsWellFormedRecord }
+    ensures wished { (b : Book) (apart full : Bool) (e : Endpoint) → IsBook b
+        → IsWellFormedEndpoint e → IfSome (wish_of b apart full e).row.answer IsWellFormedRecord }
     ensures idle { (b : Book) (ask : Bool) (k : Key) → IsBook b
         → IfSome (idle_row b ask k).answer IsWellFormedRecord }
     ensures batch { (b : Book) → IsBook b
@@ -104,8 +104,8 @@ pub fn books_keep()
         → IsBook (changed c b) }
     ensures taken { (b : Book) (rests : Bool) (r : Record) → IsBook b → IsWellFormedRecord r
         → IsBook (taken_book b rests r) }
-    ensures wished { (b : Book) (apart full : Bool) (e : Endpoint) → IsBook b → IsWellFormedEndpoint e
-        → IsBook (after b (wish_of b apart full e).row) }
+    ensures wished { (b : Book) (apart full : Bool) (e : Endpoint) → IsBook b
+        → IsWellFormedEndpoint e → IsBook (after b (wish_of b apart full e).row) }
     ensures idle { (b : Book) (ask : Bool) (k : Key) → IsBook b
         → IsBook (after b (idle_row b ask k)) }
     ensures carried { (b : Book) (k : Key) → IsBook b → IsBook (after b (carry_row b k)) }
@@ -123,27 +123,32 @@ pub fn books_keep()
 /// The book of a gateway without a table and the founded one are books, and are the boxes with which the machine
 /// begins.
 pub fn books_begin()
-    ensures empty { (id : GatewayId) (zero one : PortBounds) (limit : Option ℕ) (alone : ℕ) → AreBounds zero
-        → AreBounds one → IsPort zero.highest.0 → IsPort one.highest.0
+    ensures empty { (id : GatewayId) (zero one : PortBounds) (limit : Option ℕ) (alone : ℕ)
+        → AreBounds zero → AreBounds one → IsPort zero.highest.0 → IsPort one.highest.0
         → IsBook (empty_book id zero one limit alone) }
-    ensures founded { (zero one : PortBounds) (limit : Option ℕ) (alone : ℕ) → AreBounds zero → AreBounds one
-        → IsPort zero.highest.0 → IsPort one.highest.0 → IsBook (founded_book zero one limit alone) }
+    ensures founded { (zero one : PortBounds) (limit : Option ℕ) (alone : ℕ) → AreBounds zero
+        → AreBounds one → IsPort zero.highest.0 → IsPort one.highest.0
+        → IsBook (founded_book zero one limit alone) }
     ensures booted { (id : GatewayId) (zero one : PortBounds) (limit : Option ℕ)
         (alone boot capacity : ℕ)
         → box_at (empty_book id zero one limit alone) (fresh id boot capacity) [] 0 ≡ booted boot }
-    ensures founder { (zero one : PortBounds) (limit : Option ℕ) (alone capacity : ℕ) → AreBounds zero
-        → let b = founded_book zero one limit alone in let r = ranges_of b in
+    ensures founder { (zero one : PortBounds) (limit : Option ℕ) (alone capacity : ℕ)
+        → AreBounds zero → let b = founded_book zero one limit alone in let r = ranges_of b in
         box_at b (fresh Zero 1 capacity) [] 0 ≡ founder (λ p. r.in_ranges p && r.at_start p) }
 {}
 
 /// A record ends the wait of an endpoint (`ended` of its row) exactly where the endpoint's own proposal waited for the
-/// peer's answer before it, and doesn't after it. At a gateway that isn't synced it ends none.
+/// peer's answer before it, and doesn't after it. At a gateway that isn't synced it ends none. What a tick marks or tells
+/// ends the waits of exactly such endpoints too.
 pub fn waits_end()
     ensures synced { (b : Book) (rests : Bool) (r : Record) (e : Endpoint) → IsBook b
         → IsWellFormedRecord r → is_synced b.stage ≡ true → (taken_ended b rests r ≡ Some e)
         ↔ ((is_waiting b e ≡ true) × (is_waiting (taken_book b rests r) e ≡ false)) }
     ensures unsynced { (b : Book) (rests : Bool) (r : Record) → is_synced b.stage ≡ false
         → taken_ended b rests r ≡ None }
+    ensures ticked { (b : Book) (apart full : Bool) (k : Key) (e : Endpoint) → IsBook b
+        → let w = alone_row b apart full k in
+        (w.ended ≡ Some e) ↔ ((is_waiting b e ≡ true) × (is_waiting (after b w) e ≡ false)) }
 {}
 
 /// A record that comes in its turn is an act of the machine. At a synced gateway the act is that of its row, or only
@@ -187,8 +192,8 @@ pub fn alone_rows()
 
 /// A pair that is marked, or of which the peer is told, at a tick is an act of the machine, or none.
 pub fn alone_works()
-    ensures { (now : ℕ) (b : Book) (e : Link) (n : ℕ) (h : List Record) (apart full : Bool) (k : Key)
-        → Stands b e h → let w = alone_row b apart full k in
+    ensures { (now : ℕ) (b : Book) (e : Link) (n : ℕ) (h : List Record) (apart full : Bool)
+        (k : Key) → Stands b e h → let w = alone_row b apart full k in
         Works now [] [] b e n (after b w) (answered e w.answer) n (noted_by b.id now w.what) h }
 {}
 
@@ -336,8 +341,8 @@ pub fn records_come()
 /// each boot of the gateway (`begun`, `founded`).
 pub fn accounts_kept()
     ensures begun { (now : ℕ) (id : GatewayId) (zero one : PortBounds) (limit : Option ℕ)
-        (alone : ℕ) (hashers : Hashers) (h : List Note) → ((p : Pair) → uses_of id h p ≡ []) → Idle h
-        → let book = empty_book id zero one limit alone in
+        (alone : ℕ) (hashers : Hashers) (h : List Note) → ((p : Pair) → uses_of id h p ≡ [])
+        → Idle h → let book = empty_book id zero one limit alone in
         Accounts now (record { book = book; lives = []; hashers = hashers }) h }
     ensures founded { (now : ℕ) (zero one : PortBounds) (limit : Option ℕ) (alone : ℕ)
         (hashers : Hashers) (h : List Note) → ((p : Pair) → uses_of Zero h p ≡ []) → Idle h
@@ -372,10 +377,11 @@ pub fn accounts_kept()
     ensures release_all { (now : ℕ) (l : Ledger) (e : Link) (h : List Note) → IsBook l.book
         → Accounts now l h
         → let keys = idle_keys_in (is_lone l.book.stage) now l.book.entries l.lives in
-        Accounts now (release_all now keys l e).ledger (reverse (release_all now keys l e).notes ++ h) }
+        Accounts now (release_all now keys l e).ledger
+        (reverse (release_all now keys l e).notes ++ h) }
     // A tick marks what waits, or tells the peer of what was made alone.
-    ensures go_on_all { (now : ℕ) (l : Ledger) (e : Link) (h : List Note) (apart : Bool) → IsBook l.book
-        → Accounts now l h → let keys = sought_keys apart l.book.entries in
+    ensures go_on_all { (now : ℕ) (l : Ledger) (e : Link) (h : List Note) (apart : Bool)
+        → IsBook l.book → Accounts now l h → let keys = sought_keys apart l.book.entries in
         Accounts now (go_on_all apart now keys l e).ledger
         (reverse (go_on_all apart now keys l e).notes ++ h) }
 {}
