@@ -9,21 +9,20 @@ use Rattle.nat_types.specs.declared.notes.NoteKind.{NoteKind}
 use Rattle.nat_types.specs.declared.pairs.Key.{Key}
 use Rattle.nat_types.specs.declared.records.Record.{Record}
 use Rattle.bindings.specs.declared.entries.Entry.{Entry}
-use Rattle.bindings.specs.Entries.{is_sought}
 use Rattle.link.specs.Link.{Link}
 use Rattle.spec_pair.specs.Box.{Letter}
 use Rattle.spec_binding.specs.Books.{Book}
 use Rattle.spec_binding.specs.Rows.{alone_row, is_full, after, answered, noted_by}
-use Rattle.spec_binding.specs.Ledgers.{Ledger, ledger_after, go_on_all, sought, sought_keys}
+use Rattle.spec_binding.specs.Ledgers.{Ledger, ledger_after, go_on_all, is_sought, sought_keys}
 use Rattle.spec_binding.specs.Machine.{Stands, Works}
 use Rattle.bind_core.proofs.Deciding.{alone-still}
 
 -- no more keys are sought than the table has entries
 pub few-sought : (apart : Bool) (es : List Entry) → length (sought_keys apart es) ≤ length es
 few-sought apart [] = omega arith
-few-sought apart (e ∷ es) = at (is_sought (sought apart) e.state) (few-sought apart es)
+few-sought apart (e ∷ es) = at (is_sought apart e.state) (few-sought apart es)
   where
-    at : (b : Bool) → length (sought_keys apart es) ≤ length es → length (map (λ (x : Entry). x.pair.key) (cond b (e ∷ filter (λ x. is_sought (sought apart) x.state) es) (filter (λ x. is_sought (sought apart) x.state) es))) ≤ suc (length es)
+    at : (b : Bool) → length (sought_keys apart es) ≤ length es → length (map (λ (x : Entry). x.pair.key) (cond b (e ∷ filter (λ x. is_sought apart x.state) es) (filter (λ x. is_sought apart x.state) es))) ≤ suc (length es)
     at true h = omega (arith, h)
     at false h = omega (arith, h)
 

@@ -14,6 +14,7 @@ use Rattle.std.proofs.lemmas.List.{append-nil, take-append-drop}
 use Rattle.spec_pair.specs.Box.{Letter}
 use Rattle.spec_binding.specs.Machine.{Works}
 use Rattle.nat_types.specs.declared.gateways.GatewayId.{GatewayId}
+use Rattle.nat_types.specs.declared.gateways.GatewayId.TheVariants.{Zero}
 use Rattle.bindings.specs.declared.entries.Entry.{Entry}
 use Rattle.bindings.specs.Revivals.{lives_of_pairs, revived_entries, woken_entry}
 use Rattle.bindings.proofs.Offered.{length-keep}
@@ -37,7 +38,7 @@ use Rattle.bindings.specs.Table.{Table, IsTable}
 use Rattle.spec_binding.specs.declared.changes.Change.{Change}
 use Rattle.spec_binding.specs.declared.changes.Change.TheVariants.{Keep, Add, Turn, Renew, Drop, Yield, Want, Give, Gain}
 use Rattle.spec_binding.specs.declared.changes.Transition.{Transition}
-use Rattle.spec_binding.specs.Books.{Book, IsBook, is_any, is_promised, is_synced, load_of, empty_book}
+use Rattle.spec_binding.specs.Books.{Book, IsBook, is_any, is_promised, is_synced, load_of, empty_book, founded_book, ports_of}
 use Rattle.spec_binding.specs.Rows.{after, changed, with_gained, is_gained, numbers_of, row_of, carry_row, use_row, used_row, quiet, answered, taken_book, taken_answer, taken_ended, taken_what, unsynced_after, unsynced_what, load_taken, load_what, noted_by, stage_after}
 use Rattle.spec_binding.specs.WellFormed.{Fits, HasOwnPair}
 use Rattle.spec_binding.specs.declared.setups.Stage.{Stage}
@@ -389,6 +390,16 @@ pub forgotten : (c : Core) (t2 : Table) (p : Progress) (zero one : PortBounds) �
 forgotten c t2 p zero one same z o is =
     empty-is c.id c.table.zero c.table.one c.limit c.alone t2 p (ap (λ (t : Table). t.zero) same) (ap (λ (t : Table). t.one) same) (ap (λ (t : Table). t.entries) same) (λ port. ap (λ (t : Table). is_listed port t.owned) same)
     (is ∙ ap (λ (x : PortBounds). progress.fresh x one) (sym z) ∙ ap (λ (x : PortBounds). progress.fresh c.table.zero x) (sym o))
+
+-- the book of a gateway without a table that is founded, and owns the ports of range zero
+pub founded-is : (c : Core) (cursor : Cursor) (t2 : Table) (zero one : PortBounds) → c.coming ≡ coming cursor c.table → book_of c ≡ empty_book Zero zero one c.limit c.alone → t2 ≡ record c.table { owned = ports_of zero }
+    → book_of (record c { table = t2; stage = Lone; coming = coming cursor t2 }) ≡ founded_book zero one c.limit c.alone
+founded-is c cursor t2 zero one are empty same =
+    let none : c.coming ≡ [] = ap (λ (b : Book). b.coming) empty in
+    let bare : coming cursor t2 ≡ [] = none-coming cursor c.table t2 (λ any. let no : is_any (coming cursor c.table) ≡ false = ap is_any (sym are ∙ none) in cc) ∙ sym are ∙ none in
+    ap (λ (cs : List Record). book_of (record c { table = t2; stage = Lone; coming = cs })) bare
+    ∙ ap (λ (t : Table). book_of (record c { table = t; stage = Lone; coming = [] })) same
+    ∙ ap (λ (b : Book). let x : Book = record b { stage = Lone; owned = ports_of zero; coming = [] } in x) empty
 
 pub link-synced : (b : Book) (e : Link) → is_synced b.stage ≡ true → restart_link b e ≡ with_promised e (length (restart_batch b))
 link-synced b e h = ap (λ (t : Bool). let x : Link = cond t (with_promised e (length (restart_batch b))) e in x) h

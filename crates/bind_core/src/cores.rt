@@ -47,8 +47,8 @@ pub struct Core {
     pub(crate) wants: bool,
     /// The place in the promised batch up to which records are drawn.
     pub(crate) cursor: Cursor,
-    /// The keys that a tick listed last, of idle pairs or of those to mark or to tell; kept so that a
-    /// tick takes no memory.
+    /// The keys that a tick listed last, of idle pairs or of those to mark or to tell; kept so that
+    /// a tick takes no memory.
     pub(crate) idle: Vec<Key>,
 }
 

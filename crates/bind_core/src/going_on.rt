@@ -1,5 +1,5 @@
-//! Going on without the peer: what a tick marks while the gateway is apart, and what it tells the peer
-//! of afterwards.
+//! Going on without the peer: what a tick marks while the gateway is apart, and what it tells the
+//! peer of afterwards.
 ghost use Rattle.std.specs.Prelude.{◌≡◌, ◌+◌, ◌<◌, ◌≤◌, ◌++◌, ℕ, [], true, length, vec_len};
 ghost use Rattle.std.specs.Prelude.{vec_capacity, Some, List, if◌then◌else◌};
 ghost use Rattle.nat_types.specs.declared.pairs.Key.{Key as OutsidePort};
@@ -8,9 +8,9 @@ ghost use Rattle.spec_binding.specs.Machine.{Stands, Works};
 ghost use Rattle.spec_binding.specs.Books.{is_apart as is_apart_at};
 ghost use Rattle.spec_binding.specs.Rows.{alone_row, noted_by, answered, is_full};
 ghost use Rattle.bindings.specs.declared.entries.Entry.{Entry as Known};
-ghost use Rattle.bindings.specs.Entries.{is_pair, is_sought, slot_of, translates};
+ghost use Rattle.bindings.specs.Entries.{is_pair, slot_of, translates};
 ghost use Rattle.bindings.specs.Lists.{first_after};
-ghost use Rattle.spec_binding.specs.Ledgers.{sought, sought_keys, go_on_all, ledger_after};
+ghost use Rattle.spec_binding.specs.Ledgers.{is_sought, sought_keys, go_on_all, ledger_after};
 ghost use Rattle.bind_core.specs.Cores.{book_of, ledger_of};
 ghost use Rattle.resync.specs.Batch.{CanBeSent};
 
@@ -20,12 +20,14 @@ use crate::rows::{is_paired, quiet, seek};
 use bindings::{Entry, Table};
 use link::Link;
 use nat_types::{Key, Note};
-use spec_binding::{Transition, alone_rows, alone_waits_for_nobody, alone_works, works_join, works_nothing};
+use spec_binding::{
+    Transition, alone_rows, alone_waits_for_nobody, alone_works, works_join, works_nothing,
+};
 
-/// Returns the next entry after a key to mark, where the gateway is apart, or else the next of which
-/// the peer is to be told.
+/// Returns the next entry after a key to mark, where the gateway is apart, or else the next of
+/// which the peer is to be told.
 fn next_sought(table: &Table, apart: bool, last: Option<Key>) -> Option<Entry>
-    ensures { result ≡ first_after (is_sought (sought apart)) last table.now.entries }
+    ensures { result ≡ first_after (is_sought apart) last table.now.entries }
 {
     if apart {
         table.waiting_after(last)
@@ -34,8 +36,8 @@ fn next_sought(table: &Table, apart: bool, last: Option<Key>) -> Option<Entry>
     }
 }
 
-/// Appends the keys of the entries to mark, where the gateway is apart, or else of those of which the
-/// peer is to be told, by protocol (icmp first) and port.
+/// Appends the keys of the entries to mark, where the gateway is apart, or else of those of which
+/// the peer is to be told, by protocol (icmp first) and port.
 fn append_sought(table: &Table, apart: bool, keys: &mut Vec<Key>)
     requires sent { CanBeSent table.now }
     requires room { vec_len keys.old + length table.now.entries ≤ vec_capacity keys.old }
@@ -95,10 +97,11 @@ impl Core {
         self.perform(link, notes, now, row);
     }
 
-    /// Goes on without the peer, or tells it so, in the table's order. Where the gateway is apart, each
-    /// pair that waits for an answer is marked and noted: it translates, so no packet waits for a pair
-    /// afterwards. Where it is neither apart nor lone, the peer is told of each pair that was made
-    /// alone, except where the link is full. Where there is none of these, no pair is looked at.
+    /// Goes on without the peer, or tells it so, in the table's order. Where the gateway is apart,
+    /// each pair that waits for an answer is marked and noted: it translates, so no packet waits
+    /// for a pair afterwards. Where it is neither apart nor lone, the peer is told of each pair
+    /// that was made alone, except where the link is full. Where there is none of these, no pair is
+    /// looked at.
     pub fn mark_or_tell(&mut self, link: &mut Link, now: u64, notes: &mut Vec<Note>)
         requires reserved { vec_len notes.old < vec_capacity notes.old }
         requires marks { is_apart_at (book_of self.old) link.old now ≡ true

@@ -26,8 +26,8 @@ use spec_binding::{Transition, carry_works};
 
 impl Core {
     /// Whether the table has exactly this pair, and translates with it. Looks at the pair's key
-    /// alone. `want` changes nothing for the endpoint of such a pair, and answers its port at a gateway
-    /// that is synced, where it is the endpoint's pair.
+    /// alone. `want` changes nothing for the endpoint of such a pair, and answers its port at a
+    /// gateway that is synced, where it is the endpoint's pair.
     #[inline(always)]
     pub fn carries(&self, pair: Pair) -> bool
         ensures exact { result ≡ carries_pair (book_of self.now) pair }

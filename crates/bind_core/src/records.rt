@@ -24,7 +24,9 @@ use crate::rows::{accept, answering, ask, ending, gives_way, no, quiet, refuse, 
 use bindings::Entry;
 use link::Link;
 use nat_types::{Endpoint, Granted, Note, NoteKind, Pair, Record};
-use spec_binding::{Change, Transition, answers_fit, books_keep, record_works, rows_fit, rows_leave};
+use spec_binding::{
+    Change, Transition, answers_fit, books_keep, record_works, rows_fit, rows_leave,
+};
 
 impl Core {
     /// Whether a pair of the peer's may be taken: its key is the peer's and has no entry, and its

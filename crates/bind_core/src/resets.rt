@@ -1,4 +1,5 @@
-//! The peer begins anew, or is said to be off: pairs that waited for it, or were made alone, are Live.
+//! The peer begins anew, or is said to be off: pairs that waited for it, or were made alone, are
+//! Live.
 ghost use Rattle.std.specs.Prelude.{◌≡◌, ◌+◌, ◌<◌, ◌≤◌, ◌++◌, ℕ, [], true, length, vec_len};
 ghost use Rattle.std.specs.Prelude.{vec_capacity, List, map, ◌∷◌};
 ghost use Rattle.activity.specs.Lives.{life_renewed};
@@ -61,8 +62,8 @@ fn note_back(table: &Table, notes: &mut Vec<Note>, by: GatewayId, at: u64)
 }
 
 impl Core {
-    /// Makes all pairs that were proposed, asked to be closed or made alone Live, notes them, and sets
-    /// the stage and the place in the batch.
+    /// Makes all pairs that were proposed, asked to be closed or made alone Live, notes them, and
+    /// sets the stage and the place in the batch.
     fn revive(&mut self, stage: Stage, cursor: Cursor, now: u64, notes: &mut Vec<Note>)
         requires kept { IsBook (revived_with stage cursor self.old) }
         requires reserved { vec_len notes.old + length self.old.table.entries
@@ -94,8 +95,8 @@ impl Core {
         self.table.renew_all(now);
     }
 
-    /// Makes the gateway lone: all pairs that were proposed, asked to be closed or made alone are Live
-    /// and are noted, and the life of each pair begins anew.
+    /// Makes the gateway lone: all pairs that were proposed, asked to be closed or made alone are
+    /// Live and are noted, and the life of each pair begins anew.
     #[tactic(auto, using(crate::proofs::Performing::put_alone_is))]
     fn put_alone(&mut self, now: u64, notes: &mut Vec<Note>)
         requires kept { IsBook (put_alone_book (book_of self.old)) }
@@ -130,8 +131,9 @@ impl Core {
     }
 
     /// Goes on alone, on the operator's word that the peer is off. The caller has closed the link's
-    /// session before. Each pair that waited for the peer, or was made alone, is Live. The life of each pair
-    /// begins anew, since the peer may have carried it until now. From now on no consent is needed.
+    /// session before. Each pair that waited for the peer, or was made alone, is Live. The life of
+    /// each pair begins anew, since the peer may have carried it until now. From now on no consent
+    /// is needed.
     pub fn peer_off(&mut self, link: &Link, now: u64, notes: &mut Vec<Note>)
         requires synced { is_synced_at self.old.stage ≡ true }
         requires closed { link.now.closed ≡ true }

@@ -126,7 +126,11 @@ fn accepted(pair: Pair, state: EntryState) -> Transition
         EntryState::Pending { marked } => {
             let change = Change::Turn(pair.key, EntryState::Live);
             let row = row(change, None, Some(NoteKind::Retaken(pair)));
-            if marked { row } else { ending(pair.endpoint, row) }
+            if marked {
+                row
+            } else {
+                ending(pair.endpoint, row)
+            }
         }
         EntryState::Doomed
         | EntryState::Live
@@ -166,10 +170,8 @@ fn refused(pair: Pair, state: EntryState) -> Transition
         EntryState::Pending { marked: true } => go_alone(pair),
         EntryState::Pending { marked: false } => ending(pair.endpoint, free(pair)),
         EntryState::Doomed => free(pair),
-        EntryState::Live
-        | EntryState::Closing { .. }
-        | EntryState::Alone
-        | EntryState::Held => quiet(),
+        EntryState::Live | EntryState::Closing { .. } | EntryState::Alone | EntryState::Held =>
+            quiet(),
     }
 }
 
@@ -211,7 +213,8 @@ fn asked(pair: Pair, rests: bool, state: EntryState) -> Transition
 }
 
 /// Returns the row of an Ask: the peer asks whether the pair of a key may be released. `rests` says
-/// that the pair is idle, or came by Install or Tell and was never used here since. `entry` is the key's.
+/// that the pair is idle, or came by Install or Tell and was never used here since. `entry` is the
+/// key's.
 pub(crate) fn ask(key: Key, rests: bool, entry: Option<Entry>) -> Transition
     ensures { result ≡ ask_row key rests entry }
 {
@@ -311,7 +314,8 @@ pub(crate) fn paired(apart: bool, full: bool, pair: Pair) -> PortRequest
         return wish(Want::NotNow, quiet());
     }
     let state = EntryState::Pending { marked: false };
-    wish(Want::Wait, add_row(pair, state, Some(Record::Install(pair)), None))
+    let row = add_row(pair, state, Some(Record::Install(pair)), None);
+    wish(Want::Wait, row)
 }
 
 fn drop_row(pair: Pair) -> Transition
@@ -364,7 +368,11 @@ pub(crate) fn release(is_lone: bool, may_ask: bool, entry: Option<Entry>) -> Tra
 fn mark_row(pair: Pair, state: EntryState) -> Transition
     ensures { result ≡ row_with (Turn pair.key state) None (Some (NoteAlone pair)) }
 {
-    row(Change::Turn(pair.key, state), None, Some(NoteKind::Alone(pair)))
+    row(
+        Change::Turn(pair.key, state),
+        None,
+        Some(NoteKind::Alone(pair)),
+    )
 }
 
 fn marked(pair: Pair, state: EntryState) -> Transition
@@ -372,9 +380,12 @@ fn marked(pair: Pair, state: EntryState) -> Transition
 {
     match state {
         EntryState::Pending { marked: false } => {
-            ending(pair.endpoint, mark_row(pair, EntryState::Pending { marked: true }))
+            let row = mark_row(pair, EntryState::Pending { marked: true });
+            ending(pair.endpoint, row)
         }
-        EntryState::Closing { marked: false } => mark_row(pair, EntryState::Closing { marked: true }),
+        EntryState::Closing { marked: false } => {
+            mark_row(pair, EntryState::Closing { marked: true })
+        }
         EntryState::Pending { marked: true }
         | EntryState::Closing { marked: true }
         | EntryState::Doomed

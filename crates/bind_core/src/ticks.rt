@@ -15,7 +15,9 @@ use crate::deeds::is_reached;
 use crate::rows::{is_lone, is_synced, quiet, release};
 use link::Link;
 use nat_types::{Key, Note};
-use spec_binding::{Transition, answers_fit, books_keep, idle_works, rows_fit, works_join, works_nothing};
+use spec_binding::{
+    Transition, answers_fit, books_keep, idle_works, rows_fit, works_join, works_nothing,
+};
 
 impl Core {
     fn idle_row_of(&self, ask: bool, key: Key) -> Transition
@@ -62,8 +64,8 @@ impl Core {
         !self.is_apart(link, now) && is_reached(link, now)
     }
 
-    /// Whether any pair may be released: the gateway is lone, or may ask the peer for a pair's end, or
-    /// has a pair of which the peer has nothing.
+    /// Whether any pair may be released: the gateway is lone, or may ask the peer for a pair's end,
+    /// or has a pair of which the peer has nothing.
     fn may_release(&self, link: &Link, now: u64) -> bool
         ensures { result ≡ (is_lone_at self.now.stage
             || (may_ask_at now (book_of self.now) link.now
@@ -133,9 +135,9 @@ impl Core {
     }
 
     /// Releases idle pairs, one after the other. A lone gateway drops each. Another one drops each
-    /// Alone one, and asks the peer for the end of each Live one, where the gateway isn't apart, the
-    /// peer was heard at most 300 cs ago and the link isn't full then. Where no pair may be released,
-    /// no pair is looked at.
+    /// Alone one, and asks the peer for the end of each Live one, where the gateway isn't apart,
+    /// the peer was heard at most 300 cs ago and the link isn't full then. Where no pair may be
+    /// released, no pair is looked at.
     pub fn tick(&mut self, link: &mut Link, now: u64, notes: &mut Vec<Note>)
         requires reserved { vec_len notes.old + length self.old.table.entries
             < vec_capacity notes.old }

@@ -16,7 +16,9 @@ use crate::rows::{add_row, is_lone, is_synced, known, paired, quiet, row, wish};
 use addresses::{Ip, Port};
 use link::Link;
 use nat_types::{Endpoint, EntryState, Key, Note, NoteKind, Pair, Record};
-use spec_binding::{Change, PortRequest, Transition, Want, answers_fit, books_keep, rows_fit, wish_works};
+use spec_binding::{
+    Change, PortRequest, Transition, Want, answers_fit, books_keep, rows_fit, wish_works,
+};
 
 impl Core {
     fn no_port(&self, full: bool) -> Transition
@@ -62,7 +64,8 @@ impl Core {
         }
     }
 
-    /// Whether an inside address has as many pairs as it may have, or more: those of both gateways count.
+    /// Whether an inside address has as many pairs as it may have, or more: those of both gateways
+    /// count.
     fn is_at_limit(&self, address: Ip) -> bool
         ensures { result ≡ is_at_limit_in (book_of self.now) address }
     {
