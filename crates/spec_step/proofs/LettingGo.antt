@@ -288,19 +288,19 @@ telling-leaves b full y Held k held other = refl
 
 -- an entry that wasn't made alone isn't told of
 telling-quiet : (full : Bool) (y : Entry) (state : EntryState) → is_alone state ≡ false → telling_row full y.pair state ≡ quiet
-telling-quiet full y (Pending m) no = refl
-telling-quiet full y Doomed no = refl
-telling-quiet full y Live no = refl
-telling-quiet full y (Closing m) no = refl
-telling-quiet full y Alone no = absurd (cc)
-telling-quiet full y Held no = refl
+telling-quiet full y (Pending m) other = refl
+telling-quiet full y Doomed other = refl
+telling-quiet full y Live other = refl
+telling-quiet full y (Closing m) other = refl
+telling-quiet full y Alone other = absurd (cc)
+telling-quiet full y Held other = refl
 
 tell-stays : (b : Book) (full : Bool) (q k : Key) (o : Option Entry) → slot_of b.entries k ≡ o → IsNotAlone o → slot_of (changed (alone_row b false full q).change b).entries k ≡ o
 tell-stays b full q k o held not_alone = at (is_paired b.stage) (slot_of b.entries q) refl
   where
     same : (o : Option Entry) → IsNotAlone o → (y : Entry) → o ≡ Some y → is_alone y.state ≡ false
-    same None no y is = absurd (cc)
-    same (Some z) no y is = let one : z ≡ y = cc in subst (λ (w : Entry). is_alone w.state ≡ false) one no
+    same None spared y is = absurd (cc)
+    same (Some z) spared y is = let one : z ≡ y = cc in subst (λ (w : Entry). is_alone w.state ≡ false) one spared
 
     at : (t : Bool) (p : Option Entry) → slot_of b.entries q ≡ p → slot_of (changed (let r : Transition = cond t (sought_row false full p) quiet in r).change b).entries k ≡ o
     at false p is = held
@@ -309,19 +309,19 @@ tell-stays b full q k o held not_alone = at (is_paired b.stage) (slot_of b.entri
         let here : y.pair.key ≡ q = slot-key b.entries q y is in
         elim (cases_Bool (same_key q k)) [
           | inl one ↦
-              (let no = same o not_alone y (sym held ∙ ap (slot_of b.entries) (sym (key-eq q k one)) ∙ is) in
-              ap (λ (r : Transition). slot_of (changed r.change b).entries k) (telling-quiet full y y.state no) ∙ held)
+              (let spared = same o not_alone y (sym held ∙ ap (slot_of b.entries) (sym (key-eq q k one)) ∙ is) in
+              ap (λ (r : Transition). slot_of (changed r.change b).entries k) (telling-quiet full y y.state spared) ∙ held)
           | inr other ↦ telling-leaves b full y y.state k (ap (slot_of b.entries) here ∙ is) (ap (λ (z : Key). same_key z k) here ∙ other) ∙ held
         ]
 
 -- telling the peer leaves an entry that wasn't made alone, and notes nothing
 told-leaves : (s : GatewayAndOutput) (ks : List Key) (k : Key) (o : Option Entry) → slot_of s.shown.ledger.book.entries k ≡ o → IsNotAlone o
     → (slot_of (all_sought_done false s ks).shown.ledger.book.entries k ≡ o) × ((all_sought_done false s ks).told.notes ≡ s.told.notes)
-told-leaves s [] k o held no = (held, refl)
-told-leaves s (q ∷ ks) k o held no =
+told-leaves s [] k o held spared = (held, refl)
+told-leaves s (q ∷ ks) k o held spared =
     let b = s.shown.ledger.book in
     let full = is_full s.shown.link in
-    let rest = told-leaves (sought_done false s q) ks k o (tell-stays b full q k o held no) no in
+    let rest = told-leaves (sought_done false s q) ks k o (tell-stays b full q k o held spared) spared in
     let silent = ap (λ (w : Option NoteKind). s.told.notes ++ noted_by (id_of s.shown) s.shown.moment w) (tell-silent b full q) ∙ append-nil s.told.notes in
     (rest.0, rest.1 ∙ silent)
 

@@ -233,7 +233,7 @@ released-lets b x found state.Alone is = record {
 released-lets b x found state.Held is = quiet-lets b
 
 idle-lets : (b : Book) (ask : Bool) (k : Key) → is_lone b.stage ≡ false → ask ≡ false → Lets b (idle_row b ask k)
-idle-lets b ask k lone no = at (is_synced b.stage) (is_lone b.stage) ask lone no (slot_of b.entries k) refl
+idle-lets b ask k lone quiet_ask = at (is_synced b.stage) (is_lone b.stage) ask lone quiet_ask (slot_of b.entries k) refl
   where
     at : (t l a : Bool) → l ≡ false → a ≡ false → (o : Option Entry) → slot_of b.entries k ≡ o → Lets b (let r : Transition = cond t (release_row l a o) quiet in r)
     at true false false one two None is = quiet-lets b

@@ -10,7 +10,7 @@ use Rattle.nat_types.specs.declared.pairs.EntryState.TheVariants as state
 use Rattle.nat_types.specs.declared.pairs.Key.{Key}
 use Rattle.nat_types.specs.declared.records.Record.{Record}
 use Rattle.bindings.specs.declared.entries.Entry.{Entry}
-use Rattle.bindings.specs.Entries.{has_key, is_sought, slot_of}
+use Rattle.bindings.specs.Entries.{has_key, slot_of}
 use Rattle.bindings.specs.Lists.{without}
 use Rattle.bindings.specs.Lives.{idle_keys_in}
 use Rattle.bindings.proofs.Offered.{find-some}
@@ -19,7 +19,7 @@ use Rattle.spec_binding.specs.declared.changes.Transition.{Transition}
 use Rattle.spec_binding.specs.declared.setups.Stage.{Stage}
 use Rattle.spec_binding.specs.declared.setups.Stage.TheVariants.{Unsynced, Paired, Lone}
 use Rattle.spec_binding.specs.Books.{Book, is_apart as is_book_apart, is_lone, is_paired, is_synced}
-use Rattle.spec_binding.specs.Ledgers.{is_reached, may_ask, sought, sought_keys}
+use Rattle.spec_binding.specs.Ledgers.{is_reached, keys_in, may_ask, sought_keys}
 use Rattle.spec_binding.specs.Rows.{after, alone_row, answered, idle_row, is_full, noted_by, quiet, release_row, released_row, sought_row, telling_row}
 use Rattle.spec_binding.proofs.Offered.{at-key, change-leaves}
 use Rattle.spec_step.specs.Parts.{all_idle_done, all_sought_done, by_row, idle_done, idle_taken, sought_done}
@@ -107,7 +107,7 @@ slot-few b k None is = λ i now. omega arith
 slot-few b k (Some x) is = released-few b x (at-key b.entries k x is) x.state
 
 idle-row-few : (b : Book) (ask : Bool) (k : Key) → is_lone b.stage ≡ false → ask ≡ false → FewRow b (idle_row b ask k)
-idle-row-few b ask k lone no = at (is_synced b.stage) (is_lone b.stage) ask lone no
+idle-row-few b ask k lone quiet_ask = at (is_synced b.stage) (is_lone b.stage) ask lone quiet_ask
   where
     at : (t l a : Bool) → l ≡ false → a ≡ false → FewRow b (let r : Transition = cond t (release_row l a (slot_of b.entries k)) quiet in r)
     at true false false one two = slot-few b k (slot_of b.entries k) refl
@@ -139,12 +139,15 @@ idle-taken-few s apart = let l = s.shown.ledger in all-idle-few s (idle_keys_in 
 
 -- ---- marking and telling
 
-pub few-sought : (apart : Bool) (es : List Entry) → length (sought_keys apart es) ≤ length es
-few-sought apart es = omega (
+few-keys : (test : EntryState → Bool) (es : List Entry) → length (keys_in test es) ≤ length es
+few-keys test es = omega (
   arith,
-  length-map (filter (λ (x : Entry). is_sought (sought apart) x.state) es) (λ (x : Entry). x.pair.key),
-  length-filter_both (λ (x : Entry). is_sought (sought apart) x.state) (λ (x : Entry). not (is_sought (sought apart) x.state)) (λ e. refl) es,
+  length-map (filter (λ (x : Entry). test x.state) es) (λ (x : Entry). x.pair.key),
+  length-filter_both (λ (x : Entry). test x.state) (λ (x : Entry). not (test x.state)) (λ e. refl) es,
 )
+
+pub few-sought : (apart : Bool) (es : List Entry) → length (sought_keys apart es) ≤ length es
+few-sought apart es = few-keys _ es
 
 -- telling notes nothing
 telling-silent : (full : Bool) (x : Entry) (s : EntryState) → (telling_row full x.pair s).what ≡ None
