@@ -331,10 +331,7 @@ impl Side {
             | EntryState::Alone
             | EntryState::Pending { marked: true }
             | EntryState::Closing { marked: true }
-                if self.core.is_synced() =>
-            {
-                Some(entry.pair.endpoint)
-            }
+                if self.core.is_synced() => { Some(entry.pair.endpoint) }
             _ => None,
         }
     }
