@@ -53,6 +53,7 @@ use Rattle.spec_step.proofs.Turning.{back_as, turn-by}
 use Rattle.spec_step.proofs.Idle.{idle-at-once, sought-at-once}
 use Rattle.spec_step.proofs.Packets.{Reads, kept-filter, read-formed}
 use Rattle.spec_step.proofs.Passing.{IsSound}
+use Rattle.spec_step.proofs.Plain.{let-go-stays-plain, restarted-stays-plain, retaken-are-plain, taken-stays-plain, went-on-stays-plain}
 use Rattle.spec_step.proofs.Resting.{Rested, Resting, by-join, flow-rests, framed-rests, noted-own, released-rests, resting-noted, resting-nothing, resting-then, resting-unseen, echo-rests, error-rests, refused-rests}
 use Rattle.spec_step.proofs.Stepping.{begun_on}
 
@@ -133,7 +134,7 @@ record-rests reads s r formed =
     let s2 = scene g2 told in
     let s3 = scene (record_shown g r) told in
     let first : Resting s s2 = resting-noted s (taken_ledger g.moment g.ledger r) (answered g.link (taken_answer b rests r)) notes
-    (noted-own b.id g.moment (taken_what b rests r)) (taken-id b rests r) (λ is. taken-keeps b rests r is formed)
+    (noted-own b.id g.moment (taken_what b rests r)) (taken-stays-plain b rests r b.id g.moment) (taken-id b rests r) (λ is. taken-keeps b rests r is formed)
     (λ before is a. taken-accounts g.moment g.ledger before r is a) in
     resting-then s s3 (record_done s r)
     (resting-then s s2 s3 first (routed-rests g2.moment g2 told (has_synced g g2 && is_running g2)))
@@ -172,7 +173,7 @@ reset-rests reads s =
     let notes = restart_notes b g.moment in
     let mid = scene (record g { ledger = restarted_ledger g.ledger; link = restart_link b g.link }) (with_notes s.told notes) in
     let first : Resting s mid = resting-noted s (restarted_ledger g.ledger) (restart_link b g.link) notes
-    (restart-own b g.moment) (restarted-id b) (λ is. restart-keeps b is)
+    (restart-own b g.moment) (restarted-stays-plain b g.moment) (restarted-id b) (λ is. restart-keeps b is)
     (λ before is a. restarted-accounts g.moment g.ledger before is a) in
     resting-then s mid (reset s) first (released-rests reads mid AllPairs)
 
@@ -204,7 +205,7 @@ taken-rests reads s n synced =
     let notes = retaken b.id g.moment (back_in b.entries) in
     let mid = scene (record g { ledger = alone_ledger g.moment g.ledger; link = closed_at g.link n }) (with_notes s.told notes) in
     let first : Resting s mid = resting-noted s (alone_ledger g.moment g.ledger) (closed_at g.link n) notes
-    (retaken-own b.id g.moment (back_in b.entries)) refl (λ is. alone-keeps b is synced)
+    (retaken-own b.id g.moment (back_in b.entries)) (record { alone = refl; plain = λ never. retaken-are-plain b.id g.moment (back_in b.entries) }) refl (λ is. alone-keeps b is synced)
     (λ before is a. alone-accounts g.moment g.ledger before is a) in
     resting-then s mid (word_taken s n) first (released-rests reads mid AllPairs)
 
@@ -242,7 +243,7 @@ idle-rests s =
     let own = let-go-own g.moment ks l g.link in
     let same = idle-at-once s ks in
     subst (λ (x : GatewayAndOutput). Resting s x) (sym same)
-    (resting-noted s r.ledger r.link r.notes own.0 own.1
+    (resting-noted s r.ledger r.link r.notes own.0 (let-go-stays-plain g.moment ks l g.link) own.1
     (λ is. subst (λ (x : GatewayAndOutput). IsBook x.shown.ledger.book) same (all-idle-keep s ks is))
     (λ before is a. let-go-accounts g.moment l g.link before is a))
 
@@ -262,27 +263,27 @@ pub all-sought-keep : (apart : Bool) (s : GatewayAndOutput) (ks : List Key) → 
 all-sought-keep apart s [] is = is
 all-sought-keep apart s (k ∷ ks) is = all-sought-keep apart (sought_done apart s k) ks (alone-row-keeps s.shown.ledger.book apart (is_full s.shown.link) k is)
 
-all-sought-rest : (apart : Bool) (s : GatewayAndOutput) (ks : List Key) → Resting s (all_sought_done apart s ks)
-all-sought-rest apart s ks =
+all-sought-rest : (apart : Bool) (s : GatewayAndOutput) (ks : List Key) → is_apart s.shown ≡ apart → Resting s (all_sought_done apart s ks)
+all-sought-rest apart s ks is_so =
     let g = s.shown in let l = g.ledger in
     let r = go_on_all apart g.moment ks l g.link in
     let own = go-on-own apart g.moment ks l g.link in
     let same = sought-at-once s apart ks in
     subst (λ (x : GatewayAndOutput). Resting s x) (sym same)
-    (resting-noted s r.ledger r.link r.notes own.0 own.1
+    (resting-noted s r.ledger r.link r.notes own.0 (went-on-stays-plain g apart ks is_so) own.1
     (λ is. subst (λ (x : GatewayAndOutput). IsBook x.shown.ledger.book) same (all-sought-keep apart s ks is))
     (λ before is a. go-on-accounts g.moment apart ks l g.link before is a))
 
 -- the ledger accounts for the trace after what is between the idle pairs of a tick and the link
 pub alone-rests : Reads → (s : GatewayAndOutput) → Resting s (alone_taken s)
-alone-rests reads s = at (is_apart s.shown)
+alone-rests reads s = at (is_apart s.shown) refl
   where
-    at : (t : Bool) → Resting s (let x : GatewayAndOutput = cond t (gone_alone s) (peer_told s) in x)
-    at true =
+    at : (t : Bool) → is_apart s.shown ≡ t → Resting s (let x : GatewayAndOutput = cond t (gone_alone s) (peer_told s) in x)
+    at true apart =
         let keys = sought_keys true s.shown.ledger.book.entries in
         let marked = all_sought_done true s keys in
-        resting-then s marked (gone_alone s) (all-sought-rest true s keys) (released-rests reads marked AllPairs)
-    at false = all-sought-rest false s (sought_keys false s.shown.ledger.book.entries)
+        resting-then s marked (gone_alone s) (all-sought-rest true s keys apart) (released-rests reads marked AllPairs)
+    at false together = all-sought-rest false s (sought_keys false s.shown.ledger.book.entries) together
 
 old-rests : (s : GatewayAndOutput) → Resting s (old_dropped s)
 old-rests s = resting-unseen s (old_dropped s) refl refl refl (λ k. kept-filter _ s.shown.kept k)
@@ -341,6 +342,7 @@ fed-rests s = λ is.
       own = tt;
       moment = refl;
       id = refl;
+      stays = record { alone = refl; plain = λ never. tt };
       accounts = λ before a. fed-accounts g.moment g.ledger before (drop n b.coming) a;
       sound = record { book = fed-keeps b (take n b.coming) (drop n b.coming) is.book (sym (take-append-drop n b.coming)); kept = is.kept };
     }
@@ -373,11 +375,12 @@ end-rests (SideIs side up) done = resting-nothing done
 record Leads (s start : GatewayAndOutput) : Type 0 where
   notes : start.told.notes ≡ s.told.notes
   id : id_of start.shown ≡ id_of s.shown
+  alone : start.shown.ledger.book.alone ≡ s.shown.ledger.book.alone
   sound : IsSound s.shown → IsSound start.shown
   accounts : (before : List Note) → Accounts s.shown.moment s.shown.ledger before → Accounts start.shown.moment start.shown.ledger before
 
 leads-here : (s : GatewayAndOutput) → Leads s s
-leads-here s = record { notes = refl; id = refl; sound = λ is. is; accounts = λ before a. a }
+leads-here s = record { notes = refl; id = refl; alone = refl; sound = λ is. is; accounts = λ before a. a }
 
 -- the clock never runs back
 no-earlier : (moment now : ℕ) → moment ≤ clock_after moment now
@@ -389,6 +392,7 @@ begun-leads s (Comes bytes) = leads-here s
 begun-leads s (Tick now) = record {
   notes = refl;
   id = refl;
+  alone = refl;
   sound = λ is. record { book = is.book; kept = is.kept };
   accounts = λ before a. later-accounts s.shown.moment (clock_after s.shown.moment now) s.shown.ledger before (no-earlier s.shown.moment now) a;
 }
@@ -412,5 +416,7 @@ step-rests reads s event s2 step has book kept =
       own = subst (λ (i : GatewayId). AreBy i s2.shown.moment x.notes) start.id
           (subst (λ (m : ℕ). AreBy (id_of (begun_on s event).shown) m x.notes) (sym x.moment) x.own);
       id = x.id ∙ start.id;
+      alone = x.stays.alone ∙ start.alone;
+      plain = λ never. x.stays.plain (start.alone ∙ never);
       accounts = λ before a. x.accounts before (start.accounts before a);
     }

@@ -49,6 +49,7 @@ mod Telling
 mod Translating
 mod Truths
 mod Turning
+mod Plain
 mod Unmoved
 mod Unused
 mod WhileApart
