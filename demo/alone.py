@@ -70,7 +70,7 @@ class Night:
     def status(self, number):
         """What a box says of going alone."""
         box = self.current.boxes[number]
-        said = box.natpair("status", str(box.settings), "--id", str(number), "--json").stdout
+        said = box.natpair("status", str(box.settings), "--id", str(number), "--json")
         return json.loads(said)["apart"]
 
     def go_on(self, seconds, test=lambda: False, is_open=True):
