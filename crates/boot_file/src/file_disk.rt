@@ -1,5 +1,5 @@
 //! A boot file and its folder, as a disk of `boot_store`.
-ghost use Rattle.std.specs.Prelude.{◌≡◌, ◌+◌, ◌≤◌, ◌↔◌, ◌++◌, ◌∷◌, [], None, Ok, take, IfErr, IfOk, IfSome, OnErr, OnOk};
+ghost use Rattle.std.specs.Prelude.{◌≡◌, ◌+◌, ◌≤◌, ◌↔◌, ◌++◌, ◌∷◌, [], take, IfOk, OnErr, OnOk};
 ghost use Rattle.boot_store.specs.Moment.{StillKept, bytes_of, synced};
 
 use crate::Blocks;
@@ -39,13 +39,14 @@ impl<F: Drop> FileDisk<F> {
 }
 
 impl<F: Blocks + Drop> FileDisk<F> {
-    /// Counts a system call that failed.
-    fn failed(&mut self) -> DeviceFault
+    /// Counts a system call that failed, and returns its fault.
+    fn failed(&mut self, fault: DeviceFault) -> DeviceFault
+        ensures fault { result ≡ fault }
         ensures file { self.new.file ≡ self.old.file }
         ensures failures { self.new.failures ≡ self.old.failures + 1 }
     {
         self.failures.count();
-        DeviceFault
+        fault
     }
 }
 
@@ -63,32 +64,33 @@ impl<F: Blocks + Drop> Disk for FileDisk<F> {
     ghost honest = { λ d. F.honest d.file };
 
     fn read(&mut self, buffer: &mut [u8; 32]) -> Result<usize, DeviceFault> {
-        let Ok(()) = self.file.drop_cache() else {
-            return Err(self.failed());
-        };
-        match fill(&mut self.file, buffer) {
-            Some(count) => Ok(count),
-            None => Err(self.failed()),
+        match self.file.drop_cache() {
+            Ok(()) => match fill(&mut self.file, buffer) {
+                Ok(count) => Ok(count),
+                Err(error) => Err(self.failed(DeviceFault::Read(error.kind()))),
+            },
+            Err(error) => Err(self.failed(DeviceFault::Read(error.kind()))),
         }
     }
 
     fn write_at(&mut self, at: usize, bytes: &[u8]) -> Result<(), DeviceFault> {
         match self.file.write_at(at, bytes) {
             Ok(count) if count == bytes.len() => Ok(()),
-            _ => Err(self.failed()),
+            Ok(_) => Err(self.failed(DeviceFault::ShortWrite)),
+            Err(error) => Err(self.failed(DeviceFault::Write(error.kind()))),
         }
     }
 
     fn sync(&mut self) -> Result<(), DeviceFault> {
         match sync_both(&mut self.file, &self.folder) {
             Ok(()) => Ok(()),
-            Err(_) => Err(self.failed()),
+            Err(fault) => Err(self.failed(fault)),
         }
     }
 }
 
 /// Syncs a file, and then the folder that has its name.
-fn sync_both<F: Blocks>(file: &mut F, folder: &F) -> io::Result<()>
+fn sync_both<F: Blocks>(file: &mut F, folder: &F) -> Result<(), DeviceFault>
     ensures synced { F.honest file.old
         → OnOk result (F.now file.new ≡ synced (F.now file.old)) }
     ensures named { F.honest file.old → OnOk result (F.named file.new) }
@@ -102,32 +104,35 @@ fn sync_both<F: Blocks>(file: &mut F, folder: &F) -> io::Result<()>
     ensures refused { F.honest file.old
         → OnErr result (F.refusals file.new ≡ F.refusals file.old + 1) }
 {
-    file.sync()?;
-    file.sync_name(folder)?;
-    Ok(())
+    match file.sync() {
+        Ok(()) => match file.sync_name(folder) {
+            Ok(()) => Ok(()),
+            Err(error) => Err(DeviceFault::NameSync(error.kind())),
+        },
+        Err(error) => Err(DeviceFault::Sync(error.kind())),
+    }
 }
 
-/// Reads the file's first bytes until the buffer is full or the file ends, and returns how many; `None` where a read fails.
-fn fill<F: Blocks>(file: &mut F, buffer: &mut [u8; 32]) -> Option<usize>
-    ensures count { IfSome result (λ n. n ≤ 32) }
+/// Reads the file's first bytes until the buffer is full or the file ends, and returns how many.
+fn fill<F: Blocks>(file: &mut F, buffer: &mut [u8; 32]) -> io::Result<usize>
+    ensures count { IfOk result (λ n. n ≤ 32) }
     ensures filled { F.honest file.old
-        → IfSome result (λ n. take n buffer.new ≡ take 32 (bytes_of (F.now file.old))) }
+        → IfOk result (λ n. take n buffer.new ≡ take 32 (bytes_of (F.now file.old))) }
     ensures same { F.honest file.old → F.now file.new ≡ F.now file.old }
     ensures passes { F.honest file.old → F.past file.new ≡ F.past file.old }
     ensures name { F.honest file.old → F.named file.old → F.named file.new }
     ensures honesty { F.honest file.old ↔ F.honest file.new }
-    ensures taken { F.honest file.old
-        → IfSome result (λ _. F.refusals file.new ≡ F.refusals file.old) }
-    ensures refused { F.honest file.old → result ≡ None
-        → F.refusals file.new ≡ F.refusals file.old + 1 }
+    ensures taken { F.honest file.old → OnOk result (F.refusals file.new ≡ F.refusals file.old) }
+    ensures refused { F.honest file.old
+        → OnErr result (F.refusals file.new ≡ F.refusals file.old + 1) }
 {
     let mut filled = 0;
     while filled < LENGTH {
         match file.read_at(filled, &mut buffer[filled..]) {
-            Ok(0) => return Some(filled),
+            Ok(0) => return Ok(filled),
             Ok(count) => filled += count,
-            Err(_) => return None,
+            Err(error) => return Err(error),
         }
     }
-    Some(filled)
+    Ok(filled)
 }

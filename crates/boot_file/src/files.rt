@@ -1,7 +1,7 @@
 //! Boot files by their paths.
 
 use crate::{FileDisk, FileFault};
-use boot_store::{Disk, init, zero_file};
+use boot_store::{BootFault, Disk, init, zero_file};
 use std::fs::{File, Files, OpenOptions, TryLockError};
 use std::io::{self, ErrorKind};
 use std::os::unix::fs::OpenOptionsExt;
@@ -52,7 +52,7 @@ pub fn open<R: Files<File = File>>(rt: &R, path: &str) -> Result<FileDisk<File>,
     match file.try_lock() {
         Ok(()) => Ok(FileDisk::new(file, folder)),
         Err(TryLockError::WouldBlock) => Err(FileFault::InUse),
-        Err(TryLockError::Error(_)) => Err(FileFault::NotLocked),
+        Err(TryLockError::Error(error)) => Err(FileFault::NotLocked(error.kind())),
     }
 }
 
@@ -100,22 +100,24 @@ fn make<R: Files<File = File>>(
             cause => FileFault::NotLinked(cause),
         });
     }
-    if disk.sync().is_err() {
+    if let Err(fault) = disk.sync() {
         let _is_gone = rt.remove_file(path);
-        return Err(FileFault::NotWritten);
+        return Err(FileFault::NotWritten(fault));
     }
     Ok(())
 }
 
 /// Writes the bytes of a boot file of number 0, and reads them back.
 fn write_zero<D: Disk>(disk: &mut D) -> Result<(), FileFault> {
-    let Ok(()) = init(disk) else {
-        return Err(FileFault::NotWritten);
-    };
+    match init(disk) {
+        Ok(()) => {}
+        Err(BootFault::Device(fault)) => return Err(FileFault::NotWritten(fault)),
+        Err(_) => unreachable!(),
+    }
     let mut buffer = [0; 32];
     match disk.read(&mut buffer) {
         Ok(32) if buffer == zero_file() => Ok(()),
         Ok(_) => Err(FileFault::Altered),
-        Err(_) => Err(FileFault::NotWritten),
+        Err(fault) => Err(FileFault::NotWritten(fault)),
     }
 }

@@ -1,7 +1,8 @@
 -- What a disk says of its calls beyond the clauses of Disk.
-use Rattle.std.specs.Prelude.{ℕ, ◌⊎◌, List, Result, Ok, Err}
+use Rattle.std.specs.Prelude.{◌≡◌, ℕ, ◌⊎◌, List, Result, Ok, Err}
 use Rattle.boot_store.specs.declared.disk.DeviceFault.{DeviceFault}
 use Rattle.boot_store.specs.declared.faults.BootFault.{BootFault}
+use Rattle.boot_store.specs.declared.faults.BootFault.TheVariants.{Device, Damaged, BootsUsedUp, FoundTwice}
 use Rattle.boot_store.specs.BootFile.{zero_file}
 
 -- of a read: the disk before, the answer, the buffer afterwards, and the disk afterwards
@@ -16,10 +17,18 @@ Writes D = D → ℕ → List ℕ → Result (Unit {0}) DeviceFault → D → Ty
 abbrev pub Syncs : Type 0 → Type 1
 Syncs D = D → Result (Unit {0}) DeviceFault → D → Type 0
 
--- the calls of init on any disk: a write of a new file's bytes and then a sync, both Ok; or one of them failed, and no call followed
+-- the fault is that of a device call
+abbrev pub IsDevice : BootFault → Type 0
+IsDevice (Device fault) = Unit {0}
+IsDevice Damaged = ⊥
+IsDevice BootsUsedUp = ⊥
+IsDevice FoundTwice = ⊥
+
+-- the calls of init on any disk: a write of a new file's bytes and then a sync, both Ok; or one of them failed, whose fault is
+-- answered, and no call followed
 abbrev pub IsInited : {D : Type 0} → Writes D → Syncs D → D → Result (Unit {0}) BootFault → D → Type 0
 IsInited {D = D} writes syncs before (Ok done) after =
     (between : D) × (writes before 0 zero_file (Ok tt) between × syncs between (Ok tt) after)
 IsInited {D = D} writes syncs before (Err why) after =
-    ((fault : DeviceFault) × writes before 0 zero_file (Err fault) after)
-    ⊎ ((between : D) × (writes before 0 zero_file (Ok tt) between × ((fault : DeviceFault) × syncs between (Err fault) after)))
+    ((fault : DeviceFault) × (why ≡ Device fault) × writes before 0 zero_file (Err fault) after)
+    ⊎ ((between : D) × (writes before 0 zero_file (Ok tt) between × ((fault : DeviceFault) × (why ≡ Device fault) × syncs between (Err fault) after)))

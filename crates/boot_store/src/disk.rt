@@ -3,6 +3,9 @@ ghost use Rattle.std.specs.Prelude.{◌≡◌, ◌+◌, ◌≤◌, ◌↔◌, �
 ghost use Rattle.boot_store.specs.Calls.{Reads, Syncs, Writes};
 ghost use Rattle.boot_store.specs.Moment.{Moment, bytes_of, written, within_write, FailedWrite, synced, StillKept, AfterRead};
 
+use std::io::ErrorKind;
+use thiserror::Error;
+
 /// The durability of a byte of a file.
 #[derive(Clone, Copy, Debug, PartialEq, Eq)]
 pub enum Hold {
@@ -23,9 +26,25 @@ pub struct Cell {
     pub hold: Hold,
 }
 
-/// The failure of a device call, without a cause.
-#[derive(Clone, Copy, Debug, PartialEq, Eq)]
-pub struct DeviceFault;
+/// A device call that failed, and the system's cause.
+#[derive(Clone, Copy, Debug, PartialEq, Eq, Error)]
+pub enum DeviceFault {
+    /// The file can't be read.
+    #[error("a read failed: {0}")]
+    Read(ErrorKind),
+    /// The file can't be written.
+    #[error("a write failed: {0}")]
+    Write(ErrorKind),
+    /// Fewer bytes were written than were given.
+    #[error("a write was short")]
+    ShortWrite,
+    /// The bytes that were written can't be synced.
+    #[error("a sync failed: {0}")]
+    Sync(ErrorKind),
+    /// The file's name can't be synced.
+    #[error("a sync of the name failed: {0}")]
+    NameSync(ErrorKind),
+}
 
 /// A disk with a boot file of 32 bytes.
 ///

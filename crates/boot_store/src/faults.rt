@@ -8,9 +8,9 @@ use thiserror::Error;
 /// The reason for which a start has no boot number.
 #[derive(Clone, Copy, Debug, PartialEq, Eq, Error)]
 pub enum BootFault {
-    /// A call of the disk failed.
-    #[error("the device failed")]
-    Device,
+    /// This call of the disk failed.
+    #[error("{0}")]
+    Device(DeviceFault),
     /// No slot of the file is valid, or the file has fewer than 32 bytes.
     #[error("the boot file has no valid slot")]
     Damaged,
@@ -23,9 +23,9 @@ pub enum BootFault {
 }
 
 impl From<DeviceFault> for BootFault {
-    ghost from_gives = { λ _ e. e ≡ Device };
+    ghost from_gives = { λ fault e. e ≡ Device fault };
 
-    fn from(_: DeviceFault) -> Self {
-        BootFault::Device
+    fn from(fault: DeviceFault) -> Self {
+        BootFault::Device(fault)
     }
 }

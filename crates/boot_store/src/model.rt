@@ -7,6 +7,7 @@ ghost use Rattle.boot_store.specs.Troubles.{fate_of, good_calls_left, trouble_le
 use crate::cells::{crash_cells, lose_cells, read_cells, show_cells, sync_cells, write_cells};
 use crate::pasts::Past;
 use crate::{Cell, DeviceFault, Disk, Failures, Hold};
+use std::io::ErrorKind;
 
 /// The fault of a modelled disk that comes once its good calls are used up.
 #[derive(Clone, Copy, Debug, PartialEq, Eq)]
@@ -156,8 +157,9 @@ impl ModelDisk {
         fate
     }
 
-    /// Counts a call that failed.
-    fn failed(&mut self) -> DeviceFault
+    /// Counts a call that failed, and returns its fault.
+    fn failed(&mut self, fault: DeviceFault) -> DeviceFault
+        ensures fault { result ≡ fault }
         ensures cells { self.new.cells ≡ self.old.cells }
         ensures good_calls { self.new.good_calls ≡ self.old.good_calls }
         ensures trouble { self.new.trouble ≡ self.old.trouble }
@@ -166,7 +168,7 @@ impl ModelDisk {
         ensures failures { self.new.failures ≡ self.old.failures + 1 }
     {
         self.failures.count();
-        DeviceFault
+        fault
     }
 }
 
@@ -212,7 +214,7 @@ impl Disk for ModelDisk {
             read_cells(&self.cells, room);
             return Ok(32);
         }
-        Err(self.failed())
+        Err(self.failed(DeviceFault::Read(ErrorKind::Other)))
     }
 
     fn write_at(&mut self, at: usize, bytes: &[u8]) -> Result<(), DeviceFault> {
@@ -224,7 +226,7 @@ impl Disk for ModelDisk {
         self.past.keep(&within);
         match self.write(at, bytes) {
             Fate::Done => Ok(()),
-            Fate::Torn | Fate::Undone => Err(self.failed()),
+            Fate::Torn | Fate::Undone => { Err(self.failed(DeviceFault::Write(ErrorKind::Other))) }
         }
     }
 
@@ -238,6 +240,6 @@ impl Disk for ModelDisk {
             Fate::Torn => lose_cells(&mut self.cells),
             Fate::Undone => {}
         }
-        Err(self.failed())
+        Err(self.failed(DeviceFault::Sync(ErrorKind::Other)))
     }
 }

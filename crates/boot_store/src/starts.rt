@@ -1,9 +1,9 @@
 // Starts: each reads the boot file and writes the next number, so that a crash at any time leaves a
 // valid one.
-ghost use Rattle.std.specs.Prelude.{◌≡◌, ◌≢◌, ◌≤◌, ◌<◌, ◌+◌, ◌↔◌, ◌++◌, [], ◌∷◌, take, drop, OnOk, OnErr, IfOk, IfErr, IsErrOf};
+ghost use Rattle.std.specs.Prelude.{◌≡◌, ◌≤◌, ◌<◌, ◌+◌, ◌↔◌, ◌++◌, [], ◌∷◌, take, drop, OnOk, OnErr, IfOk, IfErr, IsErrAnd};
 ghost use Rattle.boot_store.specs.Moment.{MayShow, StillKept, bytes_of, written, within_write, synced};
 ghost use Rattle.boot_store.specs.BootFile.{slot_bytes, zero_file};
-ghost use Rattle.boot_store.specs.Calls.{IsInited};
+ghost use Rattle.boot_store.specs.Calls.{IsDevice, IsInited};
 ghost use Rattle.boot_store.specs.Crash.{LeavesNumber, LeavesFirst, Since, Keeps, Rises, Decides, Settled, IsReady, WholeFile, zero_past, looked, WritesOnce, AfterWrite, AfterFailure, WriteStopped, LookStopped, StartStopped};
 
 use crate::slots::{next_number, next_place, slot_number, slot_of};
@@ -13,7 +13,7 @@ use crate::{BootFault, DeviceFault, Disk};
 /// a crash leaves them so. After the Err `Device` any bytes may be in their place; no call was made
 /// after the one that failed.
 pub fn init<D: Disk>(disk: &mut D) -> Result<(), BootFault>
-    ensures only_device { OnErr result (IsErrOf result BootFault.Device) }
+    ensures only_device { IfErr result IsDevice }
     ensures bytes { D.honest disk.old
         → OnOk result (take 32 (bytes_of (D.now disk.new)) ≡ zero_file) }
     ensures left { D.honest disk.old → OnOk result (LeavesFirst zero_file (D.now disk.new)) }
@@ -134,20 +134,20 @@ pub fn next_boot<D: Disk>(disk: &mut D, found: bool) -> Result<u64, BootFault>
     ensures above_zero { IfOk result (λ n. 0 < n) }
     ensures decided { D.honest disk.old → D.failures disk.new ≡ D.failures disk.old
         → Decides found (D.now disk.old) (D.now disk.new) result }
-    ensures err { D.honest disk.old → IfErr result (λ fault. fault ≢ BootFault.Device
+    ensures err { D.honest disk.old → IfErr result (λ fault. ¬ IsDevice fault
         → MayShow (D.now disk.old) (bytes_of (D.now disk.new))) }
-    ensures looks { D.honest disk.old → IfErr result (λ fault. fault ≢ BootFault.Device
+    ensures looks { D.honest disk.old → IfErr result (λ fault. ¬ IsDevice fault
         → D.past disk.new ≡ D.past disk.old ++ looked (D.now disk.old)) }
     ensures writes { D.honest disk.old → IfOk result (λ n. Since (D.past disk.old)
         (D.past disk.new) (WritesOnce (D.now disk.old) (D.now disk.new) n)) }
     ensures named { D.honest disk.old → IfOk result (λ _. D.named disk.new) }
-    ensures leaves { D.honest disk.old → IsErrOf result BootFault.Device
+    ensures leaves { D.honest disk.old → IsErrAnd result IsDevice
         → AfterFailure (D.now disk.old) (D.now disk.new) }
-    ensures device { D.failures disk.old < D.failures disk.new → IsErrOf result BootFault.Device }
-    ensures failed { IsErrOf result BootFault.Device
+    ensures device { D.failures disk.old < D.failures disk.new → IsErrAnd result IsDevice }
+    ensures failed { IsErrAnd result IsDevice
         → D.failures disk.new ≡ D.failures disk.old + 1 }
     ensures later { D.failures disk.old ≤ D.failures disk.new }
-    ensures stops { D.honest disk.old → IsErrOf result BootFault.Device
+    ensures stops { D.honest disk.old → IsErrAnd result IsDevice
         → Since (D.past disk.old) (D.past disk.new)
         (StartStopped found (D.now disk.old) (D.now disk.new)) }
     ensures honesty { D.honest disk.old ↔ D.honest disk.new }

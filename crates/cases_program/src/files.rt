@@ -1,6 +1,5 @@
 //! The files that the cases read, write and print.
 
-use crate::edits::replaced;
 use anyhow::{Context, Result};
 use cases_words::Case;
 use faults::read_text;
@@ -12,7 +11,7 @@ pub(crate) fn text_at(rt: &HostRuntime, name: &str, kind: &str) -> Result<String
     Ok(read_text(rt, path.as_str())?)
 }
 
-/// Writes the file NAME, where the rest of the line is `NAME;OLD;NEW`: S.toml with its first line OLD replaced by NEW.
+/// Writes the file NAME, where the rest of the line is `NAME;OLD;NEW`: S.toml with its first OLD replaced by NEW.
 pub(crate) fn write(rt: &HostRuntime, case: &mut Case) {
     let text = case.rest();
     case.keep(written(rt, text.as_str()));
@@ -22,7 +21,8 @@ fn written(rt: &HostRuntime, text: &str) -> Result<()> {
     let (name, rest) = text.split_once(';').context("no name")?;
     let (old, new) = rest.split_once(';').context("no lines")?;
     let sample = fs::read_to_string(rt, "S.toml")?;
-    let edited = replaced(rt.alloc(), sample.as_str(), old, new)?;
+    let (before, behind) = sample.as_str().split_once(old).context("no such text")?;
+    let edited = format!(in rt.alloc(); "{before}{new}{behind}")?;
     fs::write(rt, name, edited.as_str())?;
     Ok(())
 }
@@ -41,6 +41,13 @@ fn lengthened(rt: &HostRuntime, name: &str, count: usize) -> Result<()> {
     }
     fs::write(rt, name, text.as_str())?;
     Ok(())
+}
+
+/// Writes the file NAME, where the line is `NAME HEX`.
+pub(crate) fn fill(rt: &HostRuntime, case: &mut Case) {
+    let name = case.name();
+    let bytes = case.bytes();
+    case.keep(fs::write(rt, name.as_str(), bytes.as_slice()));
 }
 
 /// Prints the bytes of a file.

@@ -1,12 +1,13 @@
 //! Faults that no file and no box of the cases has, made by hand.
 
 use boot_file::FileFault;
-use boot_store::BootFault;
+use boot_store::{BootFault, DeviceFault};
 use cases_words::Case;
 use control::{AskFault, ControlPath, NoSocket, PeerOffRefusal};
 use faults::{Fault, FileRefusal, report};
 use journal::FilterFault;
 use reports::ReadFault;
+use sockets::{End, SocketCause};
 use std::alloc::Global;
 use std::io::ErrorKind;
 
@@ -33,32 +34,63 @@ fn fault_named(rt: &HostRuntime, name: &str) -> Option<Fault> {
     if let Some(fault) = boot_file_named(name) {
         return Some(Fault::boot_file(alloc, "boot0", fault));
     }
+    if let Some(word) = name.strip_prefix("start-") {
+        let fault = BootFault::Device(device_named(word)?);
+        return Some(Fault::from(fault).of_boot_file(rt, "boot0"));
+    }
+    if let Some(cause) = sockets_named(name) {
+        return Some(Fault::NoSockets(cause));
+    }
     if let Some(refusal) = refusal_named(name) {
         return Some(Fault::PeerOff(refusal));
     }
     match name {
-        "unread" => Some(file(alloc, FileRefusal::NoFile, ErrorKind::PermissionDenied)),
-        "no-folder" => Some(file(alloc, FileRefusal::NotWritten, ErrorKind::NotADirectory)),
+        "unread" => Some(file(alloc, FileRefusal::NoFile(ErrorKind::PermissionDenied))),
+        "no-folder" => Some(file(alloc, FileRefusal::NotWritten(ErrorKind::NotADirectory))),
         "read-only" => Some(file(
             alloc,
-            FileRefusal::NotWritten,
-            ErrorKind::ReadOnlyFilesystem,
+            FileRefusal::NotWritten(ErrorKind::ReadOnlyFilesystem),
         )),
-        "busy" => Some(file(alloc, FileRefusal::NoFile, ErrorKind::ResourceBusy)),
-        "device" => Some(Fault::from(BootFault::Device).of_boot_file(rt, "boot0")),
-        "sockets" => Some(Fault::NoSockets(ErrorKind::NetworkUnreachable)),
+        "busy" => Some(file(alloc, FileRefusal::NoFile(ErrorKind::ResourceBusy))),
         "not-synced" => Some(Fault::NotSynced),
         "no-text" => Some(Fault::filter(alloc, FilterFault::NotText)),
         "other-version" => Some(Fault::NoReport(ReadFault::OtherVersion(9))),
         "bad-bytes" => Some(Fault::NoReport(ReadFault::BadBytes)),
         "words" => Some(Fault::Words),
         "no-memory" => Some(Fault::NoMemory),
+        "no-random" => Some(Fault::NoRandom(ErrorKind::Unsupported)),
         _ => None,
     }
 }
 
-fn file(alloc: Global, refusal: FileRefusal, cause: ErrorKind) -> Fault {
-    Fault::file(alloc, refusal, "S.toml", Some(cause))
+fn file(alloc: Global, refusal: FileRefusal) -> Fault {
+    Fault::file(alloc, refusal, "S.toml")
+}
+
+/// Returns what the system refuses to the sockets of a box, by its name.
+fn sockets_named(name: &str) -> Option<SocketCause> {
+    let end = End::read("10.9.9.9:7000")?;
+    match name {
+        "no-ports" => Some(SocketCause::NoPorts),
+        "not-bound" => Some(SocketCause::NotBound(end, ErrorKind::OutOfMemory)),
+        "no-route" => Some(SocketCause::NotConnected(end, ErrorKind::NetworkUnreachable)),
+        "bad-descriptor" => Some(SocketCause::BadDescriptor(7, ErrorKind::PermissionDenied)),
+        "not-polled" => Some(SocketCause::NotPolled(ErrorKind::Uncategorized)),
+        _ => None,
+    }
+}
+
+/// Returns the call of a boot file that fails, by its name.
+fn device_named(name: &str) -> Option<DeviceFault> {
+    match name {
+        "unread" => Some(DeviceFault::Read(ErrorKind::Uncategorized)),
+        "full" => Some(DeviceFault::Write(ErrorKind::StorageFull)),
+        "unwritten" => Some(DeviceFault::Write(ErrorKind::ReadOnlyFilesystem)),
+        "short" => Some(DeviceFault::ShortWrite),
+        "unsynced" => Some(DeviceFault::Sync(ErrorKind::StorageFull)),
+        "unnamed" => Some(DeviceFault::NameSync(ErrorKind::TimedOut)),
+        _ => None,
+    }
 }
 
 /// Returns why a box refuses the word that the other one is off, by its name.
@@ -86,12 +118,14 @@ fn socket_named(name: &str) -> Option<NoSocket> {
 
 /// Returns why a boot file can't be made or opened, by its name.
 fn boot_file_named(name: &str) -> Option<FileFault> {
+    if let Some(word) = name.strip_prefix("init-") {
+        return Some(FileFault::NotWritten(device_named(word)?));
+    }
     match name {
         "not-made" => Some(FileFault::NotMade(ErrorKind::PermissionDenied)),
-        "not-written" => Some(FileFault::NotWritten),
         "not-linked" => Some(FileFault::NotLinked(ErrorKind::PermissionDenied)),
         "altered" => Some(FileFault::Altered),
-        "not-locked" => Some(FileFault::NotLocked),
+        "not-locked" => Some(FileFault::NotLocked(ErrorKind::Unsupported)),
         _ => None,
     }
 }

@@ -19,8 +19,9 @@ pub(crate) struct Words {
 impl Actor for Words {
     /// A line is the words of a command line, or one of these:
     ///
-    /// - `+ NAME;OLD;NEW` writes the file NAME: S.toml with its first line OLD replaced by NEW
+    /// - `+ NAME;OLD;NEW` writes the file NAME: S.toml with its first OLD replaced by NEW
     /// - `& NAME COUNT` writes the file NAME: S.toml with a comment behind it, COUNT bytes in all
+    /// - `$ NAME HEX` writes the file NAME
     /// - `= NAME` prints the bytes of the file NAME
     /// - `~ NAME` prints what is reported of a fault that is made by hand (`made_faults`)
     /// - `? PORT WORDS` is the words, and then the bytes of the first datagram that came to a UDP port on the loopback address
@@ -34,6 +35,7 @@ impl Actor for Words {
         match case.word() {
             "+" => files::write(&self.rt, case),
             "&" => files::lengthen(&self.rt, case),
+            "$" => files::fill(&self.rt, case),
             "=" => files::show(&self.rt, case),
             "~" => made_faults::tell(&self.rt, case),
             "?" => heard(&self.rt, case),

@@ -1,7 +1,7 @@
 //! The findings on a box's boot file.
 
 use crate::findings::Findings;
-use boot_store::slot_number;
+use boot_store::{DeviceFault, slot_number};
 use faults::{BootCause, Cause};
 use nat_types::GatewayId;
 use settings::Settings;
@@ -25,7 +25,8 @@ struct BootFile {
     is_used: bool,
 }
 
-/// Reports the state of a box's boot file. A file that is missing or no regular one is a fault.
+/// Reports the state of a box's boot file. A file that is missing or no regular one is a fault, by the number that a
+/// start on it would have.
 pub(crate) fn report_boot_file<R: Files<File = File>>(
     rt: &R,
     settings: &Settings,
@@ -44,7 +45,7 @@ pub(crate) fn report_boot_file<R: Files<File = File>>(
             findings.fault(format_args!("file 1 NoFile {key}"))?;
             findings.reason(format_args!("{path}: {cause}"))
         }
-        Ok(None) => report_number(Err(BootCause::NotRegular), path, key, findings),
+        Ok(None) => report_cause(BootCause::NotRegular, path, key, findings),
         Ok(Some(found)) => {
             report_number(found.number, path, key, findings)?;
             report_use(found, key, findings)
@@ -52,10 +53,14 @@ pub(crate) fn report_boot_file<R: Files<File = File>>(
     }
 }
 
-/// Reads the state of a boot file. Returns None where the path is no regular file: that isn't opened, since the open of
-/// a named pipe would wait.
+/// Reads the state of a boot file. A folder can't be opened as one. Returns None where the path is no regular file
+/// otherwise: that isn't opened, since the open of a named pipe would wait.
 fn inspect<R: Files<File = File>>(rt: &R, path: &str) -> io::Result<Option<BootFile>> {
-    if !fs::metadata(rt, path)?.is_file() {
+    let found = fs::metadata(rt, path)?;
+    if found.is_dir() {
+        return Err(ErrorKind::IsADirectory.into());
+    }
+    if !found.is_file() {
         return Ok(None);
     }
     let mut file = File::open(rt, path)?;
@@ -76,7 +81,7 @@ fn read_number(file: &mut File) -> Result<u64, BootCause> {
     if let Err(error) = file.read_exact(&mut bytes) {
         return Err(match error.kind() {
             ErrorKind::UnexpectedEof => BootCause::Short,
-            _ => BootCause::Failed,
+            cause => BootCause::Device(DeviceFault::Read(cause)),
         });
     }
     match (slot_number(&bytes[..SLOT]), slot_number(&bytes[SLOT..])) {
@@ -94,18 +99,23 @@ fn report_number(
     findings: &mut Findings,
 ) -> Result<(), AllocError> {
     match number {
-        Err(cause) => {
-            findings.fault(format_args!("boot 2 Damaged {key}"))?;
-            findings.reason(format_args!("{path}: {cause}"))
-        }
-        Ok(u64::MAX) => {
-            let cause = BootCause::UsedUp;
-            findings.fault(format_args!("boot 3 BootsUsedUp {key}"))?;
-            findings.reason(format_args!("{path}: {cause}"))
-        }
+        Err(cause) => report_cause(cause, path, key, findings),
+        Ok(u64::MAX) => report_cause(BootCause::UsedUp, path, key, findings),
         Ok(0) => findings.note(format_args!("{key}: no start yet")),
         Ok(boot) => findings.note(format_args!("{key}: the last start was boot {boot}")),
     }
+}
+
+/// Reports why a boot file gives no number.
+fn report_cause(
+    cause: BootCause,
+    path: &str,
+    key: Key,
+    findings: &mut Findings,
+) -> Result<(), AllocError> {
+    let fault = cause.fault();
+    findings.fault(format_args!("boot {fault} {key}"))?;
+    findings.reason(format_args!("{path}: {cause}"))
 }
 
 /// Reports whether others than its owner may use a boot file, and whether a box runs on it.

@@ -127,7 +127,7 @@ pub fn differing_keys(
 
 /// Whether the two boxes may have different values at a key for the minutes of a change box by box: each box does as its
 /// own value says, and no pair stands for another flow. The values at all other keys must agree on both boxes; those are
-/// exactly the keys in the digest of `gate/src/digests.rt`.
+/// exactly the keys in the digest.
 pub fn may_differ(key: Key) -> bool {
     match key.name {
         Some(Name::Zero | Name::One | Name::Virtual | Name::Prefix | Name::Vrid) => false,

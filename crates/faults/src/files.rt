@@ -70,7 +70,7 @@ fn text_of(alloc: Global, path: &str, bytes: io::Result<Vec<u8>>) -> Result<Stri
         },
         Err(error) => Err(match error.kind() {
             ErrorKind::OutOfMemory => Fault::NoMemory,
-            cause => Fault::file(alloc, FileRefusal::NoFile, path, Some(cause)),
+            cause => Fault::file(alloc, FileRefusal::NoFile(cause), path),
         }),
     }
 }
@@ -166,18 +166,9 @@ impl Fault {
     }
 
     /// Returns the fault of the file at a path; `NoMemory` where there is no memory for the path.
-    pub fn file(
-        alloc: Global,
-        refusal: FileRefusal,
-        path: &str,
-        cause: Option<ErrorKind>,
-    ) -> Fault {
+    pub fn file(alloc: Global, refusal: FileRefusal, path: &str) -> Fault {
         match String::from_str(alloc, path) {
-            Ok(path) => Fault::File {
-                refusal,
-                path,
-                cause,
-            },
+            Ok(path) => Fault::File { refusal, path },
             Err(_) => Fault::NoMemory,
         }
     }
@@ -186,31 +177,28 @@ impl Fault {
     pub fn capture(alloc: Global, path: &str, error: &io::Error) -> Fault {
         match error.kind() {
             ErrorKind::OutOfMemory => Fault::NoMemory,
-            ErrorKind::AlreadyExists => Fault::file(alloc, FileRefusal::NotCapture, path, None),
-            cause => Fault::file(alloc, FileRefusal::NotWritten, path, Some(cause)),
+            ErrorKind::AlreadyExists => Fault::file(alloc, FileRefusal::NotCapture, path),
+            cause => Fault::file(alloc, FileRefusal::NotWritten(cause), path),
         }
     }
 
     /// Returns the fault of the boot file at a path.
     pub fn boot_file(alloc: Global, path: &str, fault: FileFault) -> Fault {
         match fault {
-            FileFault::NoFile(cause) => Fault::file(alloc, FileRefusal::NoFile, path, Some(cause)),
-            FileFault::NotMade(cause) => {
-                Fault::file(alloc, FileRefusal::NotWritten, path, Some(cause))
-            }
-            FileFault::Exists => Fault::file(alloc, FileRefusal::Exists, path, None),
-            FileFault::NotWritten => Fault::file(alloc, FileRefusal::NotWritten, path, None),
-            FileFault::NotLinked(cause) => {
-                Fault::file(alloc, FileRefusal::NotLinked(cause), path, None)
-            }
-            FileFault::Altered => Fault::file(alloc, FileRefusal::Altered, path, None),
+            FileFault::NoFile(cause) => Fault::file(alloc, FileRefusal::NoFile(cause), path),
+            FileFault::NotMade(cause) => Fault::file(alloc, FileRefusal::NotWritten(cause), path),
+            FileFault::Exists => Fault::file(alloc, FileRefusal::Exists, path),
+            FileFault::NotWritten(fault) => Fault::file(alloc, FileRefusal::NotStored(fault), path),
+            FileFault::NotLinked(cause) => Fault::file(alloc, FileRefusal::NotLinked(cause), path),
+            FileFault::Altered => Fault::file(alloc, FileRefusal::Altered, path),
             FileFault::InUse => match String::from_str(alloc, path) {
                 Ok(path) => Fault::InUse(path),
                 Err(_) => Fault::NoMemory,
             },
-            FileFault::NotLocked => {
-                Fault::no_boot(alloc, path, BootFault::Device, BootCause::NotLocked)
-            }
+            FileFault::NotLocked(cause) => match String::from_str(alloc, path) {
+                Ok(path) => Fault::NotLocked { path, cause },
+                Err(_) => Fault::NoMemory,
+            },
             FileFault::NoMemory => Fault::NoMemory,
         }
     }
@@ -252,7 +240,7 @@ impl Fault {
 /// Returns why the boot file at a path gave no number to a start.
 fn boot_cause<R: Files>(rt: &R, path: &str, fault: BootFault) -> BootCause {
     match fault {
-        BootFault::Device => BootCause::Failed,
+        BootFault::Device(fault) => BootCause::Device(fault),
         BootFault::Damaged => match fs::metadata(rt, path) {
             Ok(metadata) if metadata.len() < BOOT_FILE_LENGTH => BootCause::Short,
             _ => BootCause::Invalid,

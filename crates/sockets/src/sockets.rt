@@ -4,16 +4,16 @@ ghost use Rattle.sockets.specs.Wires.{AnyWay};
 
 use crate::transports::Socket;
 use crate::ways::Attachment;
-use crate::{Losses, MAX_DATAGRAM, Place, PlaceSocket, SendFault, Way, Ways, Wire, WireFault};
+use crate::{
+    Losses, MAX_DATAGRAM, Place, PlaceSocket, SendFault, SocketCause, SocketFault, Way, Ways, Wire,
+    WireFault,
+};
 use control::Control;
 use mio::{Events, Poll, Token};
 use nat_types::{GatewayId, Side};
 use settings::Settings;
-use std::alloc::AllocError;
-use std::io::{self, ErrorKind};
 use std::net::Net;
 use std::time::Duration;
-use thiserror::Error;
 
 const LINK_TOKEN: Token = Token(0);
 
@@ -29,28 +29,6 @@ const PLACES: u8 = 4;
 
 /// How many events one poll reports at most.
 const MAX_EVENTS: usize = 8;
-
-/// Why a box has no sockets.
-#[derive(Clone, Copy, Debug, PartialEq, Eq, Error)]
-pub enum SocketFault {
-    /// A port can't be bound, or a socket or descriptor can't be polled.
-    #[error("socket 1 NoSocket")]
-    NoSocket(ErrorKind),
-    #[error("memory 1 NoMemory")]
-    NoMemory,
-}
-
-impl From<AllocError> for SocketFault {
-    fn from(_: AllocError) -> SocketFault {
-        SocketFault::NoMemory
-    }
-}
-
-impl From<io::Error> for SocketFault {
-    fn from(error: io::Error) -> SocketFault {
-        SocketFault::NoSocket(error.kind())
-    }
-}
 
 /// The ports of a box's places on the loopback address: of each the own port, and the one that it sends to, or None
 /// where one of the two is left out. Only a place on loopback needs them.
@@ -103,7 +81,7 @@ impl Sockets {
     ///
     /// # Errors
     ///
-    /// `NoSocket` where one can't be opened or polled, and where a place on loopback has no ports; `NoMemory`.
+    /// `NoSocket` where one can't be bound, connected or polled, and where a place on loopback has no ports; `NoMemory`.
     pub fn open<R: Net + AllocGlobal>(
         rt: &R,
         ways: &Ways,
@@ -258,11 +236,11 @@ impl Wire for Sockets {
 ///
 /// # Errors
 ///
-/// `NoSocket` where the place is on loopback and has no ports.
-fn attachment(way: Way, ports: Option<(u16, u16)>) -> Result<Attachment, SocketFault> {
+/// `NoPorts` where the place is on loopback and has none.
+fn attachment(way: Way, ports: Option<(u16, u16)>) -> Result<Attachment, SocketCause> {
     match way.attachment(ports) {
         Some(found) => Ok(found),
-        None => Err(SocketFault::NoSocket(ErrorKind::AddrNotAvailable)),
+        None => Err(SocketCause::NoPorts),
     }
 }
 

@@ -2,7 +2,7 @@
 ghost use Rattle.std.specs.Prelude.{◌≤◌, IfOk, IfSome};
 
 use crate::ways::Attachment;
-use crate::{End, Ends, MAX_DATAGRAM, SendFault, Sender, WireFault};
+use crate::{End, Ends, MAX_DATAGRAM, SendFault, Sender, SocketCause, WireFault};
 use mio::net::UdpSocket;
 use mio::unix::SourceFd;
 use mio::{Interest, Registry, Token};
@@ -55,30 +55,46 @@ impl Socket {
     ///
     /// # Errors
     ///
-    /// Those of the system.
+    /// `NotBound`, `NotConnected`, `BadDescriptor` or `NotPolled`: the call of the system that failed.
     pub(crate) fn open<R: Net>(
         rt: &R,
         registry: &Registry,
         token: Token,
         attachment: Attachment,
-    ) -> io::Result<Socket> {
+    ) -> Result<Socket, SocketCause> {
         let mut socket = match attachment {
             Attachment::Udp(ends) => Socket::connect(rt, ends)?,
             Attachment::Vxlan(ends, _) => {
-                let socket = UdpSocket::bind(rt, SocketAddr::from(ends.own))?;
-                Socket::Open(socket, SocketAddr::from(ends.other))
+                Socket::Open(bind(rt, ends.own)?, SocketAddr::from(ends.other))
             }
-            Attachment::Descriptor(number) => Socket::Inherited(Inherited::open(number)?),
+            Attachment::Descriptor(number) => Socket::inherit(number)?,
         };
-        socket.register(registry, token)?;
-        Ok(socket)
+        match socket.register(registry, token) {
+            Ok(()) => Ok(socket),
+            Err(error) => Err(match attachment {
+                Attachment::Udp(_) | Attachment::Vxlan(_, _) => SocketCause::NotPolled(
+                    error.kind(),
+                ),
+                Attachment::Descriptor(number) => SocketCause::BadDescriptor(number, error.kind()),
+            }),
+        }
     }
 
     /// Binds a socket to its own end, and connects it to the other.
-    fn connect<R: Net>(rt: &R, ends: Ends) -> io::Result<Socket> {
-        let socket = UdpSocket::bind(rt, SocketAddr::from(ends.own))?;
-        socket.connect(SocketAddr::from(ends.other))?;
-        Ok(Socket::Connected(socket))
+    fn connect<R: Net>(rt: &R, ends: Ends) -> Result<Socket, SocketCause> {
+        let socket = bind(rt, ends.own)?;
+        match socket.connect(SocketAddr::from(ends.other)) {
+            Ok(()) => Ok(Socket::Connected(socket)),
+            Err(error) => Err(SocketCause::NotConnected(ends.other, error.kind())),
+        }
+    }
+
+    /// Takes over the inherited descriptor of a number.
+    fn inherit(number: u16) -> Result<Socket, SocketCause> {
+        match Inherited::open(number) {
+            Ok(inherited) => Ok(Socket::Inherited(inherited)),
+            Err(error) => Err(SocketCause::BadDescriptor(number, error.kind())),
+        }
     }
 
     /// Registers the socket or descriptor with a poll.
@@ -148,6 +164,14 @@ impl Transport for Socket {
             Err(error) if error.kind() == ErrorKind::WouldBlock => Ok(None),
             Err(_) => Err(WireFault),
         }
+    }
+}
+
+/// Binds a socket to an end.
+fn bind<R: Net>(rt: &R, end: End) -> Result<UdpSocket, SocketCause> {
+    match UdpSocket::bind(rt, SocketAddr::from(end)) {
+        Ok(socket) => Ok(socket),
+        Err(error) => Err(SocketCause::NotBound(end, error.kind())),
     }
 }
 

@@ -1,6 +1,6 @@
-use Rattle.std.proofs.Common.{⊎_elim, inl, inr, ℕ, ◌∷◌, [], ◌++◌, length, sym, ◌∙◌, ap, subst}
+use Rattle.std.proofs.Common.{⊎_elim, inl, inr, ℕ, List, ◌∷◌, [], ◌++◌, length, refl, sym, ◌∙◌, ap, subst}
 use Rattle.boot_store.specs.Moment.{Moment, written, within_write, synced}
-use Rattle.boot_store.specs.Crash.{AfterWrite, LeavesAtLeast}
+use Rattle.boot_store.specs.Crash.{AfterWrite, LeavesAtLeast, Since, WriteStopped}
 use Rattle.boot_store.proofs.Joins.{one_passed, two_passed, then_passed, stored_past, on_err}
 use Rattle.boot_store.proofs.Crashes.{same_still}
 use Rattle.boot_store.proofs.Numbers.{length-slot}
@@ -63,3 +63,10 @@ returns-in_err-sync-clause-torn g c h =
     let after : AfterWrite c.args.place (g.D.Disk.now c.args.disk.now) (g.D.Disk.now c.sync.new.self) =
     (g.D.Disk.now c.write_at.new.self, inr (c.slot_of.result, size, c.in_ok-write_at.ensures.written h), c.in_err-sync.ensures.unsynced (c.write_at.ensures.honesty.0 h)) in
     on_err _ after
+
+pub returns-in_err-write_at-clause-stops : goal.returns-in_err-write_at-clause-stops
+returns-in_err-write_at-clause-stops g c h =
+    let start = g.D.Disk.now c.args.disk.now in
+    let moments = start ∷ within_write c.args.place (length c.slot_of.result) start ∷ [] in
+    on_err _ (subst (λ (bytes : List ℕ). Since (g.D.Disk.past c.args.disk.now) (g.D.Disk.past c.write_at.new.self) (WriteStopped c.args.place bytes start (g.D.Disk.now c.write_at.new.self)))
+    c.slot_of.ensures (moments, c.write_at.ensures.passes h, inl (refl, c.in_err-write_at.ensures.torn h)))

@@ -2,7 +2,7 @@
 use anyhow::Result;
 use std::fs::{self, OpenFile, OpenOptions, Permissions};
 use std::io::Write;
-use std::os::unix::fs::PermissionsExt;
+use std::os::unix::fs::{PermissionsExt, symlink};
 
 /// The bytes of a whole boot file.
 const WHOLE: u64 = 32;
@@ -25,7 +25,7 @@ fn make_one(rt: &HostRuntime, path: &str, first: &[u8], length: u64) -> Result<(
     Ok(())
 }
 
-/// Makes the boot files that the cases name.
+/// Makes the boot files that the cases name, a folder, and a link to a device.
 pub(crate) fn make(rt: &HostRuntime) -> Result<()> {
     make_one(rt, "fresh", &slot(0), WHOLE)?;
     make_one(rt, "used", &slot(7), WHOLE)?;
@@ -36,5 +36,6 @@ pub(crate) fn make(rt: &HostRuntime) -> Result<()> {
     make_one(rt, "cut", &slot(7), 31)?;
     fs::set_permissions(rt, "open", Permissions::from_mode(0o644))?;
     fs::create_dir(rt, "folder")?;
+    symlink(rt, "/dev/null", "null")?;
     Ok(())
 }

@@ -89,7 +89,7 @@ fn started(
     disk.set_trouble(calls, trouble, torn);
     match next_boot(disk, false) {
         Ok(boot) if trouble == Trouble::None && boot > last => Some(boot),
-        Err(BootFault::Device) if trouble != Trouble::None => Some(last),
+        Err(BootFault::Device(_)) if trouble != Trouble::None => Some(last),
         Err(BootFault::BootsUsedUp) => Some(last),
         _ => None,
     }

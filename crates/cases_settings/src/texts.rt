@@ -1,22 +1,16 @@
-//! Texts of settings, command lines, and boot files. The cases read the sample settings, and texts that differ from
-//! them, and print why each is refused and what `check` says of it; they print the built-in settings; and they read
-//! command lines. Then they make and start boot files: in the working folder, on a modelled disk, and on blocks in
-//! memory.
+//! Texts of settings. The cases read the sample settings, and texts that differ from them, and print why each is refused
+//! and what `check` says of it; then they print the built-in settings.
 
-use crate::blocks::BlockFile;
-use crate::calls::Calls;
 use crate::checking::{Checks, SAMPLE};
 use crate::clashes::Clashes;
-use crate::disks::Disks;
 use crate::edits::Edits;
 use crate::lists::Lists;
 use crate::ports::Ports;
 use crate::reading::settings_in;
-use crate::tasks::Tasks;
 use crate::{boots, sample};
 use anyhow::Result;
 use cases_words::{Case, play};
-use gate::digest;
+use checks::digest;
 use settings::Settings;
 use std::fs;
 
@@ -80,25 +74,11 @@ fn try_sample(rt: &HostRuntime, sample: &str, case: &mut Case) -> Result<()> {
     tried
 }
 
-fn try_settings(rt: &HostRuntime, case: &mut Case) -> Result<()> {
+/// Does all cases of settings.
+pub(crate) fn try_all(rt: &HostRuntime, case: &mut Case) -> Result<()> {
     let sample = fs::read_to_string(rt, SAMPLE)?;
     case.part_by(';');
     try_sample(rt, sample.as_str(), case)?;
     try_checks(rt, sample.as_str(), case)?;
     say_built(case)
-}
-
-/// Does the cases of boot files: in the working folder, on the modelled disk, and on blocks in memory.
-fn try_boots(rt: &HostRuntime, case: &mut Case) -> Result<()> {
-    play(rt, "boot.cases", Calls { rt: *rt }, case)?;
-    play(rt, "boots.cases", Disks::new(case.alloc), case)?;
-    play(rt, "blocks.cases", BlockFile::new(), case)
-}
-
-/// Does all cases of texts and boot files.
-pub(crate) fn try_all(rt: &HostRuntime, case: &mut Case) -> Result<()> {
-    try_settings(rt, case)?;
-    case.part_by(' ');
-    play(rt, "lines.cases", Tasks, case)?;
-    try_boots(rt, case)
 }

@@ -2,11 +2,9 @@
 use crate::edits::edited;
 use crate::full::Full;
 use crate::reading::settings_in;
-use crate::rows::settled;
 use cases_words::{Actor, Case, unbuffered};
-use checks::{CheckOptions, check, compare};
-use faults::{Fault, TextFile, read_text, report_at};
-use gate::digest;
+use checks::{CheckOptions, check, compare, digest};
+use faults::{Fault, TextFile, read_text, report, report_at};
 use nat_types::GatewayId;
 use std::io::Write;
 use std::{fs, mem};
@@ -82,7 +80,7 @@ fn tell(rt: &HostRuntime, options: &str, case: &mut Case) {
         Some(_) => say(rt, options, &mut unbuffered(rt.alloc(), Full), &mut errors),
         None => say(rt, options, &mut case.out, &mut errors),
     };
-    let status = settled(rt.alloc(), status, &mut errors);
+    let status = status.unwrap_or_else(|fault| report(rt.alloc(), &fault, &mut errors));
     case.text(errors.as_slice());
     case.say("  status ", status);
     case.end();

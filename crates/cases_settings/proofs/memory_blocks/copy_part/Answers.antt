@@ -1,6 +1,6 @@
 use Rattle.std.proofs.Common.{◌≡◌, ℕ, ◌+◌, ◌-◌, length, take, drop, ◌∙◌, ap, arith}
 use Rattle.std.proofs.lemmas.List.{length-take, take_at}
-use Rattle.cases_program.proofs.memory_blocks.copy_part.Goals as goal
+use Rattle.cases_settings.proofs.memory_blocks.copy_part.Goals as goal
 
 pub returns-clause-bytes : goal.returns-clause-bytes
 returns-clause-bytes c =
