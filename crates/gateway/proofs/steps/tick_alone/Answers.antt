@@ -7,8 +7,8 @@ use Rattle.gateway.specs.Ticks.{is_apart_at}
 use Rattle.gateway.proofs.Apart.{ticks-alone}
 use Rattle.gateway.proofs.steps.tick_alone.Goals as goal
 
-pub returns-in-Ok-clause-does : goal.returns-in-Ok-clause-does
-returns-in-Ok-clause-does c =
+pub returns-in_ok-make_ready-in-Ok-clause-does : goal.returns-in_ok-make_ready-in-Ok-clause-does
+returns-in_ok-make_ready-in-Ok-clause-does c =
     let before = scene_on c.make_ready.new.forwarder c.make_ready.new.page in
     let ticked = scene_on c.take_tick.new.forwarder c.take_tick.new.page in
     let after = scene_on c.release_all.new.self c.release_all.new.page in

@@ -1,8 +1,10 @@
-use Rattle.std.proofs.Common.{rules, sym, ◌∙◌, arith}
+use Rattle.std.proofs.Common.{rules, sym, ap, ◌∙◌, arith}
 use Rattle.bindings.specs.Lives.{idle_keys_in}
 use Rattle.spec_binding.specs.Books.{is_lone}
 use Rattle.spec_binding.specs.Ledgers.{release_all, sought_keys}
 use Rattle.spec_step.specs.Shown.{is_apart, scene, with_notes}
+use Rattle.output.specs.declared.pages.Room.{Room}
+use Rattle.output.specs.Output.{Paged}
 use Rattle.forwarder.specs.Forwarder.{scene_on}
 use Rattle.gateway.proofs.ticks.release_and_go_on.Goals as goal
 
@@ -28,9 +30,12 @@ returns-clause-spends c = λ apart.
     let few = c.tick.ensures.few apart in
     let room = c.requires.room.notes in
     let reserved = c.take_notes-notes.ensures.room in
+    let put = ap (λ (r : Room). r.notes) c.put_notes.ensures.room in
+    let frames = ap (λ (r : Room). r.frames) c.put_notes.ensures.room in
+    let taken = ap (λ (p : Paged). p.room.frames) c.take_notes-notes.ensures.rest in
     record {
-      frames = omega arith;
+      frames = omega (arith, frames, taken);
       datagrams = search rules;
-      notes = omega (arith, few, room, reserved, c.tick.ensures.capacity, c.mark_or_tell.ensures.len, c.mark_or_tell.ensures.capacity);
+      notes = omega (arith, put, few, room, reserved, c.tick.ensures.capacity, c.mark_or_tell.ensures.len, c.mark_or_tell.ensures.capacity);
       pairs = omega (arith, c.tick.ensures.ready, c.mark_or_tell.ensures.ready);
     }
