@@ -2,6 +2,7 @@ use Rattle.std.proofs.Common.{◌≡◌, ◌++◌, ◌∷◌, [], true, Some, ap
 use Rattle.nat_types.specs.declared.gateways.GatewayId.{GatewayId}
 use Rattle.nat_types.specs.declared.gateways.GatewayId.TheVariants.{Zero, One}
 use Rattle.nat_types.specs.declared.notes.NoteKind.TheVariants.{Booted}
+use Rattle.settings.specs.declared.whole.Settings.{Settings}
 use Rattle.frame_sim.specs.World.{Half, World, settings_of}
 use Rattle.frame_sim.specs.Events.{may_boot, noting}
 use Rattle.frame_sim.proofs.Taking.{sound-so}
@@ -17,7 +18,8 @@ invariant_of-self-in-Zero c =
     let may = subst (λ (x : World). may_boot x c.args.id n ≡ true) (sym c.self.view_is) (sym c.may_boot.ensures ∙ (let f : c.may_boot.result ≡ true = cc in f)) in
     let may2 = subst (λ (i : GatewayId). may_boot w i n ≡ true) c.in-Zero.is may in
     let noted = c.in-Ok.ensures.trace ∙ ap (λ (i : GatewayId). w.trace ++ noting i 0 (Booted n) ∷ []) c.in-Zero.is in
-    let begins = c.in_ok-gateway.ensures.begins ∙ ap (λ (i : GatewayId). begun (settings_of w i) i n) c.in-Zero.is in
+    let own = c.settings.ensures ∙ ap (λ (x : World). settings_of x c.args.id) (sym c.self.view_is) in
+    let begins = c.in_ok-gateway.ensures.begins ∙ ap (λ (s : Settings). begun s c.args.id n) own ∙ ap (λ (i : GatewayId). begun (settings_of w i) i n) c.in-Zero.is in
     let is = c.start.ensures ∙ ap (λ (g : Shown). let h : Half = record w.zero { gateway = Some g; boot = n } in h) begins in
     sound-so w Zero _ c.start.new.self _ c.note_both.new.trace.items is noted (boot-sound c.goes_to.ensures c.books_begin.ensures.booted c.others_account.ensures.booted c.beginnings_account.ensures.begun w Zero n c.self.invariant may2)
 
@@ -28,6 +30,7 @@ invariant_of-self-in-One c =
     let may = subst (λ (x : World). may_boot x c.args.id n ≡ true) (sym c.self.view_is) (sym c.may_boot.ensures ∙ (let f : c.may_boot.result ≡ true = cc in f)) in
     let may2 = subst (λ (i : GatewayId). may_boot w i n ≡ true) c.in-One.is may in
     let noted = c.in-Ok.ensures.trace ∙ ap (λ (i : GatewayId). w.trace ++ noting i 0 (Booted n) ∷ []) c.in-One.is in
-    let begins = c.in_ok-gateway.ensures.begins ∙ ap (λ (i : GatewayId). begun (settings_of w i) i n) c.in-One.is in
+    let own = c.settings.ensures ∙ ap (λ (x : World). settings_of x c.args.id) (sym c.self.view_is) in
+    let begins = c.in_ok-gateway.ensures.begins ∙ ap (λ (s : Settings). begun s c.args.id n) own ∙ ap (λ (i : GatewayId). begun (settings_of w i) i n) c.in-One.is in
     let is = c.start-in-One.ensures ∙ ap (λ (g : Shown). let h : Half = record w.one { gateway = Some g; boot = n } in h) begins in
     sound-so w One _ c.start-in-One.new.self _ c.note_both.new.trace.items is noted (boot-sound c.goes_to.ensures c.books_begin.ensures.booted c.others_account.ensures.booted c.beginnings_account.ensures.begun w One n c.self.invariant may2)
