@@ -85,8 +85,14 @@ fn write_apart<W: fmt::Write>(f: &mut Formatter<W>, report: &Report) -> fmt::Res
     let (is_apart, since) = (apart.is_apart, Seconds(now.saturating_sub(apart.since)));
     let total = Seconds(apart.total(now));
     let (private, made) = (report.gateway.pairs.private(), apart.made);
-    write!(f, ",\"apart\":{{\"now\":{is_apart},\"since_seconds\":{since}")?;
-    write!(f, ",\"total_seconds\":{total},\"private\":{private},\"made\":{made}}}")
+    write!(
+        f,
+        ",\"apart\":{{\"now\":{is_apart},\"since_seconds\":{since}"
+    )?;
+    write!(
+        f,
+        ",\"total_seconds\":{total},\"private\":{private},\"made\":{made}}}"
+    )
 }
 
 fn write_pairs<W: fmt::Write>(f: &mut Formatter<W>, counts: &PairCounts) -> fmt::Result {

@@ -85,9 +85,15 @@ fn write_apart<W: fmt::Write>(f: &mut Formatter<W>, report: &Report) -> fmt::Res
     } else {
         f.write_str("no, ")?;
     }
-    let (total, private) = (Span(apart.total(now)), Grouped(report.gateway.pairs.private()));
+    let (total, private) = (
+        Span(apart.total(now)),
+        Grouped(report.gateway.pairs.private()),
+    );
     let made = Grouped(apart.made);
-    writeln!(f, "{total} in all, {private} pairs private, {made} made alone")
+    writeln!(
+        f,
+        "{total} in all, {private} pairs private, {made} made alone"
+    )
 }
 
 /// Writes how many entries of each protocol have each state, but for private ones, and how many ports are free.
