@@ -1,5 +1,6 @@
 -- The values at the keys of a document, each read as its type and within its limits.
-use Rattle.std.specs.Prelude.{ℕ, pos, ◌-◌, ◌/◌, ◌^◌, ◌==◌, ◌&&◌, nat_le, min, not, Bool, false, true, if◌then◌else◌, List, [], ◌∷◌, Option, Some, None, is_some, option_map, option_and_then, option_or}
+use Rattle.std.specs.Prelude.{ℕ, pos, ◌-◌, ◌/◌, ◌^◌, ◌==◌, ◌&&◌, nat_le, min, not, Bool, false, true, if◌then◌else◌, List, [], ◌∷◌, Option, Some, None, is_some, option_map, option_and_then}
+use Rattle.std.specs.Option.{option_or}
 use Rattle.addresses.specs.Address.{IsIn}
 use Rattle.addresses.specs.declared.internet.Prefix.{Prefix}
 use Rattle.toml.specs.Data.{Data, integer, Items, no_items, item, Members, get_member, as_str, as_bool, as_table, as_array}
