@@ -356,6 +356,9 @@ class Networks(Surroundings):
     def cut_link(self):
         self.boxes[0].space.ip("link", "set", "dev", "link", "down")
 
+    def mend_link(self):
+        self.boxes[0].space.ip("link", "set", "dev", "link", "up")
+
     def down_interval(self, number):
         """After how many seconds without an advertisement a box takes over: three intervals of the
         Active box, and the skew of the own priority."""

@@ -20,6 +20,7 @@ local PROTOCOLS = { [1] = "icmp", [6] = "tcp", [17] = "udp" }
 local TAGS = {
   [1] = "Install", [2] = "Accept", [3] = "Refuse", [4] = "Ask", [5] = "Yes", [6] = "No",
   [7] = "Begin", [8] = "Put", [9] = "Done", [10] = "Want", [11] = "Grant", [12] = "Owner",
+  [13] = "Tell",
 }
 
 local link = Proto("natpair", "natpair link")
@@ -119,7 +120,7 @@ end
 local BODIES = {
   [1] = Reader.pair, [2] = Reader.key, [3] = Reader.key, [4] = Reader.key, [5] = Reader.key, [6] = Reader.key,
   [7] = Reader.nothing, [8] = Reader.pair, [9] = Reader.nothing, [10] = Reader.nothing, [11] = Reader.grant,
-  [12] = Reader.run,
+  [12] = Reader.run, [13] = Reader.pair,
 }
 
 -- A record: its number in the session, its tag, and what it is said of.

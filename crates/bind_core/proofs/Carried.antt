@@ -1,47 +1,76 @@
 -- A pair that carries is the one that its endpoint has, and a wish for it changes nothing.
-use Rattle.std.proofs.Common.{◌≡◌, Bool, true, false, Option, Some, None, refl, sym, ap, ◌∙◌}
+use Rattle.std.proofs.Common.{◌≡◌, Bool, true, false, Option, Some, None, refl, ap, ◌∙◌}
 use Rattle.std.proofs.lemmas.Bool.{and_parts}
 use Rattle.nat_types.specs.declared.pairs.EntryState.{EntryState}
-use Rattle.nat_types.specs.declared.pairs.EntryState.TheVariants.{Pending, Doomed, Live, Closing, Held}
+use Rattle.nat_types.specs.declared.pairs.EntryState.TheVariants.{Pending, Doomed, Live, Closing, Alone, Held}
 use Rattle.nat_types.specs.declared.pairs.Pair.{Pair}
 use Rattle.nat_types.specs.Same.{same_pair}
 use Rattle.nat_types.proofs.Offered.{pair-eq}
 use Rattle.bindings.specs.declared.entries.Entry.{Entry}
-use Rattle.bindings.specs.Entries.{is_pair, translates, has_key, slot_of, entry_of, HasDistinctEndpoints}
-use Rattle.bindings.proofs.Offered.{found-entry}
+use Rattle.bindings.specs.Entries.{is_pair, translates, slot_of, entry_of}
+use Rattle.bindings.proofs.Offered.{none-ranked, pair-rank}
+use Rattle.spec_binding.proofs.Offered.{unranked}
 use Rattle.spec_binding.specs.declared.changes.Want.TheVariants.{Port}
 use Rattle.spec_binding.specs.Books.{Book, is_synced}
 use Rattle.spec_binding.specs.Rows.{known_wish, quiet, wish, wish_by, wish_of}
 use Rattle.bind_core.specs.Cores.{is_carried, carries_pair}
 
 is-pair : (s : EntryState) → translates s ≡ true → is_pair s ≡ true
-is-pair Pending h = cc
+is-pair (Pending true) h = refl
+is-pair (Pending false) h = cc
 is-pair Doomed h = cc
 is-pair Live h = refl
-is-pair Closing h = cc
+is-pair (Closing true) h = refl
+is-pair (Closing false) h = cc
+is-pair Alone h = refl
 is-pair Held h = refl
 
 known-port : (p : Pair) (s : EntryState) → translates s ≡ true → known_wish p s ≡ wish (Port p.key.port) quiet
-known-port p Pending h = cc
+known-port p (Pending true) h = refl
+known-port p (Pending false) h = cc
 known-port p Doomed h = cc
 known-port p Live h = refl
-known-port p Closing h = cc
+known-port p (Closing true) h = refl
+known-port p (Closing false) h = cc
+known-port p Alone h = refl
 known-port p Held h = refl
 
-by-entry : (b : Book) (full : Bool) (p : Pair) (o : Option Entry) → HasDistinctEndpoints b.entries → slot_of b.entries p.key ≡ o → is_carried o p ≡ true → wish_by b full p.endpoint (entry_of b.entries p.endpoint) ≡ wish (Port p.key.port) quiet
-by-entry b full p None distinct found is = cc
-by-entry b full p (Some x) distinct found is =
+known-quiet : (p : Pair) (s : EntryState) → (known_wish p s).row ≡ quiet
+known-quiet p (Pending true) = refl
+known-quiet p (Pending false) = refl
+known-quiet p Doomed = refl
+known-quiet p Live = refl
+known-quiet p (Closing true) = refl
+known-quiet p (Closing false) = refl
+known-quiet p Alone = refl
+known-quiet p Held = refl
+
+-- the wish of a pair that carries, where it is its endpoint's pair
+by-entry : (b : Book) (apart full : Bool) (p : Pair) (o : Option Entry) → entry_of b.entries p.endpoint ≡ o → is_carried o p ≡ true → wish_by b apart full p.endpoint (entry_of b.entries p.endpoint) ≡ wish (Port p.key.port) quiet
+by-entry b apart full p None found is = cc
+by-entry b apart full p (Some x) found is =
     let parts = and_parts (translates x.state) (same_pair x.pair p) is in
-    let one : x.pair ≡ p = pair-eq x.pair p parts.1 in
-    let own = found-entry (has_key p.key) b.entries x distinct (is-pair x.state parts.0) found in
-    ap (λ q. wish_by b full q.endpoint (entry_of b.entries q.endpoint)) (sym one) ∙ ap (wish_by b full x.pair.endpoint) own ∙ known-port x.pair x.state parts.0 ∙ ap (λ q. wish (Port q.key.port) quiet) one
+    ap (wish_by b apart full p.endpoint) found ∙ known-port x.pair x.state parts.0 ∙ ap (λ q. wish (Port q.key.port) quiet) (pair-eq x.pair p parts.1)
 
-pub wish-port : (b : Book) (full : Bool) (p : Pair) → HasDistinctEndpoints b.entries → carries_pair b p ≡ true → is_synced b.stage ≡ true → wish_of b full p.endpoint ≡ wish (Port p.key.port) quiet
-wish-port b full p distinct is synced = rw (synced) (by-entry b full p (slot_of b.entries p.key) distinct refl is)
+pub wish-port : (b : Book) (apart full : Bool) (p : Pair) → entry_of b.entries p.endpoint ≡ slot_of b.entries p.key → carries_pair b p ≡ true → is_synced b.stage ≡ true → wish_of b apart full p.endpoint ≡ wish (Port p.key.port) quiet
+wish-port b apart full p own is synced = rw (synced) (by-entry b apart full p (slot_of b.entries p.key) own is)
 
-pub wish-quiet : (b : Book) (full : Bool) (p : Pair) → HasDistinctEndpoints b.entries → carries_pair b p ≡ true → (wish_of b full p.endpoint).row ≡ quiet
-wish-quiet b full p distinct is = at (is_synced b.stage) refl
+-- the endpoint of a pair that carries has a pair, so a wish of it changes nothing
+by-quiet : (b : Book) (apart full : Bool) (p : Pair) (o : Option Entry) → slot_of b.entries p.key ≡ o → is_carried o p ≡ true → (wish_by b apart full p.endpoint (entry_of b.entries p.endpoint)).row ≡ quiet
+by-quiet b apart full p None found is = cc
+by-quiet b apart full p (Some x) found is = at (entry_of b.entries p.endpoint) refl
   where
-    at : (t : Bool) → is_synced b.stage ≡ t → (wish_of b full p.endpoint).row ≡ quiet
-    at true synced = ap (λ w. w.row) (wish-port b full p distinct is synced)
+    at : (o : Option Entry) → entry_of b.entries p.endpoint ≡ o → (wish_by b apart full p.endpoint o).row ≡ quiet
+    at (Some y) there = known-quiet y.pair y.state
+    at None none =
+        let parts = and_parts (translates x.state) (same_pair x.pair p) is in
+        let rank = pair-rank x.state (is-pair x.state parts.0) in
+        let one : x.pair.endpoint ≡ p.endpoint = ap (λ (q : Pair). q.endpoint) (pair-eq x.pair p parts.1) in
+        absurd (unranked b.entries rank.0 p.endpoint p.key x (none-ranked b.entries p.endpoint none rank.0) found rank.1 one)
+
+pub wish-quiet : (b : Book) (apart full : Bool) (p : Pair) → carries_pair b p ≡ true → (wish_of b apart full p.endpoint).row ≡ quiet
+wish-quiet b apart full p is = at (is_synced b.stage) refl
+  where
+    at : (t : Bool) → is_synced b.stage ≡ t → (wish_of b apart full p.endpoint).row ≡ quiet
+    at true synced = rw (synced) (by-quiet b apart full p (slot_of b.entries p.key) refl is)
     at false loads = rw (loads) refl

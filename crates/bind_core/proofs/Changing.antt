@@ -1,6 +1,7 @@
 -- The conditions of a change on a table, and its effect on the lives.
-use Rattle.std.proofs.Common.{◌≡◌, ℕ, ◌-◌, Bool, true, false, cond, Option, Some, None, List, refl, sym, ap, subst, ◌∙◌}
+use Rattle.std.proofs.Common.{◌≡◌, ℕ, ◌-◌, Bool, true, false, cond, nat_le, is_some, Option, Some, None, List, [], ◌∷◌, length, refl, sym, ap, subst, ◌∙◌}
 use Rattle.std.specs.Option.{option_map}
+use Rattle.std.proofs.lemmas.Bool.{cond-false, lt-leb}
 use Rattle.std.specs.List.{insert}
 use Rattle.nat_types.specs.declared.pairs.EntryState.{EntryState}
 use Rattle.nat_types.specs.declared.pairs.EntryState.TheVariants.{Doomed}
@@ -8,21 +9,27 @@ use Rattle.nat_types.specs.declared.pairs.Endpoint.{Endpoint}
 use Rattle.nat_types.specs.declared.pairs.Key.{Key}
 use Rattle.nat_types.specs.declared.pairs.Pair.{Pair}
 use Rattle.nat_types.specs.Same.{same_key}
-use Rattle.nat_types.proofs.Offered.{key-eq, key-true}
+use Rattle.nat_types.proofs.Offered.{key-eq}
 use Rattle.activity.specs.Lives.{History, Activity, renewed}
 use Rattle.bindings.specs.declared.entries.Entry.{Entry}
-use Rattle.bindings.specs.Entries.{slot_of, entry_of, entry_in, is_pair, has_key, refusal_of, HasDistinctKeys}
-use Rattle.bindings.specs.Lists.{place_in, with_state, IsOneToOne}
+use Rattle.bindings.specs.declared.entries.TableFault.TheVariants.{Full, PortTaken, EndpointTaken}
+use Rattle.slots.specs.declared.ranks.Rank.{Rank}
+use Rattle.slots.specs.declared.ranks.Rank.TheVariants.{First, Second}
+use Rattle.bindings.specs.Entries.{slot_of, held_entry_of, entry_in, has_key, serves, rank_of, is_of_rank, is_taken, refusal_of}
+use Rattle.bindings.specs.Lists.{place_in, with_state}
 use Rattle.bindings.specs.Lives.{KeepsOthers}
 use Rattle.bindings.specs.Ports.{in_either}
 use Rattle.bindings.specs.Table.{Table, IsTable, IsPast, AreInRanges, with_entry_state}
 use Rattle.spec_binding.proofs.Offered.{turned-place}
-use Rattle.bindings.proofs.Offered.{slot-with_state, either_slot, restated, no-past, has-room, refusal-none, entry-serves, found-slot, keys-map}
+use Rattle.bindings.proofs.Offered.{slot-with_state, either_slot, restated, no-past, has-room, find-none, one-rank}
 
 -- a new entry in the ranges is never refused
-pub welcomed : (t : Table) (e : Entry) → IsTable t → AreInRanges t → in_either t.zero t.one e.pair.key.port.0 ≡ true → slot_of t.entries e.pair.key ≡ None → entry_of t.entries e.pair.endpoint ≡ None → refusal_of t.capacity t.entries e ≡ None
+pub welcomed : (t : Table) (e : Entry) → IsTable t → AreInRanges t → in_either t.zero t.one e.pair.key.port.0 ≡ true → slot_of t.entries e.pair.key ≡ None → is_taken (rank_of e.state) t.entries e.pair.endpoint ≡ false → refusal_of t.capacity t.entries e ≡ None
 welcomed t e is ranges within key endpoint =
-    refusal-none t.capacity t.entries e (has-room t is ranges e.pair.key within key) key (λ pair. endpoint)
+    let room = has-room t is ranges e.pair.key within key in
+    cond-false (nat_le t.capacity (length t.entries)) (Some Full) _ (lt-leb t.capacity (length t.entries) room)
+    ∙ cond-false (is_some (slot_of t.entries e.pair.key)) (Some PortTaken) _ (ap is_some key)
+    ∙ cond-false (is_taken (rank_of e.state) t.entries e.pair.endpoint) (Some EndpointTaken) None endpoint
 
 -- another key's past stays when an entry is added
 pub stays-added : (k : Key) (t t2 : Table) → slot_of t.entries k ≡ None → KeepsOthers k t.entries t.lives t2.entries t2.lives → (q : Key) (past : History) → IsPast t q past → IsPast t2 q past
@@ -59,32 +66,23 @@ yielded-free es q k x found free = slot-with_state q Doomed es x k found ∙ at 
     at true same = let bad : slot_of es k ≡ Some x = ap (slot_of es) (sym (key-eq q k same)) ∙ found in cc
     at false same = free
 
--- once the own proposal is given up, its endpoint has no pair
-pub yielded-new : (es : List Entry) (q : Key) (x : Entry) (e : Endpoint) → IsOneToOne es → HasDistinctKeys (with_state q Doomed es) → slot_of es q ≡ Some x → is_pair x.state ≡ true → x.pair.endpoint ≡ e → entry_of (with_state q Doomed es) e ≡ None
-yielded-new es q x e one keys found pair same = at (entry_of (with_state q Doomed es) e) refl
-  where
-    clash : (y : Entry) (b : Bool) → same_key q y.pair.key ≡ b → is_pair y.state ≡ true → y.pair.endpoint ≡ e → cond b (Some (entry_in Doomed x.pair)) (slot_of es y.pair.key) ≡ Some y → ⊥
-    clash y true is live serves there =
-        let doomed : Some (entry_in Doomed x.pair) ≡ Some y = there in
-        let it : entry_in Doomed x.pair ≡ y = cc in
-        let dead : is_pair y.state ≡ false = ap (λ (z : Entry). is_pair z.state) (sym it) in cc
-    clash y false is live serves there =
-        let key : q ≡ y.pair.key = one q y.pair.key x y found there pair live (same ∙ sym serves) in
-        let too : same_key q y.pair.key ≡ true = key-true q y.pair.key key in cc
+-- an own pair may get the state of any own pair
+pub own-turn : (es : List Entry) (k : Key) (x : Entry) (s : EntryState) → slot_of es k ≡ Some x → is_of_rank First x.state ≡ true → is_of_rank First s ≡ true → (y : Entry) → slot_of es k ≡ Some y → (r : Rank) → is_of_rank r s ≡ true → is_of_rank r y.state ≡ true
+own-turn es k x s found own new y there r is =
+    let one : Some x ≡ Some y = sym found ∙ there in
+    let same : x ≡ y = cc in
+    subst (λ (z : Rank). is_of_rank z y.state ≡ true) (one-rank s First r new is) (ap (λ (z : Entry). is_of_rank First z.state) (sym same) ∙ own)
 
-    at : (o : Option Entry) → entry_of (with_state q Doomed es) e ≡ o → o ≡ None
-    at None h = refl
-    at (Some y) h =
-        let parts = entry-serves (with_state q Doomed es) e y h in
-        let there : slot_of (with_state q Doomed es) y.pair.key ≡ Some y = found-slot _ (with_state q Doomed es) y keys h in
-        absurd (clash y (same_key q y.pair.key) refl parts.0 parts.1 (sym (slot-with_state q Doomed es x y.pair.key found) ∙ there))
-
-pub yielded-distinct : (es : List Entry) (q : Key) → HasDistinctKeys es → HasDistinctKeys (with_state q Doomed es)
-yielded-distinct es q keys = keys-map (λ x. cond (has_key q x) (entry_in Doomed x.pair) x) es (λ x. at x (has_key q x)) keys
+-- a proposal that is given up gives no endpoint a pair
+pub yielded-held : (q : Key) (es : List Entry) (e : Endpoint) → held_entry_of es e ≡ None → held_entry_of (with_state q Doomed es) e ≡ None
+yielded-held q [] e none = refl
+yielded-held q (x ∷ xs) e none =
+    let parts = find-none (serves Second e) x xs none in
+    at (has_key q x) parts.0 (yielded-held q xs e parts.1)
   where
-    at : (x : Entry) (b : Bool) → (let y : Entry = cond b (entry_in Doomed x.pair) x in y).pair.key ≡ x.pair.key
-    at x true = refl
-    at x false = refl
+    at : (b : Bool) → serves Second e x ≡ false → held_entry_of (with_state q Doomed xs) e ≡ None → held_entry_of ((let y : Entry = cond b (entry_in Doomed x.pair) x in y) ∷ with_state q Doomed xs) e ≡ None
+    at true fails rest = rest
+    at false fails rest = cond-false (serves Second e x) (Some x) (held_entry_of (with_state q Doomed xs) e) fails ∙ rest
 
 -- a pair to which a proposal gives way has its life where it would have had it before
 pub turned-life : (p : Pair) (q : Key) (s : EntryState) (t t1 t2 : Table) (l : Activity) → t1 ≡ with_entry_state t q s → t2.lives ≡ insert t1.lives (place_in p t1.entries) l → t2.lives ≡ insert t.lives (place_in p t.entries) l

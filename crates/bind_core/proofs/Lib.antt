@@ -1,6 +1,7 @@
 mod Changing
 mod Deciding
 mod Founding
+mod GoingOn
 mod Performing
 mod Porting
 mod Releasing

@@ -14,6 +14,7 @@ use Rattle.std.proofs.lemmas.List.{append-nil, take-append-drop}
 use Rattle.spec_pair.specs.Box.{Letter}
 use Rattle.spec_binding.specs.Machine.{Works}
 use Rattle.nat_types.specs.declared.gateways.GatewayId.{GatewayId}
+use Rattle.nat_types.specs.declared.gateways.GatewayId.TheVariants.{Zero}
 use Rattle.bindings.specs.declared.entries.Entry.{Entry}
 use Rattle.bindings.specs.Revivals.{lives_of_pairs, revived_entries, woken_entry}
 use Rattle.bindings.proofs.Offered.{length-keep}
@@ -37,9 +38,9 @@ use Rattle.bindings.specs.Table.{Table, IsTable}
 use Rattle.spec_binding.specs.declared.changes.Change.{Change}
 use Rattle.spec_binding.specs.declared.changes.Change.TheVariants.{Keep, Add, Turn, Renew, Drop, Yield, Want, Give, Gain}
 use Rattle.spec_binding.specs.declared.changes.Transition.{Transition}
-use Rattle.spec_binding.specs.Books.{Book, IsBook, is_any, is_promised, is_synced, load_of, empty_book}
+use Rattle.spec_binding.specs.Books.{Book, IsBook, is_any, is_promised, is_synced, load_of, empty_book, founded_book, ports_of}
 use Rattle.spec_binding.specs.Rows.{after, changed, with_gained, is_gained, numbers_of, row_of, carry_row, use_row, used_row, quiet, answered, taken_book, taken_answer, taken_ended, taken_what, unsynced_after, unsynced_what, load_taken, load_what, noted_by, stage_after}
-use Rattle.spec_binding.specs.WellFormed.{Fits, HasPair}
+use Rattle.spec_binding.specs.WellFormed.{Fits, HasOwnPair}
 use Rattle.spec_binding.specs.declared.setups.Stage.{Stage}
 use Rattle.spec_binding.specs.declared.setups.Stage.TheVariants.{Lone, Paired, Unsynced}
 use Rattle.nat_types.specs.declared.records.Record.TheVariants as rec
@@ -153,16 +154,16 @@ pub coming-after : (laws : SteadyLaws) (cursor : Cursor) (now : ℕ) (ch : Chang
 coming-after laws cursor now ch c t2 keys are is same =
     ap (coming cursor) same ∙ still-coming laws cursor now ch c.table keys (λ h. steady-table c ch (is (ap is_any are ∙ h))) ∙ sym are
 
-has-pair : (c : Core) (k : Key) → HasPair (book_of c) k → HasPair (table_book c.table) k
-has-pair c k is = record { entry = is.entry; found = is.found; pair = is.pair }
+has-own : (c : Core) (k : Key) → HasOwnPair (book_of c) k → HasOwnPair (table_book c.table) k
+has-own c k is = record { entry = is.entry; found = is.found; own = is.own }
 
 pub fits-table : (c : Core) (ch : Change) → Fits (book_of c) ch → Fits (table_book c.table) ch
 fits-table c Keep is = tt
-fits-table c (Add e) is = record { key = is.key; endpoint = is.endpoint; within = is.within; formed = is.formed }
-fits-table c (Turn k s) is = has-pair c k is
-fits-table c (Renew k) is = has-pair c k is
+fits-table c (Add e) is = record { key = is.key; endpoint = is.endpoint; side = is.side; within = is.within; formed = is.formed }
+fits-table c (Turn k s) is = (has-own c k is.0, is.1)
+fits-table c (Renew k) is = has-own c k is
 fits-table c (Drop k) is = tt
-fits-table c (Yield q p) is = record { entry = is.entry; found = is.found; pair = is.pair; endpoint = is.endpoint; key = is.key; within = is.within; formed = is.formed }
+fits-table c (Yield q p) is = record { entry = is.entry; found = is.found; own = is.own; endpoint = is.endpoint; held = is.held; key = is.key; side = is.side; within = is.within; formed = is.formed }
 fits-table c Want is = refl
 fits-table c (Give g) is = record { most = is.most; distinct = is.distinct; spare = is.spare; formed = is.formed }
 fits-table c (Gain g) is = tt
@@ -251,6 +252,7 @@ same-stage s rec.Done = refl
 same-stage s rec.Want = refl
 same-stage s (rec.Grant g) = refl
 same-stage s (rec.Owner first last) = refl
+same-stage s (rec.Tell p) = refl
 
 pub load-book : (c : Core) (r : Record) (t2 : Table) (p2 : Progress) (s2 : Stage) (cs : List Record) → loaded (load_of (book_of c)) r ≡ Some (progress.load_of p2 t2) → s2 ≡ cond (is_whole r) Paired c.stage → cs ≡ c.coming → t2.zero ≡ c.table.zero → t2.one ≡ c.table.one
     → book_of (record c { table = t2; stage = s2; begun = p2.begun; named = p2.named; coming = cs }) ≡ unsynced_after (book_of c) r
@@ -262,7 +264,7 @@ load-book c r t2 p2 s2 cs ok stage comes zero one =
     ∙ sym (ap (load_taken (book_of c) r) ok)
   where
     of : Stage → List Record → PortBounds → PortBounds → Book
-    of s cs z o = record { id = c.id; zero = z; one = o; limit = c.limit; stage = s; begun = p2.begun; named = p2.named; entries = t2.entries; owned = t2.owned; wants = c.wants; coming = cs }
+    of s cs z o = record { id = c.id; zero = z; one = o; limit = c.limit; alone = c.alone; stage = s; begun = p2.begun; named = p2.named; entries = t2.entries; owned = t2.owned; wants = c.wants; coming = cs }
 
 unpaired : (b : Book) → is_synced b.stage ≡ false → IsBook b → is_promised b ≡ true → ⊥
 unpaired b h is promised = let paired : is_synced b.stage ≡ true = ap is_synced (is.promised promised) in cc
@@ -287,6 +289,7 @@ load-what rec.Done l = refl
 load-what rec.Want l = refl
 load-what (rec.Grant g) l = refl
 load-what (rec.Owner first last) l = refl
+load-what (rec.Tell p) l = refl
 
 pub load-noted : (b : Book) (r : Record) (l : Load) (what : Option NoteKind) (now : ℕ) (ns ns2 : List Note) → loaded (load_of b) r ≡ Some l → what ≡ what_loaded r → ns2 ≡ ns ++ noted_by b.id now what → ns2 ≡ ns ++ noted_by b.id now (unsynced_what b r)
 load-noted b r l what now ns ns2 ok is noted =
@@ -305,6 +308,7 @@ refused-what rec.Done = refl
 refused-what rec.Want = refl
 refused-what (rec.Grant g) = refl
 refused-what (rec.Owner first last) = refl
+refused-what (rec.Tell p) = refl
 
 -- a record out of its place changes nothing, and nothing is noted
 pub refused-noted : (b : Book) (r : Record) (now : ℕ) (ns : List Note) → loaded (load_of b) r ≡ None → ns ≡ ns ++ noted_by b.id now (unsynced_what b r)
@@ -340,9 +344,9 @@ none-owned : (xs : List ℕ) → ((p : ℕ) → is_listed p xs ≡ false) → xs
 none-owned [] h = refl
 none-owned (x ∷ xs) h = let here = or_left (x == x) (is_listed x xs) (eq-eqb x x refl) in let none = h x in cc
 
-pub empty-is : (id : GatewayId) (zero one : PortBounds) (limit : Option ℕ) (t : Table) (p : Progress) → t.zero ≡ zero → t.one ≡ one → t.entries ≡ [] → ((port : ℕ) → is_listed port t.owned ≡ false) → p ≡ progress.fresh zero one
-    → (let b : Book = record { id = id; zero = t.zero; one = t.one; limit = limit; stage = Unsynced; begun = p.begun; named = p.named; entries = t.entries; owned = t.owned; wants = false; coming = [] } in b) ≡ empty_book id zero one limit
-empty-is id zero one limit t p z o es owned is =
+pub empty-is : (id : GatewayId) (zero one : PortBounds) (limit : Option ℕ) (alone : ℕ) (t : Table) (p : Progress) → t.zero ≡ zero → t.one ≡ one → t.entries ≡ [] → ((port : ℕ) → is_listed port t.owned ≡ false) → p ≡ progress.fresh zero one
+    → (let b : Book = record { id = id; zero = t.zero; one = t.one; limit = limit; alone = alone; stage = Unsynced; begun = p.begun; named = p.named; entries = t.entries; owned = t.owned; wants = false; coming = [] } in b) ≡ empty_book id zero one limit alone
+empty-is id zero one limit alone t p z o es owned is =
     ap (λ (x : Progress). of t.zero t.one x.begun x.named t.entries t.owned) is
     ∙ ap (λ (x : PortBounds). of x t.one false 0 t.entries t.owned) z
     ∙ ap (λ (x : PortBounds). of zero x false 0 t.entries t.owned) o
@@ -350,7 +354,7 @@ empty-is id zero one limit t p z o es owned is =
     ∙ ap (λ (x : List ℕ). of zero one false 0 [] x) (none-owned t.owned owned)
   where
     of : PortBounds → PortBounds → Bool → ℕ → List Entry → List ℕ → Book
-    of z o begun named entries owned = record { id = id; zero = z; one = o; limit = limit; stage = Unsynced; begun = begun; named = named; entries = entries; owned = owned; wants = false; coming = [] }
+    of z o begun named entries owned = record { id = id; zero = z; one = o; limit = limit; alone = alone; stage = Unsynced; begun = begun; named = named; entries = entries; owned = owned; wants = false; coming = [] }
 
 pub revived-book : (c : Core) (t2 : Table) (stage : Stage) (cursor : Cursor) → t2 ≡ record c.table { entries = t2.entries; lives = t2.lives } → t2.entries ≡ revived_entries c.table.entries
     → book_of (record c { table = t2; stage = stage; wants = false; coming = coming cursor t2 }) ≡ revived_with stage cursor c
@@ -366,10 +370,10 @@ put_alone_is now c c1 c2 book lives hashers is =
     ∙ ap (λ (l : Ledger). let l2 : Ledger = record l { lives = map (life_renewed now) l.lives } in l2) (ledger-parts c1 _ _ _ book lives hashers)
 
 pub restarted-synced : (b : Book) → is_synced b.stage ≡ true → restarted b ≡ record (revived b) { stage = Paired; coming = restart_batch b }
-restarted-synced b h = ap (λ (t : Bool). let x : Book = cond t (record (revived b) { stage = Paired; coming = restart_batch b }) (empty_book b.id b.zero b.one b.limit) in x) h
+restarted-synced b h = ap (λ (t : Bool). let x : Book = cond t (record (revived b) { stage = Paired; coming = restart_batch b }) (empty_book b.id b.zero b.one b.limit b.alone) in x) h
 
-pub restarted-bare : (b : Book) → is_synced b.stage ≡ false → restarted b ≡ empty_book b.id b.zero b.one b.limit
-restarted-bare b h = ap (λ (t : Bool). let x : Book = cond t (record (revived b) { stage = Paired; coming = restart_batch b }) (empty_book b.id b.zero b.one b.limit) in x) h
+pub restarted-bare : (b : Book) → is_synced b.stage ≡ false → restarted b ≡ empty_book b.id b.zero b.one b.limit b.alone
+restarted-bare b h = ap (λ (t : Bool). let x : Book = cond t (record (revived b) { stage = Paired; coming = restart_batch b }) (empty_book b.id b.zero b.one b.limit b.alone) in x) h
 
 pub restarted-ledger : (c c2 : Core) → is_synced c.stage ≡ true → book_of c2 ≡ restarted (book_of c) → c2.table.lives ≡ lives_of_pairs c.table.entries c.table.lives → c2.table.hashers ≡ c.table.hashers → ledger_of c2 ≡ restarted_ledger (ledger_of c)
 restarted-ledger c c2 h book lives hashers =
@@ -382,10 +386,20 @@ bare-ledger c c2 h book lives hashers =
     (lives ∙ sym (ap (λ (t : Bool). let ls : List Activity = cond t (lives_of_pairs c.table.entries c.table.lives) [] in ls) h)) hashers
 
 pub forgotten : (c : Core) (t2 : Table) (p : Progress) (zero one : PortBounds) → t2 ≡ record c.table { entries = []; lives = []; owned = [] } → c.table.zero ≡ zero → c.table.one ≡ one → p ≡ progress.fresh zero one
-    → (let b : Book = record { id = c.id; zero = t2.zero; one = t2.one; limit = c.limit; stage = Unsynced; begun = p.begun; named = p.named; entries = t2.entries; owned = t2.owned; wants = false; coming = [] } in b) ≡ empty_book c.id c.table.zero c.table.one c.limit
+    → (let b : Book = record { id = c.id; zero = t2.zero; one = t2.one; limit = c.limit; alone = c.alone; stage = Unsynced; begun = p.begun; named = p.named; entries = t2.entries; owned = t2.owned; wants = false; coming = [] } in b) ≡ empty_book c.id c.table.zero c.table.one c.limit c.alone
 forgotten c t2 p zero one same z o is =
-    empty-is c.id c.table.zero c.table.one c.limit t2 p (ap (λ (t : Table). t.zero) same) (ap (λ (t : Table). t.one) same) (ap (λ (t : Table). t.entries) same) (λ port. ap (λ (t : Table). is_listed port t.owned) same)
+    empty-is c.id c.table.zero c.table.one c.limit c.alone t2 p (ap (λ (t : Table). t.zero) same) (ap (λ (t : Table). t.one) same) (ap (λ (t : Table). t.entries) same) (λ port. ap (λ (t : Table). is_listed port t.owned) same)
     (is ∙ ap (λ (x : PortBounds). progress.fresh x one) (sym z) ∙ ap (λ (x : PortBounds). progress.fresh c.table.zero x) (sym o))
+
+-- the book of a gateway without a table that is founded, and owns the ports of range zero
+pub founded-is : (c : Core) (cursor : Cursor) (t2 : Table) (zero one : PortBounds) → c.coming ≡ coming cursor c.table → book_of c ≡ empty_book Zero zero one c.limit c.alone → t2 ≡ record c.table { owned = ports_of zero }
+    → book_of (record c { table = t2; stage = Lone; coming = coming cursor t2 }) ≡ founded_book zero one c.limit c.alone
+founded-is c cursor t2 zero one are empty same =
+    let none : c.coming ≡ [] = ap (λ (b : Book). b.coming) empty in
+    let bare : coming cursor t2 ≡ [] = none-coming cursor c.table t2 (λ any. let no : is_any (coming cursor c.table) ≡ false = ap is_any (sym are ∙ none) in cc) ∙ sym are ∙ none in
+    ap (λ (cs : List Record). book_of (record c { table = t2; stage = Lone; coming = cs })) bare
+    ∙ ap (λ (t : Table). book_of (record c { table = t; stage = Lone; coming = [] })) same
+    ∙ ap (λ (b : Book). let x : Book = record b { stage = Lone; owned = ports_of zero; coming = [] } in x) empty
 
 pub link-synced : (b : Book) (e : Link) → is_synced b.stage ≡ true → restart_link b e ≡ with_promised e (length (restart_batch b))
 link-synced b e h = ap (λ (t : Bool). let x : Link = cond t (with_promised e (length (restart_batch b))) e in x) h
@@ -394,10 +408,13 @@ pub link-bare : (b : Book) (e : Link) → is_synced b.stage ≡ false → restar
 link-bare b e h = ap (λ (t : Bool). let x : Link = cond t (with_promised e (length (restart_batch b))) e in x) h
 
 used-quiet : (b : Book) (e : Link) (p : Pair) (s : EntryState) → (after b (used_row p s) ≡ b) × (answered e (used_row p s).answer ≡ e)
-used-quiet b e p state.Pending = (refl, refl)
+used-quiet b e p (state.Pending true) = (refl, refl)
+used-quiet b e p (state.Pending false) = (refl, refl)
 used-quiet b e p state.Doomed = (refl, refl)
 used-quiet b e p state.Live = (refl, refl)
-used-quiet b e p state.Closing = (refl, refl)
+used-quiet b e p (state.Closing true) = (refl, refl)
+used-quiet b e p (state.Closing false) = (refl, refl)
+used-quiet b e p state.Alone = (refl, refl)
 used-quiet b e p state.Held = (refl, refl)
 
 -- a packet changes nothing of the book, and nothing is pushed

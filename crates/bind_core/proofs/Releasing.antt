@@ -1,23 +1,33 @@
 -- The idle pairs of a tick.
-use Rattle.std.proofs.Common.{◌≡◌, ℕ, zero, suc, ◌+◌, ◌<◌, ◌≤◌, Bool, true, false, cond, ◌||◌, List, [], ◌∷◌, ◌++◌, length, get_or, drop, refl, sym, ap, subst, ◌∙◌, arith, append_assoc, slice_get, Option, Some, None}
+use Rattle.std.proofs.Common.{◌≡◌, ℕ, zero, suc, ◌+◌, ◌<◌, ◌≤◌, Bool, true, false, cond, not, nat_lt, nat_le, ◌==◌, ◌-◌, ◌&&◌, ◌||◌, inl, inr, List, [], ◌∷◌, ◌++◌, length, get_or, drop, refl, sym, ap, subst, ◌∙◌, arith, append_assoc, slice_get, Option, Some, None}
 use Rattle.std.proofs.lemmas.Option.{get_or_from_slice_get, slice_get_within}
+use Rattle.std.proofs.lemmas.List.{length-append}
+use Rattle.std.proofs.lemmas.List.Sums.{sum_by-cons}
 use Rattle.std.proofs.Math.Seq.{drop-cons}
 use Rattle.nat_types.specs.declared.notes.Note.{Note}
 use Rattle.link.specs.Link.{Link}
-use Rattle.spec_binding.specs.Rows.{idle_row, after, answered, noted_by, quiet, release_row, released_row}
-use Rattle.spec_binding.specs.Ledgers.{Ledger, LetGo, ledger_after, release_all, may_ask}
+use Rattle.spec_binding.specs.Rows.{idle_row, after, answered, changed, noted_by, numbers_of, quiet, release_row, released_row}
+use Rattle.spec_binding.specs.Ledgers.{Ledger, LetGo, is_reached, ledger_after, release_all, may_ask}
 use Rattle.nat_types.specs.declared.records.Record.{Record}
 use Rattle.spec_pair.specs.Box.{Letter}
-use Rattle.spec_binding.specs.Books.{Book, is_lone, is_synced}
+use Rattle.spec_binding.specs.declared.setups.Stage.{Stage}
+use Rattle.spec_binding.specs.declared.setups.Stage.TheVariants.{Unsynced, Paired, Lone}
+use Rattle.spec_binding.specs.Books.{Book, is_apart, is_lone, is_paired, is_synced}
+use Rattle.spec_binding.specs.declared.changes.Change.{Change}
+use Rattle.spec_binding.specs.declared.changes.Change.TheVariants.{Keep, Add, Turn, Renew, Drop, Yield, Want, Give, Gain}
 use Rattle.spec_binding.specs.declared.changes.Transition.{Transition}
+use Rattle.bind_core.proofs.Porting.{gained-rest}
 use Rattle.spec_binding.specs.Machine.{Stands, Works}
 use Rattle.nat_types.specs.declared.pairs.EntryState.{EntryState}
-use Rattle.nat_types.specs.declared.pairs.EntryState.TheVariants.{Pending, Doomed, Live, Closing, Held}
+use Rattle.nat_types.specs.declared.pairs.EntryState.TheVariants.{Pending, Doomed, Live, Closing, Alone, Held}
 use Rattle.nat_types.specs.declared.pairs.Key.{Key}
 use Rattle.nat_types.specs.declared.pairs.Pair.{Pair}
 use Rattle.activity.specs.Lives.{Activity}
 use Rattle.bindings.specs.declared.entries.Entry.{Entry}
-use Rattle.bindings.specs.Entries.{slot_of}
+use Rattle.bindings.specs.Entries.{has_key, is_alone, slot_of, state_count}
+use Rattle.bindings.specs.Lists.{without}
+use Rattle.bindings.proofs.Offered.{find-some, length-keep, slot-key}
+use Rattle.std.proofs.lemmas.Bool.{and_parts, ltb-false}
 use Rattle.bindings.specs.Lives.{idle_keys_in, is_idle_row}
 
 -- no more keys are idle than the table has entries
@@ -32,9 +42,9 @@ few-idle lone now (e ∷ es) (l ∷ ls) = at (is_idle_row lone now e l) (few-idl
 
 -- the row of one key is carried out
 pub record IsReleased (now : ℕ) (k : Key) (l : Ledger) (e : Link) (ns : List Note) (l2 : Ledger) (e2 : Link) (ns2 : List Note) : Type 0 where
-  pub ledger : l2 ≡ ledger_after now (idle_row l.book (may_ask now e) k).change l
-  pub link : e2 ≡ answered e (idle_row l.book (may_ask now e) k).answer
-  pub notes : ns2 ≡ ns ++ noted_by l.book.id now (idle_row l.book (may_ask now e) k).what
+  pub ledger : l2 ≡ ledger_after now (idle_row l.book (may_ask now l.book e) k).change l
+  pub link : e2 ≡ answered e (idle_row l.book (may_ask now l.book e) k).answer
+  pub notes : ns2 ≡ ns ++ noted_by l.book.id now (idle_row l.book (may_ask now l.book e) k).what
 
 -- releasing the keys from i on is releasing one and then those from i + 1 on
 pub record IsOneMore (now : ℕ) (i : ℕ) (keys : List Key) (l : Ledger) (e : Link) (ns : List Note) (l2 : Ledger) (e2 : Link) (ns2 : List Note) : Type 0 where
@@ -47,7 +57,7 @@ head-first : (now : ℕ) (k : Key) (ks : List Key) (l : Ledger) (e : Link) (ns :
 head-first now k ks l e ns l2 e2 ns2 is = rw (is.ledger, is.link, is.notes) (
   refl,
   refl,
-  sym (append_assoc ns (noted_by l.book.id now (idle_row l.book (may_ask now e) k).what) (release_all now ks (ledger_after now (idle_row l.book (may_ask now e) k).change l) (answered e (idle_row l.book (may_ask now e) k).answer)).notes),
+  sym (append_assoc ns (noted_by l.book.id now (idle_row l.book (may_ask now l.book e) k).what) (release_all now ks (ledger_after now (idle_row l.book (may_ask now l.book e) k).change l) (answered e (idle_row l.book (may_ask now l.book e) k).answer)).notes),
 )
 
 one-more : (now : ℕ) (i : ℕ) (keys : List Key) (d : Key) (l : Ledger) (e : Link) (ns : List Note) (l2 : Ledger) (e2 : Link) (ns2 : List Note) → i < length keys → IsReleased now (get_or keys i d) l e ns l2 e2 ns2 → IsOneMore now i keys l e ns l2 e2 ns2
@@ -77,36 +87,133 @@ one-more-at now i keys k l e ns l2 e2 ns2 h is =
 
 -- ---- where no pair may be released
 
-released-quiet : (p : Pair) (s : EntryState) → released_row false false p s ≡ quiet
-released-quiet p Pending = refl
-released-quiet p Doomed = refl
-released-quiet p Live = refl
-released-quiet p Closing = refl
-released-quiet p Held = refl
+released-quiet : (p : Pair) (s : EntryState) → is_alone s ≡ false → released_row false false p s ≡ quiet
+released-quiet p (Pending m) h = refl
+released-quiet p Doomed h = refl
+released-quiet p Live h = refl
+released-quiet p (Closing m) h = refl
+released-quiet p Alone h = cc
+released-quiet p Held h = refl
 
-idle-quiet : (b : Book) (ask : Bool) (k : Key) → is_lone b.stage ≡ false → ask ≡ false → idle_row b ask k ≡ quiet
-idle-quiet b ask k = at (is_synced b.stage) (is_lone b.stage) ask (slot_of b.entries k)
+-- where none is counted, no entry passes
+uncounted : (es : List Entry) (k : Key) (x : Entry) → state_count is_alone es ≡ 0 → slot_of es k ≡ Some x → is_alone x.state ≡ false
+uncounted [] k x none found = cc
+uncounted (y ∷ ys) k x none found =
+    let count = sum_by-cons (λ (e : Entry). cond (is_alone e.state) 1 0) y ys in
+    elim (find-some (has_key k y) y (slot_of ys k) x found) [
+      | inl w ↦ ap (λ (z : Entry). is_alone z.state) (sym w.1) ∙ first (is_alone y.state) count
+      | inr w ↦ uncounted ys k x (rest (is_alone y.state) count) w.1
+    ]
   where
-    at : (t lone ask : Bool) (o : Option Entry) → lone ≡ false → ask ≡ false → (let r : Transition = cond t (release_row lone ask o) quiet in r) ≡ quiet
-    at false lone ask o h g = refl
-    at true true ask o h g = cc
-    at true false true o h g = cc
-    at true false false None h g = refl
-    at true false false (Some x) h g = released-quiet x.pair x.state
+    first : (b : Bool) → state_count is_alone (y ∷ ys) ≡ cond b 1 0 + state_count is_alone ys → b ≡ false
+    first true n = absurd (omega (arith, n, none))
+    first false n = refl
 
--- a gateway that isn't lone, and may not ask, releases none
-none-from : (now : ℕ) (ks : List Key) (l : Ledger) (e : Link) → is_lone l.book.stage ≡ false → may_ask now e ≡ false → release_all now ks l e ≡ record { ledger = l; link = e; notes = [] }
-none-from now [] l e lone mute = refl
-none-from now (k ∷ ks) l e lone mute =
-    ap (λ (r : Transition). let rest : LetGo = release_all now ks (ledger_after now r.change l) (answered e r.answer) in let all : LetGo = record rest { notes = noted_by l.book.id now r.what ++ rest.notes } in all) (idle-quiet l.book (may_ask now e) k lone mute)
-    ∙ none-from now ks l e lone mute
+    rest : (b : Bool) → state_count is_alone (y ∷ ys) ≡ cond b 1 0 + state_count is_alone ys → state_count is_alone ys ≡ 0
+    rest true n = absurd (omega (arith, n, none))
+    rest false n = omega (arith, n, none)
+
+idle-quiet : (b : Book) (ask : Bool) (k : Key) → is_lone b.stage ≡ false → ask ≡ false → state_count is_alone b.entries ≡ 0 → idle_row b ask k ≡ quiet
+idle-quiet b ask k lone mute none = at (is_synced b.stage) (is_lone b.stage) ask (slot_of b.entries k) refl lone mute
+  where
+    at : (t lone ask : Bool) (o : Option Entry) → slot_of b.entries k ≡ o → lone ≡ false → ask ≡ false → (let r : Transition = cond t (release_row lone ask o) quiet in r) ≡ quiet
+    at false lone ask o there h g = refl
+    at true true ask o there h g = cc
+    at true false true o there h g = cc
+    at true false false None there h g = refl
+    at true false false (Some x) there h g = released-quiet x.pair x.state (uncounted b.entries k x none there)
+
+-- a gateway that isn't lone, may not ask, and has made no pair alone, releases none
+none-from : (now : ℕ) (ks : List Key) (l : Ledger) (e : Link) → is_lone l.book.stage ≡ false → may_ask now l.book e ≡ false → state_count is_alone l.book.entries ≡ 0 → release_all now ks l e ≡ record { ledger = l; link = e; notes = [] }
+none-from now [] l e lone mute none = refl
+none-from now (k ∷ ks) l e lone mute none =
+    ap (λ (r : Transition). let rest : LetGo = release_all now ks (ledger_after now r.change l) (answered e r.answer) in let all : LetGo = record rest { notes = noted_by l.book.id now r.what ++ rest.notes } in all) (idle-quiet l.book (may_ask now l.book e) k lone mute none)
+    ∙ none-from now ks l e lone mute none
 
 neither : (a b : Bool) → (a || b) ≡ false → (a ≡ false) × (b ≡ false)
 neither true b h = cc
 neither false b h = (refl, h)
 
-pub none-go : (now : ℕ) (ks : List Key) (l : Ledger) (e : Link) → (is_lone l.book.stage || may_ask now e) ≡ false → release_all now ks l e ≡ record { ledger = l; link = e; notes = [] }
-none-go now ks l e h = let parts = neither (is_lone l.book.stage) (may_ask now e) h in none-from now ks l e parts.0 parts.1
+pub none-go : (now : ℕ) (ks : List Key) (l : Ledger) (e : Link) → (is_lone l.book.stage || (may_ask now l.book e || nat_lt 0 (state_count is_alone l.book.entries))) ≡ false → release_all now ks l e ≡ record { ledger = l; link = e; notes = [] }
+none-go now ks l e h =
+    let count = state_count is_alone l.book.entries in
+    let parts = neither (is_lone l.book.stage) (may_ask now l.book e || nat_lt 0 count) h in
+    let more = neither (may_ask now l.book e) (nat_lt 0 count) parts.1 in
+    let few = ltb-false 0 count more.1 in
+    none-from now ks l e parts.0 more.0 (omega (arith, few))
+
+-- ---- a gateway that is apart
+
+-- the entries without that of a key are fewer
+fewer : (k : Key) (es : List Entry) (x : Entry) → slot_of es k ≡ Some x → suc (length (without k es)) ≤ length es
+fewer k [] x found = absurd (cc)
+fewer k (y ∷ ys) x found = at (has_key k y) found (length-keep (λ (e : Entry). not (has_key k e)) ys) (λ there. fewer k ys x there)
+  where
+    at : (b : Bool) → cond b (Some y) (slot_of ys k) ≡ Some x → length (without k ys) ≤ length ys → (slot_of ys k ≡ Some x → suc (length (without k ys)) ≤ length ys) → suc (length (let zs : List Entry = cond (not b) (y ∷ without k ys) (without k ys) in zs)) ≤ suc (length ys)
+    at true found kept more = omega (arith, kept)
+    at false found kept more = let rest = more found in omega (arith, rest)
+
+-- a row makes no more notes than entries leave
+abbrev IsFew : Book → ℕ → Transition → Type 0
+IsFew b now r = length (noted_by b.id now r.what) + length (after b r).entries ≤ length b.entries
+
+released-few : (b : Book) (now : ℕ) (x : Entry) (s : EntryState) → slot_of b.entries x.pair.key ≡ Some x → IsFew b now (released_row false false x.pair s)
+released-few b now x (Pending m) found = omega arith
+released-few b now x Doomed found = omega arith
+released-few b now x Live found = omega arith
+released-few b now x (Closing m) found = omega arith
+released-few b now x Alone found = let left = fewer x.pair.key b.entries x found in omega (arith, left)
+released-few b now x Held found = omega arith
+
+-- the row of an idle pair, at a gateway that isn't lone and may not ask
+idle-few : (b : Book) (now : ℕ) (k : Key) → is_lone b.stage ≡ false → IsFew b now (idle_row b false k)
+idle-few b now k lone = at (is_synced b.stage) (is_lone b.stage) (slot_of b.entries k) refl lone
+  where
+    at : (t lone : Bool) (o : Option Entry) → slot_of b.entries k ≡ o → lone ≡ false → IsFew b now (let r : Transition = cond t (release_row lone false o) quiet in r)
+    at false lone o there h = omega arith
+    at true true o there h = absurd (cc)
+    at true false None there h = omega arith
+    at true false (Some x) there h = released-few b now x x.state (ap (slot_of b.entries) (slot-key b.entries k x there) ∙ there)
+
+paired-lone : (s : Stage) → is_paired s ≡ true → is_lone s ≡ false
+paired-lone Unsynced h = refl
+paired-lone Paired h = refl
+paired-lone Lone h = cc
+
+-- a gateway that is apart has room for as many notes more as entries have left, at least
+pub still-few : (now : ℕ) (k : Key) (l : Ledger) (e : Link) (ns : List Note) (l2 : Ledger) (e2 : Link) (ns2 : List Note) → IsReleased now k l e ns l2 e2 ns2 → is_apart l.book e now ≡ true → length ns2 + length l2.book.entries ≤ length ns + length l.book.entries
+still-few now k l e ns l2 e2 ns2 is apart =
+    let lone = paired-lone l.book.stage (and_parts (is_paired l.book.stage) (not (l.book.alone == 0) && nat_le l.book.alone (now - e.answered)) apart).0 in
+    let asks : may_ask now l.book e ≡ false = ap (λ (t : Bool). not t && is_reached now e) apart in
+    let row = idle_row l.book (may_ask now l.book e) k in
+    let few : IsFew l.book now row = subst (λ (ask : Bool). IsFew l.book now (idle_row l.book ask k)) (sym asks) (idle-few l.book now k lone) in
+    let made : length ns2 ≡ length ns + length (noted_by l.book.id now row.what) = ap length is.notes ∙ length-append ns (noted_by l.book.id now row.what) in
+    let left : length l2.book.entries ≡ length (after l.book row).entries = ap (λ (x : Ledger). length x.book.entries) is.ledger in
+    omega (arith, few, made, left)
+
+-- no change of the book, and no answer, makes the gateway apart or ends that
+book-apart : (ch : Change) (b : Book) (e : Link) (now : ℕ) → is_apart (changed ch b) e now ≡ is_apart b e now
+book-apart Keep b e now = refl
+book-apart (Add x) b e now = refl
+book-apart (Turn k s) b e now = refl
+book-apart (Renew k) b e now = refl
+book-apart (Drop k) b e now = refl
+book-apart (Yield q p) b e now = refl
+book-apart Want b e now = refl
+book-apart (Give g) b e now = refl
+book-apart (Gain g) b e now = ap (λ (x : Book). is_apart x e now) (gained-rest b (numbers_of g))
+
+link-apart : (b : Book) (e : Link) (o : Option Record) (now : ℕ) → is_apart b (answered e o) now ≡ is_apart b e now
+link-apart b e None now = refl
+link-apart b e (Some r) now = refl
+
+pub still-apart : (now : ℕ) (k : Key) (l : Ledger) (e : Link) (ns : List Note) (l2 : Ledger) (e2 : Link) (ns2 : List Note) → IsReleased now k l e ns l2 e2 ns2 → is_apart l2.book e2 now ≡ is_apart l.book e now
+still-apart now k l e ns l2 e2 ns2 is =
+    let row = idle_row l.book (may_ask now l.book e) k in
+    ap (λ (x : Ledger). is_apart x.book e2 now) is.ledger
+    ∙ ap (λ (x : Link). is_apart (changed row.change l.book) x now) is.link
+    ∙ link-apart (changed row.change l.book) e row.answer now
+    ∙ book-apart row.change l.book e now
 
 -- ---- acts
 
@@ -121,9 +228,9 @@ pub released-works : (laws : TickLaws) (now : ℕ) (keys : List Key) (l : Ledger
     → Works now [] [] l.book e n (release_all now keys l e).ledger.book (release_all now keys l e).link n (release_all now keys l e).notes h
 released-works laws now [] l e n h stands = laws.nothing now [] [] l.book e n h stands
 released-works laws now (k ∷ ks) l e n h stands =
-    let row = idle_row l.book (may_ask now e) k in
+    let row = idle_row l.book (may_ask now l.book e) k in
     let l2 = ledger_after now row.change l in
     let e2 = answered e row.answer in
-    let first : Works now [] [] l.book e n l2.book e2 n (noted_by l.book.id now row.what) h = laws.idle now l.book e n h (may_ask now e) k stands in
+    let first : Works now [] [] l.book e n l2.book e2 n (noted_by l.book.id now row.what) h = laws.idle now l.book e n h (may_ask now l.book e) k stands in
     laws.join now [] [] l.book l2.book (release_all now ks l2 e2).ledger.book e e2 (release_all now ks l2 e2).link n n n (noted_by l.book.id now row.what) (release_all now ks l2 e2).notes h first
     (released-works laws now ks l2 e2 n first.history first.agrees)

@@ -3,7 +3,7 @@ use Rattle.std.proofs.Common.{◌≡◌, ℕ, true, false, List, [], ◌∷◌, 
 use Rattle.nat_types.specs.declared.records.Record.{Record}
 use Rattle.nat_types.specs.declared.records.Record.TheVariants.{Done}
 use Rattle.bindings.specs.Entries.{HasDistinctKeys}
-use Rattle.bindings.specs.Lists.{put_in, with_state}
+use Rattle.bindings.specs.Lists.{put_in, with_state, without}
 use Rattle.bindings.specs.Table.{Table}
 use Rattle.resync.specs.Batch.{is_settled, owners_of, puts_of}
 use Rattle.resync.specs.Cursor.{to_come, coming, runs_from, puts_behind}
@@ -21,7 +21,8 @@ use Rattle.bind_core.specs.Changes.{IsSteady, table_book, table_after}
 -- the clauses of resync's steady_batch_law
 pub record SteadyLaws : Type 0 where
   pub proposed : (c : Cursor) (owned : List ℕ) (es : List Entry) (e : Entry) → is_settled e.state ≡ false → to_come c owned (put_in e es) ≡ to_come c owned es
-  pub turned : (c : Cursor) (owned : List ℕ) (es : List Entry) (key : Key) (s : EntryState) → HasDistinctKeys es → is_settled s ≡ true → ((x : Entry) → slot_of es key ≡ Some x → is_settled x.state ≡ true) → to_come c owned (with_state key s es) ≡ to_come c owned es
+  pub turned : (c : Cursor) (owned : List ℕ) (es : List Entry) (key : Key) (s : EntryState) → HasDistinctKeys es → ((x : Entry) → slot_of es key ≡ Some x → is_settled x.state ≡ is_settled s) → to_come c owned (with_state key s es) ≡ to_come c owned es
+  pub dropped : (c : Cursor) (owned : List ℕ) (es : List Entry) (key : Key) → HasDistinctKeys es → ((x : Entry) → slot_of es key ≡ Some x → is_settled x.state ≡ false) → to_come c owned (without key es) ≡ to_come c owned es
 
 any-last : (xs : List Record) (r : Record) → is_any (xs ++ r ∷ []) ≡ true
 any-last [] r = refl
@@ -35,9 +36,9 @@ any-behind (x ∷ xs) ys h = refl
 steadily : (laws : SteadyLaws) (c : Cursor) (now : ℕ) (ch : Change) (t : Table) → HasDistinctKeys t.entries → IsSteady (table_book t) ch → coming c (table_after now ch t) ≡ coming c t
 steadily laws c now Keep t keys is = refl
 steadily laws c now (Add e) t keys is = laws.proposed c t.owned t.entries e is
-steadily laws c now (Turn k s) t keys is = laws.turned c t.owned t.entries k s keys is.0 is.1
+steadily laws c now (Turn k s) t keys is = laws.turned c t.owned t.entries k s keys is
 steadily laws c now (Renew k) t keys is = absurd is
-steadily laws c now (Drop k) t keys is = absurd is
+steadily laws c now (Drop k) t keys is = laws.dropped c t.owned t.entries k keys is
 steadily laws c now (Yield q p) t keys is = absurd is
 steadily laws c now Want t keys is = refl
 steadily laws c now (Give g) t keys is = absurd is

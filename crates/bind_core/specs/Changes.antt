@@ -23,6 +23,7 @@ table_book t = record {
   zero = t.zero;
   one = t.one;
   limit = None;
+  alone = 0;
   stage = Paired;
   begun = false;
   named = 0;
@@ -128,9 +129,9 @@ pub record LivesOn (now : ℕ) (change : Change) (t t2 : Table) : Type 0 where
 abbrev pub IsSteady : Book → Change → Type 0
 IsSteady b Keep = Unit {0}
 IsSteady b (Add e) = is_settled e.state ≡ false
-IsSteady b (Turn k s) = (is_settled s ≡ true) × ((x : Entry) → slot_of b.entries k ≡ Some x → is_settled x.state ≡ true)
+IsSteady b (Turn k s) = (x : Entry) → slot_of b.entries k ≡ Some x → is_settled x.state ≡ is_settled s
 IsSteady b (Renew k) = ⊥
-IsSteady b (Drop k) = ⊥
+IsSteady b (Drop k) = (x : Entry) → slot_of b.entries k ≡ Some x → is_settled x.state ≡ false
 IsSteady b (Yield q p) = ⊥
 IsSteady b Want = Unit {0}
 IsSteady b (Give g) = ⊥

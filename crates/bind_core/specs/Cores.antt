@@ -2,7 +2,7 @@
 use Rattle.std.specs.Prelude.{ℕ, Bool, List, Option, Some, None, true, false, ◌&&◌, [], map, if◌then◌else◌}
 use Rattle.nat_types.specs.declared.gateways.GatewayId.{GatewayId}
 use Rattle.nat_types.specs.declared.records.Record.{Record}
-use Rattle.nat_types.specs.declared.records.Record.TheVariants.{Install, Accept, Refuse, Ask, Yes, No, Begin, Put, Done, Want, Grant, Owner}
+use Rattle.nat_types.specs.declared.records.Record.TheVariants.{Install, Accept, Refuse, Ask, Yes, No, Begin, Put, Done, Want, Grant, Owner, Tell}
 use Rattle.nat_types.specs.declared.notes.NoteKind.{NoteKind}
 use Rattle.nat_types.specs.declared.notes.NoteKind.TheVariants.{Retaken, Synced}
 use Rattle.nat_types.specs.declared.pairs.Key.{Key}
@@ -23,18 +23,19 @@ use Rattle.spec_binding.specs.Books.{Book, is_synced}
 use Rattle.spec_binding.specs.Ledgers.{Ledger}
 use Rattle.bind_core.specs.Changes.{table_after, wants_after}
 
--- The core: its gateway, its table, the most pairs that one inside address may have, its stage, whether Begin was taken and not yet Done, the last port that an Owner named,
+-- The core: its gateway, its table, the most pairs that one inside address may have, after how many centiseconds without an answer it is apart, its stage, whether Begin was taken and not yet Done, the last port that an Owner named,
 -- whether its Want is open, and which records of a promised batch are still to be drawn.
 pub record Core : Type 0 where
   pub id : GatewayId
   pub table : Table
   pub limit : Option ℕ
+  pub alone : ℕ
   pub stage : Stage
   pub begun : Bool
   pub named : ℕ
   pub wants : Bool
   pub coming : List Record
-  pub idle : List Key  -- the keys that the last tick that looked found idle
+  pub idle : List Key  -- the keys that a tick listed last
 
 -- the core's book: what the protocol knows of a gateway
 abbrev pub book_of : Core → Book
@@ -43,6 +44,7 @@ book_of c = record {
   zero = c.table.zero;
   one = c.table.one;
   limit = c.limit;
+  alone = c.alone;
   stage = c.stage;
   begun = c.begun;
   named = c.named;
@@ -87,6 +89,7 @@ is_whole Done = true
 is_whole Want = false
 is_whole (Grant g) = false
 is_whole (Owner first last) = false
+is_whole (Tell p) = false
 
 -- the note on a record in its place
 abbrev pub what_loaded : Record → Option NoteKind
@@ -102,6 +105,7 @@ what_loaded Done = Some Synced
 what_loaded Want = None
 what_loaded (Grant g) = None
 what_loaded (Owner first last) = None
+what_loaded (Tell p) = Some (Retaken p)
 
 -- the ports that a synced gateway owns
 abbrev pub owned_of : Core → List Port

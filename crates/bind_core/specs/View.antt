@@ -11,6 +11,7 @@ core_of c = record {
   id = c.id;
   table = c.table;
   limit = c.limit;
+  alone = c.alone;
   stage = c.stage;
   begun = c.loading.begun;
   named = c.loading.named;
@@ -24,5 +25,5 @@ pub record IsStored (c : Inside) : Type 0 where
   pub bounds : IsBetween c.table c.bounds
   pub zero : c.loading.zero ≡ c.table.zero
   pub one : c.loading.one ≡ c.table.one
-  -- the list of idle keys has a place for each entry
+  -- the list of keys has a place for each entry
   pub room : c.table.capacity ≤ vec_capacity c.idle

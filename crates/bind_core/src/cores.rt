@@ -1,91 +1,55 @@
 //! The core of a gateway: its table, its stage, and what a promised batch and a loading have
 //! reached.
-ghost use Rattle.std.specs.Prelude.{◌≡◌, ◌+◌, ◌-◌, ◌*◌, ◌<◌, ◌≤◌, ◌++◌, ◌&&◌, not};
-ghost use Rattle.std.specs.Prelude.{ℕ, Bool, [], true};
-ghost use Rattle.std.specs.Prelude.{IsTrue, IsOk, IfOk, IfSome, is_some, length, vec_len, vec_capacity};
-ghost use Rattle.std.specs.Prelude.{slice_get, Some, false, OnOk, OnErr, drop, take, List, map};
-ghost use Rattle.nat_types.specs.declared.pairs.Key.{Key as OutsidePort};
-ghost use Rattle.activity.specs.declared.packets.Packet.{Packet as Carried};
-ghost use Rattle.activity.specs.Lives.{History, life_renewed, with_packet};
-ghost use Rattle.bindings.specs.Lives.{KeepsOthers};
-ghost use Rattle.bindings.specs.Table.{IsPast};
+ghost use Rattle.std.specs.Prelude.{◌≡◌, ◌+◌, ◌*◌, ◌<◌, ◌≤◌, ◌++◌, [], true, IsTrue, IsOk, IfOk};
+ghost use Rattle.std.specs.Prelude.{IfSome, is_some, length, vec_len, vec_capacity, false, OnOk, OnErr};
 ghost use Rattle.link.specs.Grammar.{IsWellFormedRecord};
-ghost use Rattle.link.specs.Link.{free_places, occupied, wanted, with_fed, with_promised};
-ghost use Rattle.resync.specs.Batch.{HasNoPending, batch_of};
-ghost use Rattle.link.specs.Link.{Link as End};
-ghost use Rattle.nat_types.specs.declared.records.Record.{Record as Rec};
-ghost use Rattle.spec_binding.specs.Machine.{Stands, Works};
-ghost use Rattle.spec_binding.specs.Books.{IsBook, is_synced as is_synced_at};
-ghost use Rattle.spec_binding.specs.Books.{is_lone as is_lone_at, is_promised};
+ghost use Rattle.link.specs.Link.{free_places};
+ghost use Rattle.spec_binding.specs.Books.{IsBook, is_synced as is_synced_at, is_apart as is_apart_at};
+ghost use Rattle.spec_binding.specs.Books.{is_lone as is_lone_at, is_promised, empty_book};
+ghost use Rattle.spec_binding.specs.Books.{founded_book};
 ghost use Rattle.spec_binding.specs.WellFormed.{Fits};
-ghost use Rattle.spec_binding.specs.Rows.{is_theirs as is_theirs_port, proposed_row, install_row};
-ghost use Rattle.spec_binding.specs.Rows.{grant_row, want_row, none_row, synced_row, new_wish};
-ghost use Rattle.spec_binding.specs.Rows.{is_at_limit as is_at_limit_in, unknown_wish};
-ghost use Rattle.spec_binding.specs.Rows.{wish_of, carry_row, noted_by, after, answered, is_full};
-ghost use Rattle.spec_binding.specs.Rows.{idle_row, row_of, unsynced_after, unsynced_what};
-ghost use Rattle.spec_binding.specs.Rows.{quiet as quiet_row, wish as wish_with};
-ghost use Rattle.spec_binding.specs.declared.changes.Want.TheVariants.{Port as PortOf};
+ghost use Rattle.spec_binding.specs.Rows.{noted_by, after, answered};
 ghost use Rattle.bind_core.specs.Changes.{adds, IsSteady, LivesOn};
-ghost use Rattle.bindings.specs.Table.{idle_keys_of};
 ghost use Rattle.bindings.specs.Ports.{AreBounds, key_count};
-ghost use Rattle.spec_binding.specs.Books.{empty_book, founded_book};
 ghost use Rattle.nat_types.specs.declared.gateways.GatewayId.TheVariants.{Zero};
-ghost use Rattle.spec_binding.specs.Resets.{back_in, put_alone as put_alone_book, retaken};
-ghost use Rattle.bindings.specs.declared.entries.Entry.{Entry as Known};
-ghost use Rattle.bindings.specs.Entries.{is_pair, slot_of};
-ghost use Rattle.bindings.specs.Revivals.{lives_of_pairs};
-ghost use Rattle.resync.specs.Loading.{loaded};
-ghost use Rattle.spec_binding.specs.Books.{load_of};
-ghost use Rattle.spec_binding.specs.Ledgers.{alone_ledger, carried_ledger, lives_loaded, rests_for};
 ghost use Rattle.spec_binding.specs.Resets.{restart_batch};
-ghost use Rattle.bind_core.specs.Cores.{book_of, carries_pair, core_after, ledger_of};
-ghost use Rattle.bind_core.specs.Cores.{owned_of, revived_with};
+ghost use Rattle.bind_core.specs.Cores.{book_of, core_after, ledger_of, owned_of};
 ghost use Rattle.bind_core.specs.Memory.{LacksCore};
 ghost use Rattle.slots.specs.Memory.{LacksEndpoints};
 ghost use Rattle.memory.specs.Memory.{WasRefused};
 
-use crate::deeds::{
-    Bounds, carry_by, change_table, count_keys, is_carried, is_link_full, is_wanting,
-    lies_in_either, note, own_range, recall_port, tell,
-};
-use crate::grants::{choose_granted, higher, lower};
-use crate::loads::{loading_of, stage_after};
-use crate::resets::note_back;
-use crate::rows::{
-    accept, answering, ask, carry, ending, gives_way, is_lone, is_synced, known, no, quiet, refuse,
-    release, row, wish, yes,
-};
-use activity::{Packet, Remote, Way};
-use addresses::{Ip, Port, TcpFlags};
-use arrayvec::ArrayVec;
-use bindings::{Entry, Hashers, PortBounds, Table};
+use crate::deeds::{Bounds, change_table, count_keys, is_wanting, own_range, recall_port, tell};
+use crate::rows::{is_lone, is_paired, is_synced};
+use addresses::Port;
+use bindings::{Hashers, PortBounds, Table};
 use link::Link;
 use memory::with_room;
-use nat_types::{Endpoint, EntryState, GatewayId, Granted, Key, Note, NoteKind, Pair, Record};
-use resync::{Cursor, Loading, batch_len, steady_batch_law};
-use spec_binding::{
-    Change, PortRequest, Stage, Transition, Want, books_begin, books_keep, carry_works, feed_works,
-};
+use nat_types::{Endpoint, GatewayId, Key, Note};
+use resync::{Cursor, Loading, steady_batch_law};
+use spec_binding::{Stage, Transition, books_begin};
 use std::alloc::{AllocError, Global};
 use std::marker::Model;
 
 /// One gateway's side of the binding protocol. Times (`now`) are in centiseconds.
 #[derive(Drop)]
 pub struct Core {
-    id: GatewayId,
-    bounds: Bounds,
-    table: Table,
+    pub(crate) id: GatewayId,
+    pub(crate) bounds: Bounds,
+    pub(crate) table: Table,
     /// The most pairs that one inside address may have; None where there is no limit.
-    limit: Option<u16>,
-    stage: Stage,
+    pub(crate) limit: Option<u16>,
+    /// After how many centiseconds without an answer of the peer the gateway is apart; 0 is never.
+    pub(crate) alone: u16,
+    pub(crate) stage: Stage,
     /// The progress of loading the table from the peer's batch.
-    loading: Loading,
+    pub(crate) loading: Loading,
     /// Whether the gateway asked for ports (Want) and no Grant came yet.
-    wants: bool,
+    pub(crate) wants: bool,
     /// The place in the promised batch up to which records are drawn.
-    cursor: Cursor,
-    /// The keys that the last tick found idle; kept so that a tick takes no memory.
-    idle: Vec<Key>,
+    pub(crate) cursor: Cursor,
+    /// The keys that a tick listed last, of idle pairs or of those to mark or to tell; kept so that
+    /// a tick takes no memory.
+    pub(crate) idle: Vec<Key>,
 }
 
 impl Model for Core {
@@ -127,6 +91,16 @@ impl Core {
         is_lone(self.stage)
     }
 
+    /// Whether the gateway goes on without the peer: it is synced and not lone, and for `alone`
+    /// centiseconds the peer hasn't answered.
+    pub fn is_apart(&self, link: &Link, now: u64) -> bool
+        ensures { result ≡ is_apart_at (book_of self.now) link.now now }
+    {
+        is_paired(self.stage)
+            && self.alone != 0
+            && u64::from(self.alone) <= now.saturating_sub(link.answered())
+    }
+
     /// Returns the gateway's table.
     pub fn table(&self) -> &Table
         ensures { result.now ≡ self.now.table }
@@ -134,208 +108,36 @@ impl Core {
         &self.table
     }
 
-    /// Whether the table has exactly this pair, Live or Held. Looks at the pair's key alone. `want`
-    /// changes nothing for the endpoint of such a pair, and answers its port at a gateway that is
-    /// synced.
+    /// Makes the table ready for as many new pairs as there are endpoints, whichever these are,
+    /// until the next call. Fails where there isn't enough memory; the core is then as before.
     #[inline(always)]
-    pub fn carries(&self, pair: Pair) -> bool
-        ensures exact { result ≡ carries_pair (book_of self.now) pair }
-        ensures quiet { result ≡ true → (full : Bool)
-            → (wish_of (book_of self.now) full pair.endpoint).row ≡ quiet_row }
-        ensures port { result ≡ true → is_synced_at self.now.stage ≡ true → (full : Bool)
-            → wish_of (book_of self.now) full pair.endpoint
-            ≡ wish_with (PortOf pair.key.port) quiet_row }
+    pub fn ready(&mut self, endpoints: &[Endpoint]) -> Result<(), AllocError>
+        ensures ok { OnOk result (self.new ≡ record self.old {
+          table = record self.old.table {
+            ready = length endpoints.now;
+          };
+        }) }
+        ensures err { OnErr result (self.new ≡ self.old) }
+        ensures succeeds { length endpoints.now ≤ self.old.table.ready → IsOk result }
+        ensures refused { OnErr result (LacksEndpoints (length endpoints.now)
+            (length self.old.table.entries)) }
     {
-        self.table.recall();
-        is_carried(self.table.pair_of_port(pair.key), pair)
+        self.table.ready(endpoints)
     }
 
-    // ---- the record table
-
-    fn is_theirs(&self, port: Port) -> bool
-        ensures { result ≡ is_theirs_port (book_of self.now) port.0 }
+    /// Returns the ports that the gateway owns, rising; none where it isn't synced. Fails where
+    /// there isn't enough memory.
+    pub fn owned(&self) -> Result<Vec<Port>, AllocError>
+        ensures ports { IfOk result (λ v. v.items ≡ owned_of self.now) }
+        // Where there is no port to list, no memory is taken.
+        ensures none { is_synced_at self.now.stage ≡ false → IsOk result }
+        ensures refused { OnErr result (WasRefused 1) }
     {
-        lies_in_either(self.bounds, port) && !self.table.owns(port)
-    }
-
-    fn proposed(&self, pair: Pair, other: Option<Entry>) -> Transition
-        ensures { result ≡ proposed_row (book_of self.now) pair other }
-    {
-        let accept = Some(Record::Accept(pair.key));
-        let retaken = Some(NoteKind::Retaken(pair));
-        match other {
-            None => {
-                let state = EntryState::Held;
-                row(Change::Add(Entry { pair, state }), accept, retaken)
-            }
-            Some(entry) => {
-                if gives_way(self.id, entry.state) {
-                    let change = Change::Yield(entry.pair.key, pair);
-                    ending(pair.endpoint, row(change, accept, retaken))
-                } else {
-                    answering(Record::Refuse(pair.key))
-                }
-            }
-        }
-    }
-
-    fn install(&self, pair: Pair) -> Transition
-        ensures { result ≡ install_row (book_of self.now) pair }
-    {
-        if self.is_theirs(pair.key.port) && self.table.pair_of_port(pair.key).is_none() {
-            self.proposed(pair, self.table.port_of(pair.endpoint))
+        if is_synced(self.stage) {
+            self.table.owned()
         } else {
-            answering(Record::Refuse(pair.key))
+            Ok(Vec::new(*self.idle.allocator()))
         }
-    }
-
-    fn grant_taken(&self, granted: Granted) -> Transition
-        ensures { result ≡ grant_row (book_of self.now) granted }
-    {
-        if self.wants {
-            row(Change::Gain(granted), None, None)
-        } else {
-            quiet()
-        }
-    }
-
-    fn want_taken(&self) -> Transition
-        ensures { result ≡ want_row (book_of self.now) }
-    {
-        let highest = higher(self.bounds.zero.highest, self.bounds.one.highest);
-        let lowest = lower(self.bounds.zero.lowest, self.bounds.one.lowest);
-        self.recall();
-        let granted = choose_granted(&self.table, lowest, highest);
-        row(Change::Give(granted), Some(Record::Grant(granted)), None)
-    }
-
-    /// Returns the row of a record at a gateway that is synced and has no batch to draw.
-    fn synced_row_of(&self, entry: Record, rests: bool) -> Transition
-        ensures { result ≡ synced_row (book_of self.now) rests entry }
-    {
-        match entry {
-            Record::Install(pair) => self.install(pair),
-            Record::Accept(key) => accept(self.table.pair_of_port(key)),
-            Record::Refuse(key) => refuse(self.table.pair_of_port(key)),
-            Record::Ask(key) => ask(key, rests, self.table.pair_of_port(key)),
-            Record::Yes(key) => yes(self.table.pair_of_port(key)),
-            Record::No(key) => no(self.table.pair_of_port(key)),
-            Record::Want => self.want_taken(),
-            Record::Grant(granted) => self.grant_taken(granted),
-            Record::Begin | Record::Put(_) | Record::Done | Record::Owner { .. } => quiet(),
-        }
-    }
-
-    /// Whether the record is an Ask of a pair that is idle, or came by Install and carried nothing
-    /// since.
-    fn rests(&self, entry: &Record, now: u64) -> bool
-        ensures { result ≡ rests_for now (ledger_of self.now) entry.now }
-    {
-        match entry {
-            Record::Ask(key) => self.table.idle(*key, now) || self.table.unused(*key),
-            _ => false,
-        }
-    }
-
-    /// Returns the row of a record at a gateway that is synced; nothing changes while its batch is
-    /// being drawn.
-    pub(crate) fn row_for(&self, entry: Record, now: u64) -> Transition
-        ensures { let rests = rests_for now (ledger_of self.now) entry
-            in result ≡ row_of (book_of self.now) rests entry }
-    {
-        if self.cursor.is_over() {
-            let rests = self.rests(&entry, now);
-            self.synced_row_of(entry, rests)
-        } else {
-            quiet()
-        }
-    }
-
-    // ---- wishes
-
-    fn no_port(&self, full: bool) -> Transition
-        ensures { result ≡ none_row (book_of self.now) full }
-    {
-        if !is_lone(self.stage) && !self.wants && !full {
-            row(Change::Want, Some(Record::Want), None)
-        } else {
-            quiet()
-        }
-    }
-
-    fn new_pair(&self, full: bool, pair: Pair) -> PortRequest
-        ensures { result ≡ new_wish (book_of self.now) full pair.endpoint (Some pair.key.port) }
-    {
-        if is_lone(self.stage) {
-            let state = EntryState::Live;
-            let change = Change::Add(Entry { pair, state });
-            let row = row(change, None, Some(NoteKind::Retaken(pair)));
-            return wish(Want::Port(pair.key.port), row);
-        }
-        if full {
-            return wish(Want::NotNow, quiet());
-        }
-        let state = EntryState::Pending;
-        let change = Change::Add(Entry { pair, state });
-        wish(Want::Wait, row(change, Some(Record::Install(pair)), None))
-    }
-
-    fn new_wish_for(&self, full: bool, endpoint: Endpoint, port: Option<Port>) -> PortRequest
-        ensures { result ≡ new_wish (book_of self.now) full endpoint port }
-    {
-        match port {
-            None => wish(Want::NoPort, self.no_port(full)),
-            Some(port) => {
-                let key = Key {
-                    protocol: endpoint.protocol,
-                    port,
-                };
-                self.new_pair(full, Pair::new(key, endpoint.address, endpoint.port))
-            }
-        }
-    }
-
-    /// Whether an inside address has as many pairs as it may have, or more: those of both gateways count.
-    fn is_at_limit(&self, address: Ip) -> bool
-        ensures { result ≡ is_at_limit_in (book_of self.now) address }
-    {
-        match self.limit {
-            None => false,
-            Some(limit) => u32::from(limit) <= self.table.pairs_of(address),
-        }
-    }
-
-    /// Returns the answer and the row for an endpoint without a pair.
-    fn unknown_wish_for(&self, full: bool, endpoint: Endpoint) -> PortRequest
-        ensures { result ≡ unknown_wish (book_of self.now) full endpoint }
-    {
-        if self.is_at_limit(endpoint.address) {
-            return wish(Want::HostLimit, quiet());
-        }
-        let parity = endpoint.port.parity();
-        let port = self.table.free_like(endpoint.protocol, parity);
-        self.new_wish_for(full, endpoint, port)
-    }
-
-    #[inline(always)]
-    pub(crate) fn wish_for(&self, full: bool, endpoint: Endpoint) -> PortRequest
-        ensures { result ≡ wish_of (book_of self.now) full endpoint }
-    {
-        if !is_synced(self.stage) {
-            return wish(Want::NotNow, quiet());
-        }
-        match self.table.port_of(endpoint) {
-            Some(entry) => known(entry.pair, entry.state),
-            None => self.unknown_wish_for(full, endpoint),
-        }
-    }
-
-    /// Returns what `want` would answer, and changes nothing.
-    #[inline(always)]
-    pub fn look(&self, link: &Link, endpoint: Endpoint) -> Want
-        ensures { result ≡ (wish_of (book_of self.now) (is_full link.now) endpoint).answer }
-    {
-        self.wish_for(is_link_full(link), endpoint).answer
     }
 
     // ---- what a row does
@@ -368,312 +170,26 @@ impl Core {
         tell(link, notes, self.id, now, row);
     }
 
-    #[inline(always)]
-    fn carry_row_of(&self, key: Key) -> Transition
-        ensures { result ≡ carry_row (book_of self.now) key }
-    {
-        if is_synced(self.stage) {
-            carry(self.table.pair_of_port(key))
-        } else {
-            quiet()
-        }
-    }
-
-    /// Adds a packet to or from a remote host to what the pair of a key carried, and notes that the
-    /// pair is used. Nothing changes where the pair doesn't translate.
-    pub fn carried(
-        &mut self,
-        key: Key,
-        remote: Remote,
-        way: Way,
-        flags: TcpFlags,
-        now: u64,
-        notes: &mut Vec<Note>,
-    )
-        requires reserved { vec_len notes.old < vec_capacity notes.old }
-        ensures same { self.new ≡ record self.old {
-          table = record self.old.table {
-            lives = self.new.table.lives;
-          };
-        } }
-        ensures ledger { let packet : Carried = record {
-          remote = remote;
-          way = way;
-          flags = flags;
-          at = now;
-        }
-            in ledger_of self.new ≡ carried_ledger key packet (ledger_of self.old) }
-        ensures longer { let packet : Carried = record {
-          remote = remote;
-          way = way;
-          flags = flags;
-          at = now;
-        }
-            in is_some (carry_row (book_of self.old) key).what ≡ true → (past : History)
-            → IsPast self.old.table key past
-            → IsPast self.new.table key (with_packet packet past) }
-        ensures others { KeepsOthers key self.old.table.entries self.old.table.lives
-            self.new.table.entries self.new.table.lives }
-        ensures notes { notes.new.items ≡ notes.old.items ++ noted_by self.old.id now
-            (carry_row (book_of self.old) key).what }
-        ensures len { vec_len notes.new ≤ vec_len notes.old + 1 }
-        ensures capacity { vec_capacity notes.new ≡ vec_capacity notes.old }
-        // For any end of the link: nothing is pushed.
-        ensures works { (e : End) (h : List Rec) (n : ℕ) → Stands (book_of self.old) e h
-            → Works now [] [] (book_of self.old) e n (book_of self.new) e n
-            (noted_by self.old.id now (carry_row (book_of self.old) key).what) h }
-    {
-        carry_works();
-        let row = self.carry_row_of(key);
-        let packet = Packet {
-            remote,
-            way,
-            flags,
-            at: now,
-        };
-        carry_by(&mut self.table, row.what.is_some(), key, packet);
-        note(notes, self.id, now, row.what);
-    }
-
-    // ---- ticks
-
-    pub(crate) fn idle_row_of(&self, ask: bool, key: Key) -> Transition
-        ensures { result ≡ idle_row (book_of self.now) ask key }
-    {
-        if is_synced(self.stage) {
-            release(is_lone(self.stage), ask, self.table.pair_of_port(key))
-        } else {
-            quiet()
-        }
-    }
-
-    pub(crate) fn list_idle(&mut self, now: u64)
-        ensures { let lone = is_lone_at self.old.stage
-            in self.new ≡ record self.old { idle = idle_keys_of self.old.table lone now } }
-    {
-        self.table.recall();
-        self.idle.clear();
-        let lone = is_lone(self.stage);
-        match self.table.idle_keys(lone, now, &mut self.idle) {
-            Ok(()) => {}
-            Err(_no_room) => unreachable!(),
-        }
-    }
-
-    pub(crate) fn idle_key_at(&self, i: usize) -> Key
-        requires { i < length self.now.idle }
-        ensures { slice_get self.now.idle i ≡ Some result }
-    {
-        self.idle[i]
-    }
-
-    pub(crate) fn idle_count(&self) -> usize
-        ensures { result ≡ length self.now.idle }
-    {
-        self.idle.len()
-    }
-
-    #[inline(always)]
-    pub(crate) fn make_ready(&mut self, endpoints: &[Endpoint]) -> Result<(), AllocError>
-        ensures ok { OnOk result (self.new ≡ record self.old {
-          table = record self.old.table {
-            ready = length endpoints.now;
-          };
-        }) }
-        ensures err { OnErr result (self.new ≡ self.old) }
-        ensures succeeds { length endpoints.now ≤ self.old.table.ready → IsOk result }
-        ensures refused { OnErr result (LacksEndpoints (length endpoints.now)
-            (length self.old.table.entries)) }
-    {
-        self.table.ready(endpoints)
-    }
-
-    /// Takes a record at a gateway that isn't synced. A record out of its place changes nothing.
-    pub(crate) fn load(&mut self, entry: Record, now: u64, notes: &mut Vec<Note>)
-        requires unsynced { is_synced_at self.old.stage ≡ false }
-        requires formed { IsWellFormedRecord entry }
-        requires ready { 0 < self.old.table.ready }
-        requires reserved { vec_len notes.old < vec_capacity notes.old }
-        ensures book { book_of self.new ≡ unsynced_after (book_of self.old) entry }
-        ensures notes { notes.new.items ≡ notes.old.items ++ noted_by self.old.id now
-            (unsynced_what (book_of self.old) entry) }
-        ensures lives { let load = loaded (load_of (book_of self.old)) entry
-            in self.new.table.lives
-            ≡ lives_loaded now entry self.old.table.entries self.old.table.lives load }
-        ensures hashers { self.new.table.hashers ≡ self.old.table.hashers }
-        ensures ready { self.old.table.ready ≤ self.new.table.ready + 1 }
-        ensures len { vec_len notes.new ≤ vec_len notes.old + 1 }
-        ensures capacity { vec_capacity notes.new ≡ vec_capacity notes.old }
-    {
-        books_keep();
-        let loads = loading_of(&entry);
-        match self.loading.take(&mut self.table, entry, now) {
-            Ok(_) => {
-                self.stage = stage_after(self.stage, loads.is_whole);
-                note(notes, self.id, now, loads.what);
-            }
-            Err(_out_of_place) => {}
-        }
-    }
-
-    // ---- a promised batch
-
-    /// Passes those records of the promised batch to the link that it needs for its next datagram.
-    /// Afterwards the link needs none.
-    #[inline(always)]
-    pub fn hand_in(&mut self, link: &mut Link)
-        requires promised { length self.old.coming ≡ link.old.promised }
-        ensures core { self.new ≡ record self.old {
-          coming = drop (wanted link.old) self.old.coming;
-        } }
-        ensures link { link.new ≡ with_fed link.old (take (wanted link.old) self.old.coming) }
-        ensures enough { wanted link.new ≡ 0 }
-        ensures works { (now : ℕ) (h : List Rec) (n : ℕ)
-            → Stands (book_of self.old) link.old h
-            → Works now [] [] (book_of self.old) link.old n (book_of self.new) link.new n [] h }
-    {
-        books_keep();
-        feed_works();
-        if link.wanted() > 0 {
-            self.draw_for(link);
-        }
-    }
-
-    /// Draws as many records of the promised batch as the link needs, and passes them to it. The
-    /// buffer is cleared in each call, so callers leave the call out where none is needed.
-    fn draw_for(&mut self, link: &mut Link)
-        requires promised { length self.old.coming ≡ link.old.promised }
-        ensures core { self.new ≡ record self.old {
-          coming = drop (wanted link.old) self.old.coming;
-        } }
-        ensures link { link.new ≡ with_fed link.old (take (wanted link.old) self.old.coming) }
-        ensures enough { wanted link.new ≡ 0 }
-        ensures works { (now : ℕ) (h : List Rec) (n : ℕ)
-            → Stands (book_of self.old) link.old h
-            → Works now [] [] (book_of self.old) link.old n (book_of self.new) link.new n [] h }
-    {
-        books_keep();
-        feed_works();
-        let mut records = ArrayVec::new();
-        self.cursor.draw(&self.table, link.wanted(), &mut records);
-        link.feed(records.as_slice());
-    }
-
-    /// Returns the ports that the gateway owns, rising; none where it isn't synced. Fails where
-    /// there isn't enough memory.
-    pub fn owned(&self) -> Result<Vec<Port>, AllocError>
-        ensures ports { IfOk result (λ v. v.items ≡ owned_of self.now) }
-        // Where there is no port to list, no memory is taken.
-        ensures none { is_synced_at self.now.stage ≡ false → IsOk result }
-        ensures refused { OnErr result (WasRefused 1) }
-    {
-        if is_synced(self.stage) {
-            self.table.owned()
-        } else {
-            Ok(Vec::new(*self.idle.allocator()))
-        }
-    }
-
-    // ---- resets
-
-    /// Makes all pairs that were proposed or asked to be closed translate again, notes them, and
-    /// sets the stage and the place in the batch.
-    pub(crate) fn revive(&mut self, stage: Stage, cursor: Cursor, now: u64, notes: &mut Vec<Note>)
-        requires kept { IsBook (revived_with stage cursor self.old) }
-        requires reserved { vec_len notes.old + length self.old.table.entries
-            ≤ vec_capacity notes.old }
-        ensures book { book_of self.new ≡ revived_with stage cursor self.old }
-        ensures notes { notes.new.items ≡ notes.old.items ++ retaken self.old.id now
-            (back_in self.old.table.entries) }
-        ensures len { vec_len notes.new ≤ vec_len notes.old + length self.old.table.entries }
-        ensures capacity { vec_capacity notes.new ≡ vec_capacity notes.old }
-        ensures lives { self.new.table.lives
-            ≡ lives_of_pairs self.old.table.entries self.old.table.lives }
-        ensures hashers { self.new.table.hashers ≡ self.old.table.hashers }
-        ensures ready { self.new.table.ready ≡ self.old.table.ready }
-    {
-        note_back(&self.table, notes, self.id, now);
-        self.table.revive();
-        self.wants = false;
-        self.stage = stage;
-        self.cursor = cursor;
-    }
-
-    /// Makes the gateway lone: all pairs that were proposed or asked to be closed translate again,
-    /// and are noted, and the life of each pair begins anew.
-    #[tactic(auto, using(crate::proofs::Performing::put_alone_is))]
-    pub(crate) fn put_alone(&mut self, now: u64, notes: &mut Vec<Note>)
-        requires kept { IsBook (put_alone_book (book_of self.old)) }
-        requires reserved { vec_len notes.old + length self.old.table.entries
-            ≤ vec_capacity notes.old }
-        ensures ledger { ledger_of self.new ≡ alone_ledger now (ledger_of self.old) }
-        ensures notes { notes.new.items ≡ notes.old.items ++ retaken self.old.id now
-            (back_in self.old.table.entries) }
-        ensures len { vec_len notes.new ≤ vec_len notes.old + length self.old.table.entries }
-        ensures capacity { vec_capacity notes.new ≡ vec_capacity notes.old }
-        ensures ready { self.new.table.ready ≡ self.old.table.ready }
-    {
-        self.revive(Stage::Lone, Cursor::Over, now, notes);
-        self.renew_all(now);
-    }
-
-    fn renew_all(&mut self, now: u64)
-        ensures { self.new ≡ record self.old {
-          table = record self.old.table {
-            lives = map (life_renewed now) self.old.table.lives;
-          };
-        } }
-    {
-        self.table.renew_all(now);
-    }
-
-    /// Empties the table; the gateway isn't synced then, and has loaded nothing.
-    pub(crate) fn forget(&mut self)
-        requires kept { let b = book_of self.old in IsBook (empty_book b.id b.zero b.one b.limit) }
-        ensures book { let b = book_of self.old
-            in book_of self.new ≡ empty_book b.id b.zero b.one b.limit }
-        ensures lives { self.new.table.lives ≡ [] }
-        ensures hashers { self.new.table.hashers ≡ self.old.table.hashers }
-        ensures ready { self.new.table.ready ≡ self.old.table.ready }
-    {
-        self.table.clear();
-        self.loading = Loading::new(self.bounds.zero, self.bounds.one);
-        self.wants = false;
-        self.stage = Stage::Unsynced;
-        self.cursor = Cursor::Over;
-    }
-
-    /// Promises the table's batch to the link. No pair may wait for its answer.
-    pub(crate) fn promise(&self, link: &mut Link)
-        requires settled { HasNoPending self.now.table.entries }
-        requires begins { occupied link.old ≡ 0 }
-        requires room { length (batch_of self.now.table.owned self.now.table.entries)
-            ≤ free_places link.old }
-        ensures { link.new ≡ with_promised link.old (length (batch_of self.now.table.owned
-            self.now.table.entries)) }
-    {
-        self.recall();
-        link.promise(batch_len(&self.table));
-    }
-
     // ---- beginnings
 
     /// Returns the core of a gateway without a table. `zero` and `one` are the ranges of gateway 0
     /// and gateway 1; `limit` is the most pairs that one inside address may have, None for any
-    /// number. Takes all the memory of the core but that of `ready` and `owned`; fails where there
-    /// isn't enough.
+    /// number; after `alone` centiseconds without an answer of the peer it is apart, 0 is never.
+    /// Takes all the memory of the core but that of `ready` and `owned`; fails where there isn't
+    /// enough.
     pub fn unsynced(
         alloc: Global,
         id: GatewayId,
         zero: PortBounds,
         one: PortBounds,
         limit: Option<u16>,
+        alone: u16,
         hashers: Hashers,
     ) -> Result<Core, AllocError>
         requires zero { AreBounds zero }
         requires one { AreBounds one }
         ensures ledger { IfOk result (λ c. ledger_of c ≡ record {
-          book = empty_book id zero one limit;
+          book = empty_book id zero one limit alone;
           lives = [];
           hashers = hashers;
         }) }
@@ -690,6 +206,7 @@ impl Core {
             bounds: Bounds { zero, one },
             table,
             limit,
+            alone,
             stage: Stage::Unsynced,
             loading: Loading::new(zero, one),
             wants: false,
@@ -698,26 +215,27 @@ impl Core {
         })
     }
 
-    /// Returns the core of gateway 0, founded alone, which owns the ports of its range. The limit
-    /// and the Err are those of `unsynced`.
+    /// Returns the core of gateway 0, founded alone, which owns the ports of its range. The
+    /// limit, `alone` and the Err are those of `unsynced`.
     pub fn founder(
         alloc: Global,
         zero: PortBounds,
         one: PortBounds,
         limit: Option<u16>,
+        alone: u16,
         hashers: Hashers,
     ) -> Result<Core, AllocError>
         requires zero { AreBounds zero }
         requires one { AreBounds one }
         ensures ledger { IfOk result (λ c. ledger_of c ≡ record {
-          book = founded_book zero one limit;
+          book = founded_book zero one limit alone;
           lives = [];
           hashers = hashers;
         }) }
         ensures hashers { IfOk result (λ c. c.table.hashers ≡ hashers) }
         ensures refused { OnErr result (LacksCore zero one) }
     {
-        let mut core = Core::unsynced(alloc, GatewayId::Zero, zero, one, limit, hashers)?;
+        let mut core = Core::unsynced(alloc, GatewayId::Zero, zero, one, limit, alone, hashers)?;
         core.found(zero, one);
         Ok(core)
     }
@@ -725,8 +243,10 @@ impl Core {
     fn found(&mut self, zero: PortBounds, one: PortBounds)
         requires zero { AreBounds zero }
         requires one { AreBounds one }
-        requires empty { book_of self.old ≡ empty_book Zero zero one self.old.limit }
-        ensures book { book_of self.new ≡ founded_book zero one self.old.limit }
+        requires empty { book_of self.old
+            ≡ empty_book Zero zero one self.old.limit self.old.alone }
+        ensures book { book_of self.new
+            ≡ founded_book zero one self.old.limit self.old.alone }
         ensures lives { self.new.table.lives ≡ self.old.table.lives }
         ensures hashers { self.new.table.hashers ≡ self.old.table.hashers }
     {

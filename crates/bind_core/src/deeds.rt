@@ -1,10 +1,10 @@
 //! The parts of a row, carried out: its change of the table, its answer on the link, its note.
 ghost use Rattle.std.specs.Prelude.{◌≡◌, ℕ, ◌+◌, ◌-◌, ◌<◌, ◌≤◌, ◌^◌, ◌++◌, ◌∷◌, [], length, true};
-ghost use Rattle.std.specs.Prelude.{None, IsTrue, IfSome, if◌then◌else◌, is_some, vec_len, vec_capacity};
+ghost use Rattle.std.specs.Prelude.{None, false, IsTrue, IfSome, if◌then◌else◌, is_some, vec_len, vec_capacity};
 ghost use Rattle.nat_types.specs.declared.pairs.EntryState.TheVariants.{Doomed, Held, Live};
 ghost use Rattle.nat_types.specs.declared.pairs.Key.{Key as OutsidePort};
 ghost use Rattle.activity.specs.Lives.{History, came, with_packet, life_begun, life_carried};
-ghost use Rattle.bindings.specs.Entries.{is_pair, slot_of, entry_of, entry_in};
+ghost use Rattle.bindings.specs.Entries.{is_pair, is_taken, rank_of, slot_of, entry_in};
 ghost use Rattle.bindings.specs.Lists.{place_in, put_in, with_state};
 ghost use Rattle.std.specs.List.{insert};
 ghost use Rattle.bindings.specs.Lives.{KeepsOthers, lives_with};
@@ -15,11 +15,11 @@ ghost use Rattle.link.specs.Grammar.{IsWellFormedRecord};
 ghost use Rattle.link.specs.Link.{free_places};
 ghost use Rattle.spec_binding.specs.declared.changes.Change.TheVariants.{Renew, Yield};
 ghost use Rattle.spec_binding.specs.Books.{ports_of};
-ghost use Rattle.spec_binding.specs.WellFormed.{Fits, GivesWay, HasPair, MayGive};
+ghost use Rattle.spec_binding.specs.WellFormed.{Fits, GivesWay, HasOwnPair, MayGive};
 ghost use Rattle.spec_binding.specs.Rows.{answered, changed, noted_by, is_gained as is_gained_in};
 ghost use Rattle.spec_binding.specs.Rows.{is_full, with_gained, without_ports, numbers_of};
 ghost use Rattle.spec_binding.specs.Ledgers.{is_held, lives_after};
-ghost use Rattle.spec_binding.specs.Ledgers.{may_ask as may_ask_at};
+ghost use Rattle.spec_binding.specs.Ledgers.{is_reached as is_reached_at};
 ghost use Rattle.bind_core.specs.Changes.{table_book, wants_after, adds};
 ghost use Rattle.bind_core.specs.Cores.{is_carried as is_carried_by};
 ghost use Rattle.nat_types.specs.Same.{same_pair};
@@ -32,12 +32,23 @@ use link::{Link, RECORDS_IN_A_DATAGRAM};
 use nat_types::{EntryState, GatewayId, Granted, Key, Note, NoteKind, Pair, Record};
 use spec_binding::{Change, Transition};
 
+/// Returns the key of an entry's pair.
+pub(crate) fn key_of(entry: &Entry) -> Key
+    ensures { result ≡ entry.now.pair.key }
+{
+    entry.pair.key
+}
+
 fn came_by_install(state: EntryState) -> bool
     ensures { result ≡ is_held state }
 {
     match state {
         EntryState::Held => true,
-        EntryState::Pending | EntryState::Doomed | EntryState::Live | EntryState::Closing => false,
+        EntryState::Pending { .. }
+        | EntryState::Doomed
+        | EntryState::Live
+        | EntryState::Closing { .. }
+        | EntryState::Alone => false,
     }
 }
 
@@ -46,7 +57,8 @@ fn add_entry(table: &mut Table, entry: Entry, by_install: bool, now: u64)
     requires ranges { AreInRanges table.old }
     requires within { in_either table.old.zero table.old.one entry.pair.key.port.0 ≡ true }
     requires key { slot_of table.old.entries entry.pair.key ≡ None }
-    requires endpoint { entry_of table.old.entries entry.pair.endpoint ≡ None }
+    requires endpoint { is_taken (rank_of entry.state) table.old.entries entry.pair.endpoint
+        ≡ false }
     ensures entries { table.new.entries ≡ put_in entry table.old.entries }
     ensures begins { IsPast table.new entry.pair.key (came by_install now) }
     ensures exact { table.new.lives ≡ insert table.old.lives
@@ -67,7 +79,7 @@ fn add_entry(table: &mut Table, entry: Entry, by_install: bool, now: u64)
 }
 
 fn renew_entry(table: &mut Table, key: Key, now: u64)
-    requires { HasPair (table_book table.old) key }
+    requires { HasOwnPair (table_book table.old) key }
     ensures entries { table.new.entries ≡ with_state key Live table.old.entries }
     ensures lives { LivesOn now (Renew key) table.old table.new }
     ensures exact { table.new.lives
@@ -96,7 +108,6 @@ fn yield_entry(table: &mut Table, key: Key, pair: Pair, now: u64)
       ready = table.old.ready - 1;
     } }
 {
-    table.recall();
     table.set_state(key, EntryState::Doomed);
     let entry = Entry {
         pair,
@@ -320,18 +331,23 @@ pub(crate) fn is_carried(entry: Option<Entry>, pair: Pair) -> bool
 {
     match entry {
         Some(entry) => match entry.state {
-            EntryState::Live | EntryState::Held => is_same_pair(entry.pair, pair),
-            EntryState::Pending | EntryState::Doomed | EntryState::Closing => false,
+            EntryState::Live
+            | EntryState::Held
+            | EntryState::Alone
+            | EntryState::Pending { marked: true }
+            | EntryState::Closing { marked: true } => is_same_pair(entry.pair, pair),
+            EntryState::Pending { marked: false }
+            | EntryState::Closing { marked: false }
+            | EntryState::Doomed => false,
         },
         None => false,
     }
 }
 
-/// Whether the peer may be asked for an idle pair's end: it was heard at most 300 cs ago, and the
-/// link isn't full.
+/// Whether the peer was heard at most 300 cs ago, and the link isn't full.
 #[tactic(auto, using(crate::proofs::Hearing::same_heard))]
-pub(crate) fn may_ask(link: &Link, now: u64) -> bool
-    ensures { result ≡ may_ask_at now link.now }
+pub(crate) fn is_reached(link: &Link, now: u64) -> bool
+    ensures { result ≡ is_reached_at now link.now }
 {
     link.hears(now) && !is_link_full(link)
 }

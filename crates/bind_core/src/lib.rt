@@ -2,13 +2,18 @@
 //! peer, and ports that move.
 #![tactic(auto)]
 
-mod calls;
+mod batches;
 mod cores;
 mod deeds;
+mod going_on;
 mod grants;
 mod loads;
+mod packets;
+mod records;
 mod resets;
 mod rows;
+mod ticks;
+mod wishes;
 
 pub use bindings::Hashers;
 pub use cores::Core;

@@ -23,7 +23,7 @@ pub(crate) fn loading_of(entry: &Record) -> Loads
             is_whole: true,
             what: Some(NoteKind::Synced),
         },
-        Record::Put(pair) => Loads {
+        Record::Put(pair) | Record::Tell(pair) => Loads {
             is_whole: false,
             what: Some(NoteKind::Retaken(*pair)),
         },

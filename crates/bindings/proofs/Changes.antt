@@ -11,9 +11,10 @@ use Rattle.nat_types.proofs.Offered.{key-eq, endpoint-eq}
 use Rattle.activity.specs.Lives.{Activity}
 use Rattle.slots.specs.Rows.{Row}
 use Rattle.slots.specs.Rows as slots
+use Rattle.slots.specs.declared.ranks.Rank.{Rank}
 use Rattle.bindings.specs.declared.entries.Entry.{Entry}
 use Rattle.bindings.specs.declared.store.Item.{Item}
-use Rattle.bindings.specs.Entries.{is_pair, serves, entry_of, entry_in, HasDistinctEndpoints}
+use Rattle.bindings.specs.Entries.{is_of_rank, serves, entry_on, entry_in, HasDistinctEndpoints}
 use Rattle.bindings.specs.Lists.{with_state, key_place}
 use Rattle.bindings.specs.Lives.{lives_with}
 use Rattle.bindings.specs.Stores.{entries_of, lives_of, AreKeyed, number_for}
@@ -38,9 +39,9 @@ mapped : (b : Bool) (z : Row Item) (o : Option (Row Item)) → option_map (λ (y
 mapped true z o = refl
 mapped false z o = refl
 
--- where no pair serves an endpoint, no slot does
-pub number-none : (rows : List (Row Item)) (x : Endpoint) → entry_of (entries_of rows) x ≡ None → number_for rows x ≡ None
-number-none rows x h = by (find (λ (r : Row Item). serves x r.item.entry) rows) (sym (entry-is rows x) ∙ h)
+-- where no pair of a rank serves an endpoint, no slot does
+pub number-none : (rank : Rank) (rows : List (Row Item)) (x : Endpoint) → entry_on rank (entries_of rows) x ≡ None → number_for rows rank x ≡ None
+number-none rank rows x h = by (find (λ (r : Row Item). serves rank x r.item.entry) rows) (sym (entry-is rank rows x) ∙ h)
   where
     by : (o : Option (Row Item)) → option_map (λ (r : Row Item). r.item.entry) o ≡ None → option_map (λ (r : Row Item). r.number) o ≡ None
     by None h = refl
@@ -62,51 +63,51 @@ none-later low key x rows r e =
     below-none (suc (key_place x.key)) rows key r.1 (omega (arith, here))
 
 -- a pair before another in the list doesn't serve its endpoint
-apart : (key : Key) (x : Endpoint) (y : Row Item) (rows : List (Row Item)) (i : Item) → slots.item_of rows key ≡ Some i → HasDistinctEndpoints (entries_of (y ∷ rows)) → serves x y.item.entry ≡ true → serves x i.entry ≡ true → ⊥
-apart key x y rows i h d a b = by (slots.row_of rows key) refl h
+apart : (rank : Rank) (key : Key) (x : Endpoint) (y : Row Item) (rows : List (Row Item)) (i : Item) → slots.item_of rows key ≡ Some i → HasDistinctEndpoints (entries_of (y ∷ rows)) → serves rank x y.item.entry ≡ true → serves rank x i.entry ≡ true → ⊥
+apart rank key x y rows i h d a b = by (slots.row_of rows key) refl h
   where
     by : (o : Option (Row Item)) → slots.row_of rows key ≡ o → option_map (λ (r : Row Item). r.item) o ≡ Some i → ⊥
     by None e f = cc
     by (Some r) e f =
         let same : r.item ≡ i = cc in
-        let its = and_parts (is_pair y.item.entry.state) (same_endpoint y.item.entry.pair.endpoint x) a in
-        let none : entry_of (entries_of rows) x ≡ None = ap (entry_of (entries_of rows)) (sym (endpoint-eq y.item.entry.pair.endpoint x its.1)) ∙ d.0 its.0 in
-        found-none (slots.has_key key) (λ (z : Row Item). serves x z.item.entry) rows r e (ap (λ (z : Item). serves x z.entry) same ∙ b) (nothing none)
+        let its = and_parts (is_of_rank rank y.item.entry.state) (same_endpoint y.item.entry.pair.endpoint x) a in
+        let none : entry_on rank (entries_of rows) x ≡ None = ap (entry_on rank (entries_of rows)) (sym (endpoint-eq y.item.entry.pair.endpoint x its.1)) ∙ d.0 rank its.0 in
+        found-none (slots.has_key key) (λ (z : Row Item). serves rank x z.item.entry) rows r e (ap (λ (z : Item). serves rank x z.entry) same ∙ b) (nothing none)
       where
-        nothing : entry_of (entries_of rows) x ≡ None → find (λ (z : Row Item). serves x z.item.entry) rows ≡ None
-        nothing none = at (find (λ (z : Row Item). serves x z.item.entry) rows) (sym (entry-is rows x) ∙ none)
+        nothing : entry_on rank (entries_of rows) x ≡ None → find (λ (z : Row Item). serves rank x z.item.entry) rows ≡ None
+        nothing none = at (find (λ (z : Row Item). serves rank x z.item.entry) rows) (sym (entry-is rank rows x) ∙ none)
           where
             at : (o : Option (Row Item)) → option_map (λ (z : Row Item). z.item.entry) o ≡ None → o ≡ None
             at None h = refl
             at (Some z) h = cc
 
 -- the slot that serves an endpoint after the row of a key was removed
-pub number-without : (low : ℕ) (key : Key) (rows : List (Row Item)) (i : Item) (x : Endpoint) → slots.Rises low rows → slots.item_of rows key ≡ Some i → (is_pair i.entry.state ≡ true → HasDistinctEndpoints (entries_of rows))
-    → number_for (slots.without key rows) x ≡ cond (serves x i.entry) None (number_for rows x)
-number-without low key [] i x r h d = absurd (cc)
-number-without low key (y ∷ rows) i x r h d = by (same_key y.key key) refl (number-without (suc (key_place y.key)) key rows i x r.1)
+pub number-without : (rank : Rank) (low : ℕ) (key : Key) (rows : List (Row Item)) (i : Item) (x : Endpoint) → slots.Rises low rows → slots.item_of rows key ≡ Some i → (is_of_rank rank i.entry.state ≡ true → HasDistinctEndpoints (entries_of rows))
+    → number_for (slots.without key rows) rank x ≡ cond (serves rank x i.entry) None (number_for rows rank x)
+number-without rank low key [] i x r h d = absurd (cc)
+number-without rank low key (y ∷ rows) i x r h d = by (same_key y.key key) refl (number-without rank (suc (key_place y.key)) key rows i x r.1)
   where
-    alone : y.item ≡ i → (b : Bool) → serves x i.entry ≡ b → number_for rows x ≡ cond b None (cond b (Some y.number) (number_for rows x))
+    alone : y.item ≡ i → (b : Bool) → serves rank x i.entry ≡ b → number_for rows rank x ≡ cond b None (cond b (Some y.number) (number_for rows rank x))
     alone same true s =
-        let its = and_parts (is_pair i.entry.state) (same_endpoint i.entry.pair.endpoint x) s in
+        let its = and_parts (is_of_rank rank i.entry.state) (same_endpoint i.entry.pair.endpoint x) s in
         let mine : y.item.entry.pair.endpoint ≡ x = ap (λ (z : Item). z.entry.pair.endpoint) same ∙ endpoint-eq i.entry.pair.endpoint x its.1 in
-        number-none rows x (ap (entry_of (entries_of rows)) (sym mine) ∙ (d its.0).0 (ap (λ (z : Item). is_pair z.entry.state) same ∙ its.0))
+        number-none rank rows x (ap (entry_on rank (entries_of rows)) (sym mine) ∙ (d its.0).0 rank (ap (λ (z : Item). is_of_rank rank z.entry.state) same ∙ its.0))
     alone same false s = refl
 
-    by : (b : Bool) → same_key y.key key ≡ b → (slots.item_of rows key ≡ Some i → (is_pair i.entry.state ≡ true → HasDistinctEndpoints (entries_of rows)) → number_for (slots.without key rows) x ≡ cond (serves x i.entry) None (number_for rows x)) → number_for (slots.without key (y ∷ rows)) x ≡ cond (serves x i.entry) None (number_for (y ∷ rows) x)
+    by : (b : Bool) → same_key y.key key ≡ b → (slots.item_of rows key ≡ Some i → (is_of_rank rank i.entry.state ≡ true → HasDistinctEndpoints (entries_of rows)) → number_for (slots.without key rows) rank x ≡ cond (serves rank x i.entry) None (number_for rows rank x)) → number_for (slots.without key (y ∷ rows)) rank x ≡ cond (serves rank x i.entry) None (number_for (y ∷ rows) rank x)
     by true e ih =
         let same = item-here key y rows i e h in
-        ap (λ b. number_for (cond (not b) (y ∷ slots.without key rows) (slots.without key rows)) x) e
-        ∙ ap (λ rs. number_for rs x) (rows-without_none key rows (none-later low key y rows r e))
-        ∙ alone same (serves x i.entry) refl
-        ∙ ap (cond (serves x i.entry) None) (ap (λ (z : Item). cond (serves x z.entry) (Some y.number) (number_for rows x)) (sym same) ∙ sym (mapped (serves x y.item.entry) y (find (λ (z : Row Item). serves x z.item.entry) rows)))
+        ap (λ b. number_for (cond (not b) (y ∷ slots.without key rows) (slots.without key rows)) rank x) e
+        ∙ ap (λ rs. number_for rs rank x) (rows-without_none key rows (none-later low key y rows r e))
+        ∙ alone same (serves rank x i.entry) refl
+        ∙ ap (cond (serves rank x i.entry) None) (ap (λ (z : Item). cond (serves rank x z.entry) (Some y.number) (number_for rows rank x)) (sym same) ∙ sym (mapped (serves rank x y.item.entry) y (find (λ (z : Row Item). serves rank x z.item.entry) rows)))
     by false e ih =
         let later = item-later key y rows i e h in
-        ap (λ b. number_for (cond (not b) (y ∷ slots.without key rows) (slots.without key rows)) x) e
-        ∙ mapped (serves x y.item.entry) y (find (λ (z : Row Item). serves x z.item.entry) (slots.without key rows))
-        ∙ ap (cond (serves x y.item.entry) (Some y.number)) (ih later (λ p. (d p).1))
-        ∙ swap_choices (serves x y.item.entry) (serves x i.entry) (Some y.number) None (number_for rows x) (λ a b. apart key x y rows i later (d (and_parts (is_pair i.entry.state) (same_endpoint i.entry.pair.endpoint x) b).0) a b)
-        ∙ ap (cond (serves x i.entry) None) (sym (mapped (serves x y.item.entry) y (find (λ (z : Row Item). serves x z.item.entry) rows)))
+        ap (λ b. number_for (cond (not b) (y ∷ slots.without key rows) (slots.without key rows)) rank x) e
+        ∙ mapped (serves rank x y.item.entry) y (find (λ (z : Row Item). serves rank x z.item.entry) (slots.without key rows))
+        ∙ ap (cond (serves rank x y.item.entry) (Some y.number)) (ih later (λ p. (d p).1))
+        ∙ swap_choices (serves rank x y.item.entry) (serves rank x i.entry) (Some y.number) None (number_for rows rank x) (λ a b. apart rank key x y rows i later (d (and_parts (is_of_rank rank i.entry.state) (same_endpoint i.entry.pair.endpoint x) b).0) a b)
+        ∙ ap (cond (serves rank x i.entry) None) (sym (mapped (serves rank x y.item.entry) y (find (λ (z : Row Item). serves rank x z.item.entry) rows)))
 
 -- ---- one row with another item
 
@@ -195,59 +196,59 @@ lives-nowhere key g (x ∷ rows) k h = by (same_key x.item.entry.pair.key key) (
     by false f ih = ap (λ ls. x.item.life ∷ ls) (ih (sym (ap (λ b. option_map (λ (r : Row Item). r.item) (cond b (Some x) (slots.row_of rows key))) f) ∙ h))
 
 -- the slot that serves an endpoint after the row of a key got another item, of the same pair
-pub number-with : (low : ℕ) (key : Key) (t i : Item) (rows : List (Row Item)) (x : Endpoint) → slots.Rises low rows → slots.item_of rows key ≡ Some i → t.entry.pair.endpoint ≡ i.entry.pair.endpoint
-    → (is_pair t.entry.state ≡ true → is_pair i.entry.state ≡ true) → (is_pair i.entry.state ≡ true → is_pair t.entry.state ≡ false → HasDistinctEndpoints (entries_of rows))
-    → number_for (slots.with_item key t rows) x ≡ cond (serves x i.entry && not (is_pair t.entry.state)) None (number_for rows x)
-number-with low key t i [] x r h same back d = absurd (cc)
-number-with low key t i (y ∷ rows) x r h same back d = by (same_key y.key key) refl (number-with (suc (key_place y.key)) key t i rows x r.1)
+pub number-with : (rank : Rank) (low : ℕ) (key : Key) (t i : Item) (rows : List (Row Item)) (x : Endpoint) → slots.Rises low rows → slots.item_of rows key ≡ Some i → t.entry.pair.endpoint ≡ i.entry.pair.endpoint
+    → (is_of_rank rank t.entry.state ≡ true → is_of_rank rank i.entry.state ≡ true) → (is_of_rank rank i.entry.state ≡ true → is_of_rank rank t.entry.state ≡ false → HasDistinctEndpoints (entries_of rows))
+    → number_for (slots.with_item key t rows) rank x ≡ cond (serves rank x i.entry && not (is_of_rank rank t.entry.state)) None (number_for rows rank x)
+number-with rank low key t i [] x r h same back d = absurd (cc)
+number-with rank low key t i (y ∷ rows) x r h same back d = by (same_key y.key key) refl (number-with rank (suc (key_place y.key)) key t i rows x r.1)
   where
-    alone : y.item ≡ i → (a b p : Bool) → is_pair t.entry.state ≡ p → is_pair i.entry.state ≡ a → same_endpoint i.entry.pair.endpoint x ≡ b → cond (p && b) (Some y.number) (number_for rows x) ≡ cond ((a && b) && not p) None (cond (a && b) (Some y.number) (number_for rows x))
+    alone : y.item ≡ i → (a b p : Bool) → is_of_rank rank t.entry.state ≡ p → is_of_rank rank i.entry.state ≡ a → same_endpoint i.entry.pair.endpoint x ≡ b → cond (p && b) (Some y.number) (number_for rows rank x) ≡ cond ((a && b) && not p) None (cond (a && b) (Some y.number) (number_for rows rank x))
     alone e true true true f g o = refl
     alone e true false true f g o = refl
-    alone e false b true f g o = absurd (both_ways (is_pair i.entry.state) g (back f))
+    alone e false b true f g o = absurd (both_ways (is_of_rank rank i.entry.state) g (back f))
     alone e true true false f g o =
         let mine : y.item.entry.pair.endpoint ≡ x = ap (λ (z : Item). z.entry.pair.endpoint) e ∙ endpoint-eq i.entry.pair.endpoint x o in
-        number-none rows x (ap (entry_of (entries_of rows)) (sym mine) ∙ (d g f).0 (ap (λ (z : Item). is_pair z.entry.state) e ∙ g))
+        number-none rank rows x (ap (entry_on rank (entries_of rows)) (sym mine) ∙ (d g f).0 rank (ap (λ (z : Item). is_of_rank rank z.entry.state) e ∙ g))
     alone e true false false f g o = refl
     alone e false b false f g o = refl
 
     by : (b : Bool) → same_key y.key key ≡ b
-        → (slots.item_of rows key ≡ Some i → t.entry.pair.endpoint ≡ i.entry.pair.endpoint → (is_pair t.entry.state ≡ true → is_pair i.entry.state ≡ true) → (is_pair i.entry.state ≡ true → is_pair t.entry.state ≡ false → HasDistinctEndpoints (entries_of rows)) → number_for (slots.with_item key t rows) x ≡ cond (serves x i.entry && not (is_pair t.entry.state)) None (number_for rows x))
-        → number_for (slots.with_item key t (y ∷ rows)) x ≡ cond (serves x i.entry && not (is_pair t.entry.state)) None (number_for (y ∷ rows) x)
+        → (slots.item_of rows key ≡ Some i → t.entry.pair.endpoint ≡ i.entry.pair.endpoint → (is_of_rank rank t.entry.state ≡ true → is_of_rank rank i.entry.state ≡ true) → (is_of_rank rank i.entry.state ≡ true → is_of_rank rank t.entry.state ≡ false → HasDistinctEndpoints (entries_of rows)) → number_for (slots.with_item key t rows) rank x ≡ cond (serves rank x i.entry && not (is_of_rank rank t.entry.state)) None (number_for rows rank x))
+        → number_for (slots.with_item key t (y ∷ rows)) rank x ≡ cond (serves rank x i.entry && not (is_of_rank rank t.entry.state)) None (number_for (y ∷ rows) rank x)
     by true f ih =
         let e = item-here key y rows i f h in
-        ap (λ rs. number_for rs x) (with-here key t y rows f (none-later low key y rows r f))
-        ∙ mapped (serves x t.entry) (record y { item = t }) (find (λ (z : Row Item). serves x z.item.entry) rows)
-        ∙ ap (λ (z : Endpoint). cond (is_pair t.entry.state && same_endpoint z x) (Some y.number) (number_for rows x)) same
-        ∙ alone e (is_pair i.entry.state) (same_endpoint i.entry.pair.endpoint x) (is_pair t.entry.state) refl refl refl
-        ∙ ap (cond (serves x i.entry && not (is_pair t.entry.state)) None) (ap (λ (z : Item). cond (serves x z.entry) (Some y.number) (number_for rows x)) (sym e) ∙ sym (mapped (serves x y.item.entry) y (find (λ (z : Row Item). serves x z.item.entry) rows)))
+        ap (λ rs. number_for rs rank x) (with-here key t y rows f (none-later low key y rows r f))
+        ∙ mapped (serves rank x t.entry) (record y { item = t }) (find (λ (z : Row Item). serves rank x z.item.entry) rows)
+        ∙ ap (λ (z : Endpoint). cond (is_of_rank rank t.entry.state && same_endpoint z x) (Some y.number) (number_for rows rank x)) same
+        ∙ alone e (is_of_rank rank i.entry.state) (same_endpoint i.entry.pair.endpoint x) (is_of_rank rank t.entry.state) refl refl refl
+        ∙ ap (cond (serves rank x i.entry && not (is_of_rank rank t.entry.state)) None) (ap (λ (z : Item). cond (serves rank x z.entry) (Some y.number) (number_for rows rank x)) (sym e) ∙ sym (mapped (serves rank x y.item.entry) y (find (λ (z : Row Item). serves rank x z.item.entry) rows)))
     by false f ih =
         let later = item-later key y rows i f h in
-        ap (λ rs. number_for rs x) (with-later key t y rows f)
-        ∙ mapped (serves x y.item.entry) y (find (λ (z : Row Item). serves x z.item.entry) (slots.with_item key t rows))
-        ∙ ap (cond (serves x y.item.entry) (Some y.number)) (ih later same back (λ p q. (d p q).1))
-        ∙ swap_choices (serves x y.item.entry) (serves x i.entry && not (is_pair t.entry.state)) (Some y.number) None (number_for rows x) clash
-        ∙ ap (cond (serves x i.entry && not (is_pair t.entry.state)) None) (sym (mapped (serves x y.item.entry) y (find (λ (z : Row Item). serves x z.item.entry) rows)))
+        ap (λ rs. number_for rs rank x) (with-later key t y rows f)
+        ∙ mapped (serves rank x y.item.entry) y (find (λ (z : Row Item). serves rank x z.item.entry) (slots.with_item key t rows))
+        ∙ ap (cond (serves rank x y.item.entry) (Some y.number)) (ih later same back (λ p q. (d p q).1))
+        ∙ swap_choices (serves rank x y.item.entry) (serves rank x i.entry && not (is_of_rank rank t.entry.state)) (Some y.number) None (number_for rows rank x) clash
+        ∙ ap (cond (serves rank x i.entry && not (is_of_rank rank t.entry.state)) None) (sym (mapped (serves rank x y.item.entry) y (find (λ (z : Row Item). serves rank x z.item.entry) rows)))
       where
-        clash : serves x y.item.entry ≡ true → (serves x i.entry && not (is_pair t.entry.state)) ≡ true → ⊥
+        clash : serves rank x y.item.entry ≡ true → (serves rank x i.entry && not (is_of_rank rank t.entry.state)) ≡ true → ⊥
         clash a b =
-            let both = and_parts (serves x i.entry) (not (is_pair t.entry.state)) b in
-            let pair = and_parts (is_pair i.entry.state) (same_endpoint i.entry.pair.endpoint x) both.0 in
-            apart key x y rows i (item-later key y rows i f h) (d pair.0 (not-true (is_pair t.entry.state) both.1)) a both.0
+            let both = and_parts (serves rank x i.entry) (not (is_of_rank rank t.entry.state)) b in
+            let pair = and_parts (is_of_rank rank i.entry.state) (same_endpoint i.entry.pair.endpoint x) both.0 in
+            apart rank key x y rows i (item-later key y rows i f h) (d pair.0 (not-true (is_of_rank rank t.entry.state) both.1)) a both.0
 
-pub number-same : (low : ℕ) (key : Key) (t i : Item) (rows : List (Row Item)) (x : Endpoint) → slots.Rises low rows → slots.item_of rows key ≡ Some i → t.entry ≡ i.entry → number_for (slots.with_item key t rows) x ≡ number_for rows x
-number-same low key t i [] x r h same = refl
-number-same low key t i (y ∷ rows) x r h same = by (same_key y.key key) refl (number-same (suc (key_place y.key)) key t i rows x r.1)
+pub number-same : (rank : Rank) (low : ℕ) (key : Key) (t i : Item) (rows : List (Row Item)) (x : Endpoint) → slots.Rises low rows → slots.item_of rows key ≡ Some i → t.entry ≡ i.entry → number_for (slots.with_item key t rows) rank x ≡ number_for rows rank x
+number-same rank low key t i [] x r h same = refl
+number-same rank low key t i (y ∷ rows) x r h same = by (same_key y.key key) refl (number-same rank (suc (key_place y.key)) key t i rows x r.1)
   where
-    by : (b : Bool) → same_key y.key key ≡ b → (slots.item_of rows key ≡ Some i → t.entry ≡ i.entry → number_for (slots.with_item key t rows) x ≡ number_for rows x) → number_for (slots.with_item key t (y ∷ rows)) x ≡ number_for (y ∷ rows) x
+    by : (b : Bool) → same_key y.key key ≡ b → (slots.item_of rows key ≡ Some i → t.entry ≡ i.entry → number_for (slots.with_item key t rows) rank x ≡ number_for rows rank x) → number_for (slots.with_item key t (y ∷ rows)) rank x ≡ number_for (y ∷ rows) rank x
     by true f ih =
         let e = item-here key y rows i f h in
-        ap (λ rs. number_for rs x) (with-here key t y rows f (none-later low key y rows r f))
-        ∙ mapped (serves x t.entry) (record y { item = t }) (find (λ (z : Row Item). serves x z.item.entry) rows)
-        ∙ ap (λ (z : Entry). cond (serves x z) (Some y.number) (number_for rows x)) (same ∙ ap (λ (z : Item). z.entry) (sym e))
-        ∙ sym (mapped (serves x y.item.entry) y (find (λ (z : Row Item). serves x z.item.entry) rows))
+        ap (λ rs. number_for rs rank x) (with-here key t y rows f (none-later low key y rows r f))
+        ∙ mapped (serves rank x t.entry) (record y { item = t }) (find (λ (z : Row Item). serves rank x z.item.entry) rows)
+        ∙ ap (λ (z : Entry). cond (serves rank x z) (Some y.number) (number_for rows rank x)) (same ∙ ap (λ (z : Item). z.entry) (sym e))
+        ∙ sym (mapped (serves rank x y.item.entry) y (find (λ (z : Row Item). serves rank x z.item.entry) rows))
     by false f ih =
-        ap (λ rs. number_for rs x) (with-later key t y rows f)
-        ∙ mapped (serves x y.item.entry) y (find (λ (z : Row Item). serves x z.item.entry) (slots.with_item key t rows))
-        ∙ ap (cond (serves x y.item.entry) (Some y.number)) (ih (item-later key y rows i f h) same)
-        ∙ sym (mapped (serves x y.item.entry) y (find (λ (z : Row Item). serves x z.item.entry) rows))
+        ap (λ rs. number_for rs rank x) (with-later key t y rows f)
+        ∙ mapped (serves rank x y.item.entry) y (find (λ (z : Row Item). serves rank x z.item.entry) (slots.with_item key t rows))
+        ∙ ap (cond (serves rank x y.item.entry) (Some y.number)) (ih (item-later key y rows i f h) same)
+        ∙ sym (mapped (serves rank x y.item.entry) y (find (λ (z : Row Item). serves rank x z.item.entry) rows))

@@ -26,7 +26,7 @@ use Rattle.bindings.proofs.Edits.{restated, either_slot, slot-without}
 use Rattle.bindings.proofs.Orders.{rises-map, rises-filter, order-put, order-turn, order-drop}
 use Rattle.bindings.proofs.Revived.{pairs_of, none-kept, endpoints-woken, length-revived}
 use Rattle.bindings.proofs.Places.{length-put, length-keep}
-use Rattle.bindings.proofs.Turned.{IsPairAt, keys-turn, endpoints-turn, length-turn}
+use Rattle.bindings.proofs.Turned.{KeepsRank, keys-turn, endpoints-turn, length-turn}
 use Rattle.bindings.proofs.Pasts.{length-lives_without}
 use Rattle.bindings.proofs.Owning.{free-taken, free-put_back, free-same, alike-same}
 
@@ -78,11 +78,11 @@ none-mapped true f (Some x) = refl
 none-mapped false f o = refl
 
 -- a table keeps the rules after the state of an entry was changed
-pub stored-turn : (es : List Entry) (ls : List Activity) (ports : Ports) (low high : PortBounds) (cap places : ℕ) (key : Key) (state : EntryState) → IsStored es ls ports low high cap places → IsPairAt key es → IsStored (with_state key state es) ls ports low high cap places
-stored-turn es ls ports low high cap places key state s pair = record {
+pub stored-turn : (es : List Entry) (ls : List Activity) (ports : Ports) (low high : PortBounds) (cap places : ℕ) (key : Key) (state : EntryState) → IsStored es ls ports low high cap places → KeepsRank key state es → IsStored (with_state key state es) ls ports low high cap places
+stored-turn es ls ports low high cap places key state s ranks = record {
   order = order-turn key state es s.order;
   keys = keys-turn key state es s.keys;
-  endpoints = endpoints-turn key state es s.keys pair s.endpoints;
+  endpoints = endpoints-turn key state es s.keys ranks s.endpoints;
   alike = s.alike ∙ sym (length-turn key state es);
   within = (let n = length-turn key state es in let h = s.within in omega arith);
   room = s.room;

@@ -9,8 +9,9 @@ use Rattle.nat_types.specs.Same.{same_key, same_endpoint}
 use Rattle.nat_types.proofs.Offered.{key-eq, key-true, key-false, endpoint-eq}
 use Rattle.slots.specs.Rows.{Row}
 use Rattle.slots.specs.Rows as slots
+use Rattle.slots.specs.declared.ranks.Rank.{Rank}
 use Rattle.bindings.specs.declared.store.Item.{Item}
-use Rattle.bindings.specs.Entries.{is_pair, serves, slot_of, entry_of, place_of}
+use Rattle.bindings.specs.Entries.{is_of_rank, serves, slot_of, entry_on, place_of}
 use Rattle.bindings.specs.Lists.{place_in, put_in, without, stands_behind, after_key, key_place, RisesUp}
 use Rattle.bindings.specs.Lives.{life_in, lives_without}
 use Rattle.bindings.specs.Stores.{entries_of, lives_of, AreKeyed, number_for}
@@ -47,11 +48,11 @@ after-is (r ∷ rows) last k = by (stands_behind last r.item.entry) (test last) 
     by true e ih = rw e refl
     by false e ih = rw e ih
 
-pub entry-is : (rows : List (Row Item)) (x : Endpoint) → entry_of (entries_of rows) x ≡ option_map (λ (r : Row Item). r.item.entry) (find (λ (r : Row Item). serves x r.item.entry) rows)
-entry-is [] x = refl
-entry-is (r ∷ rows) x = by (serves x r.item.entry) (entry-is rows x)
+pub entry-is : (rank : Rank) (rows : List (Row Item)) (x : Endpoint) → entry_on rank (entries_of rows) x ≡ option_map (λ (r : Row Item). r.item.entry) (find (λ (r : Row Item). serves rank x r.item.entry) rows)
+entry-is rank [] x = refl
+entry-is rank (r ∷ rows) x = by (serves rank x r.item.entry) (entry-is rank rows x)
   where
-    by : (b : Bool) → entry_of (entries_of rows) x ≡ option_map (λ (r : Row Item). r.item.entry) (find (λ (r : Row Item). serves x r.item.entry) rows) → cond b (Some r.item.entry) (entry_of (entries_of rows) x) ≡ option_map (λ (y : Row Item). y.item.entry) (cond b (Some r) (find (λ (y : Row Item). serves x y.item.entry) rows))
+    by : (b : Bool) → entry_on rank (entries_of rows) x ≡ option_map (λ (r : Row Item). r.item.entry) (find (λ (r : Row Item). serves rank x r.item.entry) rows) → cond b (Some r.item.entry) (entry_on rank (entries_of rows) x) ≡ option_map (λ (y : Row Item). y.item.entry) (cond b (Some r) (find (λ (y : Row Item). serves rank x y.item.entry) rows))
     by true ih = refl
     by false ih = ih
 
@@ -119,35 +120,35 @@ lives-put r (x ∷ rows) k e =
     by false f ih = rw f (ap (λ ls. x.item.life ∷ ls) ih)
 
 -- the slot that serves an endpoint after one row was put in
-pub number-put : (r : Row Item) (rows : List (Row Item)) (x : Endpoint) → (is_pair r.item.entry.state ≡ true → entry_of (entries_of rows) r.item.entry.pair.endpoint ≡ None)
-    → number_for (slots.put_in r rows) x ≡ cond (serves x r.item.entry) (Some r.number) (number_for rows x)
-number-put r [] x free = by (serves x r.item.entry)
+pub number-put : (rank : Rank) (r : Row Item) (rows : List (Row Item)) (x : Endpoint) → (is_of_rank rank r.item.entry.state ≡ true → entry_on rank (entries_of rows) r.item.entry.pair.endpoint ≡ None)
+    → number_for (slots.put_in r rows) rank x ≡ cond (serves rank x r.item.entry) (Some r.number) (number_for rows rank x)
+number-put rank r [] x free = by (serves rank x r.item.entry)
   where
     by : (b : Bool) → option_map (λ (y : Row Item). y.number) (cond b (Some r) None) ≡ cond b (Some r.number) None
     by true = refl
     by false = refl
-number-put r (y ∷ rows) x free =
-    by (nat_lt (key_place r.key) (key_place y.key)) (number-put r rows x (λ p. (find-none (serves r.item.entry.pair.endpoint) y.item.entry (entries_of rows) (free p)).1))
+number-put rank r (y ∷ rows) x free =
+    by (nat_lt (key_place r.key) (key_place y.key)) (number-put rank r rows x (λ p. (find-none (serves rank r.item.entry.pair.endpoint) y.item.entry (entries_of rows) (free p)).1))
   where
     mapped : (b : Bool) (z : Row Item) (o : Option (Row Item)) → option_map (λ (y : Row Item). y.number) (cond b (Some z) o) ≡ cond b (Some z.number) (option_map (λ (y : Row Item). y.number) o)
     mapped true z o = refl
     mapped false z o = refl
 
-    clash : serves x y.item.entry ≡ true → serves x r.item.entry ≡ true → ⊥
+    clash : serves rank x y.item.entry ≡ true → serves rank x r.item.entry ≡ true → ⊥
     clash a b =
-        let mine = and_parts (is_pair r.item.entry.state) (same_endpoint r.item.entry.pair.endpoint x) b in
-        let its = and_parts (is_pair y.item.entry.state) (same_endpoint y.item.entry.pair.endpoint x) a in
-        let none = (find-none (serves r.item.entry.pair.endpoint) y.item.entry (entries_of rows) (free mine.0)).0 in
+        let mine = and_parts (is_of_rank rank r.item.entry.state) (same_endpoint r.item.entry.pair.endpoint x) b in
+        let its = and_parts (is_of_rank rank y.item.entry.state) (same_endpoint y.item.entry.pair.endpoint x) a in
+        let none = (find-none (serves rank r.item.entry.pair.endpoint) y.item.entry (entries_of rows) (free mine.0)).0 in
         let one : r.item.entry.pair.endpoint ≡ x = endpoint-eq r.item.entry.pair.endpoint x mine.1 in
-        both_ways (serves x y.item.entry) (ap (λ (z : Endpoint). serves z y.item.entry) (sym one) ∙ none) a
+        both_ways (serves rank x y.item.entry) (ap (λ (z : Endpoint). serves rank z y.item.entry) (sym one) ∙ none) a
 
-    by : (b : Bool) → number_for (slots.put_in r rows) x ≡ cond (serves x r.item.entry) (Some r.number) (number_for rows x) → number_for (cond b (r ∷ y ∷ rows) (y ∷ slots.put_in r rows)) x ≡ cond (serves x r.item.entry) (Some r.number) (number_for (y ∷ rows) x)
-    by true ih = mapped (serves x r.item.entry) r (find (λ (z : Row Item). serves x z.item.entry) (y ∷ rows))
+    by : (b : Bool) → number_for (slots.put_in r rows) rank x ≡ cond (serves rank x r.item.entry) (Some r.number) (number_for rows rank x) → number_for (cond b (r ∷ y ∷ rows) (y ∷ slots.put_in r rows)) rank x ≡ cond (serves rank x r.item.entry) (Some r.number) (number_for (y ∷ rows) rank x)
+    by true ih = mapped (serves rank x r.item.entry) r (find (λ (z : Row Item). serves rank x z.item.entry) (y ∷ rows))
     by false ih =
-        mapped (serves x y.item.entry) y (find (λ (z : Row Item). serves x z.item.entry) (slots.put_in r rows))
-        ∙ ap (cond (serves x y.item.entry) (Some y.number)) ih
-        ∙ swap_choices (serves x y.item.entry) (serves x r.item.entry) (Some y.number) (Some r.number) (number_for rows x) clash
-        ∙ ap (cond (serves x r.item.entry) (Some r.number)) (sym (mapped (serves x y.item.entry) y (find (λ (z : Row Item). serves x z.item.entry) rows)))
+        mapped (serves rank x y.item.entry) y (find (λ (z : Row Item). serves rank x z.item.entry) (slots.put_in r rows))
+        ∙ ap (cond (serves rank x y.item.entry) (Some y.number)) ih
+        ∙ swap_choices (serves rank x y.item.entry) (serves rank x r.item.entry) (Some y.number) (Some r.number) (number_for rows rank x) clash
+        ∙ ap (cond (serves rank x r.item.entry) (Some r.number)) (sym (mapped (serves rank x y.item.entry) y (find (λ (z : Row Item). serves rank x z.item.entry) rows)))
 
 -- ---- one row less
 

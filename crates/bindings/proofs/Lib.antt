@@ -1,4 +1,5 @@
 mod Found
+mod Ranked
 mod Slots
 mod Edits
 mod Members
@@ -20,6 +21,7 @@ mod Changes
 mod Counts
 mod Stored
 mod Walks
+mod Seeking
 mod Dropping
 mod Lived
 mod Renewed

@@ -59,6 +59,15 @@ pub use Rattle.bindings.proofs.Rising.{listed-all}
 pub use Rattle.bindings.proofs.Rooms.{few}
 -- a table whose entries are in the ranges has capacity for a key of the ranges without an entry
 pub use Rattle.bindings.proofs.Rooms.{has-room}
+-- The ranks of pairs, by their states.
+-- a state has a rank exactly where it is that of a pair
+pub use Rattle.bindings.proofs.Ranked.{pair-is}
+-- a state of a rank is of the rank, and the other way round
+pub use Rattle.bindings.proofs.Ranked.{rank-is, is-rank}
+-- a state of a rank is that of a pair, and a pair's state is of some rank
+pub use Rattle.bindings.proofs.Ranked.{rank-pair, pair-rank}
+-- a state of a rank is of no other
+pub use Rattle.bindings.proofs.Ranked.{one-rank}
 -- The slots of a table: by key, and by endpoint.
 pub use Rattle.bindings.proofs.Slots.{keys-put, keys-filter, none-map, keys-map}
 -- where nothing is found in a list, nothing is found after entries are left out
@@ -69,14 +78,29 @@ pub use Rattle.bindings.proofs.Slots.{slot-put}
 pub use Rattle.bindings.proofs.Slots.{other_way}
 -- no reason refuses an entry where there is capacity, a free key and an endpoint without a pair
 pub use Rattle.bindings.proofs.Slots.{refusal-none}
+-- no reason refuses an entry where there is capacity, a free key and an endpoint without a pair of that rank
+pub use Rattle.bindings.proofs.Slots.{refusal-free}
+-- an endpoint without a pair has none of either rank
+pub use Rattle.bindings.proofs.Slots.{none-ranked}
 -- the entry of a key has the key
 pub use Rattle.bindings.proofs.Slots.{slot-key}
+-- the pair of a rank of an endpoint is of the rank and serves it
+pub use Rattle.bindings.proofs.Slots.{ranked-serves}
+-- the pair of an endpoint is that of one rank
+pub use Rattle.bindings.proofs.Slots.{some-ranked}
 -- the entry of an endpoint is a pair that serves it
 pub use Rattle.bindings.proofs.Slots.{entry-serves}
 -- whatever is found is the entry of its key
 pub use Rattle.bindings.proofs.Slots.{found-slot}
--- a pair that is found is the entry of its endpoint
+-- the pair of an endpoint is the entry of its key
+pub use Rattle.bindings.proofs.Slots.{entry-slot}
+-- a pair that is found is that of its rank and endpoint
 pub use Rattle.bindings.proofs.Slots.{found-entry}
+-- A search for the next entry whose state passes.
+-- the first entry after a key that passes is the first that passes of those after the key
+pub use Rattle.bindings.proofs.Seeking.{first-behind}
+-- where none passes, there is none after a key
+pub use Rattle.bindings.proofs.Seeking.{none-counted}
 -- The rules of a list of entries still hold after the state of one entry was changed.
 pub use Rattle.bindings.proofs.Turned.{keys-turn, length-turn}
 -- The ports of a rising list from a port on, and their unbroken runs.

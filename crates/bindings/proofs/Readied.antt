@@ -1,15 +1,17 @@
--- An index has no more endpoints than there are entries, since of each address both have as many.
-use Rattle.std.proofs.Common.{◌≡◌, ℕ, suc, ◌+◌, ◌<◌, ◌≤◌, ◌==◌, inl, inr, Bool, true, false, cond, ◌&&◌, List, [], ◌∷◌, length, map, Result, Ok, Err, OnErr, refl, arith}
+-- An index has no more slots than there are entries, since of each address both have as many.
+use Rattle.std.proofs.Common.{◌≡◌, ℕ, suc, ◌+◌, ◌<◌, ◌≤◌, ◌==◌, inl, inr, Bool, true, false, cond, ◌&&◌, Option, Some, None, List, [], ◌∷◌, length, Result, Ok, Err, OnErr, refl, arith}
 use Rattle.std.specs.List.{count_by}
+use Rattle.std.specs.Option.{is_some}
 use Rattle.std.proofs.lemmas.Bool.{eqb-true, eq-eqb}
-use Rattle.std.proofs.lemmas.List.{length-map}
 use Rattle.std.proofs.lemmas.List.Sums.{sum_by-cons}
 use Rattle.addresses.specs.declared.internet.Ip.{Ip}
 use Rattle.nat_types.specs.declared.pairs.Endpoint.{Endpoint}
 use Rattle.slots.specs.declared.numbers.SlotNumber.{SlotNumber}
 use Rattle.slots.specs.declared.hashers.Hashers.{Hashers}
 use Rattle.slots.specs.Rows.{Row}
-use Rattle.slots.specs.Endpoints.{EndpointIndex, is_of}
+use Rattle.slots.specs.declared.ranks.Places.{Places}
+use Rattle.slots.specs.Ranks.{slot_count}
+use Rattle.slots.specs.Endpoints.{EndpointIndex, slots_among, slots_at, slots_for}
 use Rattle.slots.specs.Memory.{LacksEndpoints}
 use Rattle.bindings.specs.declared.entries.Entry.{Entry}
 use Rattle.bindings.specs.declared.store.Item.{Item}
@@ -61,20 +63,54 @@ no-longer (m ∷ ms) ns most =
 
 -- ---- addresses
 
-abbrev address_in : Endpoint × SlotNumber → ℕ
-address_in e = e.0.address.0
+-- the addresses of the slots of an index, one for each slot
+abbrev once_if : Option SlotNumber → ℕ → List ℕ → List ℕ
+once_if None n ns = ns
+once_if (Some slot) n ns = n ∷ ns
+
+abbrev addresses_in : List (Endpoint × Places) → List ℕ
+addresses_in [] = []
+addresses_in (e ∷ es) = once_if e.1.first e.0.address.0 (once_if e.1.second e.0.address.0 (addresses_in es))
 
 -- the addresses of the pairs among the entries
 abbrev addresses : List Entry → List ℕ
 addresses [] = []
 addresses (e ∷ es) = cond (is_pair e.state) (e.pair.endpoint.address.0 ∷ addresses es) (addresses es)
 
-tally-index : (a : Ip) (es : List (Endpoint × SlotNumber)) → tally a.0 (map address_in es) ≡ count_by (is_of a) es
+tally-once : (a : ℕ) (slot : Option SlotNumber) (n : ℕ) (ns : List ℕ) → tally a (once_if slot n ns) ≡ cond (n == a) (cond (is_some slot) 1 0) 0 + tally a ns
+tally-once a None n ns = by (n == a)
+  where
+    by : (b : Bool) → tally a ns ≡ cond b 0 0 + tally a ns
+    by true = omega arith
+    by false = omega arith
+tally-once a (Some slot) n ns = refl
+
+both-once : (b : Bool) (m n : ℕ) → cond b m 0 + cond b n 0 ≡ (let k : ℕ = cond b (m + n) 0 in k)
+both-once true m n = refl
+both-once false m n = omega arith
+
+tally-index : (a : Ip) (es : List (Endpoint × Places)) → tally a.0 (addresses_in es) ≡ slots_at a es
 tally-index a [] = refl
 tally-index a (e ∷ es) =
-    let all = sum_by-cons (λ (d : Endpoint × SlotNumber). cond (is_of a d) 1 0) e es in
+    let all = sum_by-cons (λ (d : Endpoint × Places). slots_for a d.0 d.1) e es in
+    let one = tally-once a.0 e.1.first e.0.address.0 (once_if e.1.second e.0.address.0 (addresses_in es)) in
+    let two = tally-once a.0 e.1.second e.0.address.0 (addresses_in es) in
+    let both = both-once (e.0.address.0 == a.0) (cond (is_some e.1.first) 1 0) (cond (is_some e.1.second) 1 0) in
     let rest = tally-index a es in
-    omega (arith, all, rest)
+    omega (arith, all, one, two, both, rest)
+
+length-once : (slot : Option SlotNumber) (n : ℕ) (ns : List ℕ) → length (once_if slot n ns) ≡ cond (is_some slot) 1 0 + length ns
+length-once None n ns = omega arith
+length-once (Some slot) n ns = omega arith
+
+length-index : (es : List (Endpoint × Places)) → length (addresses_in es) ≡ slots_among es
+length-index [] = refl
+length-index (e ∷ es) =
+    let all = sum_by-cons (λ (d : Endpoint × Places). slot_count d.1) e es in
+    let one = length-once e.1.first e.0.address.0 (once_if e.1.second e.0.address.0 (addresses_in es)) in
+    let two = length-once e.1.second e.0.address.0 (addresses_in es) in
+    let rest = length-index es in
+    omega (arith, all, one, two, rest)
 
 tally-pairs : (a : Ip) (es : List Entry) → tally a.0 (addresses es) ≡ count_by (is_pair_of a) es
 tally-pairs a [] = refl
@@ -94,27 +130,27 @@ few-pairs (e ∷ es) = by (is_pair e.state) (few-pairs es)
     by true rest = omega (arith, rest)
     by false rest = omega (arith, rest)
 
-few-indexed : (rows : List (Row Item)) (index : EndpointIndex Hashers) → IsIndexed rows index → length index.entries ≤ length (entries_of rows)
+few-indexed : (rows : List (Row Item)) (index : EndpointIndex Hashers) → IsIndexed rows index → slots_among index.entries ≤ length (entries_of rows)
 few-indexed rows index is =
-    let few = no-longer (map address_in index.entries) (addresses (entries_of rows)) (λ n.
+    let few = no-longer (addresses_in index.entries) (addresses (entries_of rows)) (λ n.
     let a : Ip = record { 0 = n } in
     let own = tally-index a index.entries in
     let same = is.counted a in
     let all = tally-pairs a (entries_of rows) in
     omega (arith, own, same, all)) in
-    let long = length-map index.entries address_in in
+    let long = length-index index.entries in
     let most = few-pairs (entries_of rows) in
     omega (arith, few, long, most)
 
 -- ---- missing memory
 
--- what is missing beside the endpoints of the index is missing beside the entries
+-- what is missing beside the slots of the index is missing beside the entries
 lacks-beside : (more held all : ℕ) → held ≤ all → LacksEndpoints more held → LacksEndpoints more all
 lacks-beside more held all few (inl many) = inl (omega (arith, few, many))
 lacks-beside more held all few (inr refused) = inr refused
 
-pub lacks-more : (more : ℕ) (rows : List (Row Item)) (index : EndpointIndex Hashers) → IsIndexed rows index → LacksEndpoints more (length index.entries) → LacksEndpoints more (length (entries_of rows))
-lacks-more more rows index is = lacks-beside more (length index.entries) (length (entries_of rows)) (few-indexed rows index is)
+pub lacks-more : (more : ℕ) (rows : List (Row Item)) (index : EndpointIndex Hashers) → IsIndexed rows index → LacksEndpoints more (slots_among index.entries) → LacksEndpoints more (length (entries_of rows))
+lacks-more more rows index is = lacks-beside more (slots_among index.entries) (length (entries_of rows)) (few-indexed rows index is)
 
 -- where a statement holds, it holds on Err
 pub lacking : {T E P : Type 0} (r : Result T E) → P → OnErr r P

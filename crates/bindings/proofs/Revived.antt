@@ -3,13 +3,14 @@ use Rattle.std.proofs.Common.{◌≡◌, suc, Bool, true, false, cond, ◌&&◌,
 use Rattle.std.specs.List.{find, filter}
 use Rattle.std.proofs.lemmas.Bool.{both_ways, cond-true, cond-false}
 use Rattle.nat_types.specs.declared.pairs.EntryState.{EntryState}
-use Rattle.nat_types.specs.declared.pairs.EntryState.TheVariants.{Pending, Doomed, Live, Closing, Held}
+use Rattle.nat_types.specs.declared.pairs.EntryState.TheVariants.{Pending, Doomed, Live, Closing, Alone, Held}
 use Rattle.nat_types.specs.declared.pairs.Endpoint.{Endpoint}
 use Rattle.nat_types.specs.declared.pairs.Key.{Key}
 use Rattle.nat_types.specs.Same.{same_endpoint}
 use Rattle.activity.specs.Lives.{Activity}
 use Rattle.bindings.specs.declared.entries.Entry.{Entry}
-use Rattle.bindings.specs.Entries.{is_pair, has_key, serves, slot_of, entry_of, HasDistinctKeys, HasDistinctEndpoints}
+use Rattle.slots.specs.declared.ranks.Rank.{Rank}
+use Rattle.bindings.specs.Entries.{is_of_rank, is_pair, has_key, serves, slot_of, entry_on, HasDistinctKeys, HasDistinctEndpoints}
 use Rattle.bindings.specs.Lists.{without}
 use Rattle.bindings.specs.Lives.{life_in, lives_without}
 use Rattle.bindings.specs.Revivals.{woken, woken_entry, revived_entries, revived_slot, lives_of_pairs}
@@ -68,11 +69,20 @@ all-kept (e ∷ es) (l ∷ ls) same h =
 
 -- ---- all entries once they are woken
 
+pub woken-rank : (rank : Rank) (s : EntryState) → is_of_rank rank (woken s) ≡ is_of_rank rank s
+woken-rank rank (Pending marked) = refl
+woken-rank rank Doomed = refl
+woken-rank rank Live = refl
+woken-rank rank (Closing marked) = refl
+woken-rank rank Alone = refl
+woken-rank rank Held = refl
+
 pub woken-pair : (s : EntryState) → is_pair (woken s) ≡ is_pair s
-woken-pair Pending = refl
+woken-pair (Pending marked) = refl
 woken-pair Doomed = refl
 woken-pair Live = refl
-woken-pair Closing = refl
+woken-pair (Closing marked) = refl
+woken-pair Alone = refl
 woken-pair Held = refl
 
 pub length-revived : (es : List Entry) (ls : List Activity) → length ls ≡ length es → length (lives_of_pairs es ls) ≡ length (revived_entries es)
@@ -84,16 +94,16 @@ length-revived (e ∷ es) (l ∷ ls) same = at (is_pair e.state) (length-revived
     at true ih = ap suc ih
     at false ih = ih
 
-none-woken : (q : Endpoint) (es : List Entry) → entry_of es q ≡ None → entry_of (map woken_entry es) q ≡ None
-none-woken q [] h = refl
-none-woken q (e ∷ es) h =
-    let parts = find-none (serves q) e es h in
-    cond-false (serves q (woken_entry e)) (Some (woken_entry e)) (entry_of (map woken_entry es) q) (ap (λ b. b && same_endpoint e.pair.endpoint q) (woken-pair e.state) ∙ parts.0)
-    ∙ none-woken q es parts.1
+none-woken : (rank : Rank) (q : Endpoint) (es : List Entry) → entry_on rank es q ≡ None → entry_on rank (map woken_entry es) q ≡ None
+none-woken rank q [] h = refl
+none-woken rank q (e ∷ es) h =
+    let parts = find-none (serves rank q) e es h in
+    cond-false (serves rank q (woken_entry e)) (Some (woken_entry e)) (entry_on rank (map woken_entry es) q) (ap (λ b. b && same_endpoint e.pair.endpoint q) (woken-rank rank e.state) ∙ parts.0)
+    ∙ none-woken rank q es parts.1
 
 pub endpoints-woken : (es : List Entry) → HasDistinctEndpoints es → HasDistinctEndpoints (map woken_entry es)
 endpoints-woken [] d = tt
-endpoints-woken (e ∷ es) d = (λ live. none-woken e.pair.endpoint es (d.0 (sym (woken-pair e.state) ∙ live)), endpoints-woken es d.1)
+endpoints-woken (e ∷ es) d = (λ rank live. none-woken rank e.pair.endpoint es (d.0 rank (sym (woken-rank rank e.state) ∙ live)), endpoints-woken es d.1)
 
 -- the same keys have no entry after all entries were woken
 pub none-kept : (es : List Entry) (q : Key) → is_none (slot_of (map woken_entry es) q) ≡ is_none (slot_of es q)

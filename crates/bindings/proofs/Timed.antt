@@ -4,7 +4,7 @@ use Rattle.std.specs.Option.{option_map}
 use Rattle.std.proofs.Math.ListN.{get_or-map}
 use Rattle.std.proofs.lemmas.Bool.{cond-false, both_ways, leb-true}
 use Rattle.nat_types.specs.declared.pairs.EntryState.{EntryState}
-use Rattle.nat_types.specs.declared.pairs.EntryState.TheVariants.{Pending, Doomed, Live, Closing, Held}
+use Rattle.nat_types.specs.declared.pairs.EntryState.TheVariants.{Pending, Doomed, Live, Closing, Alone, Held}
 use Rattle.nat_types.specs.declared.pairs.Key.{Key}
 use Rattle.nat_types.specs.Same.{same_key}
 use Rattle.nat_types.proofs.Offered.{key-eq, key-true}
@@ -164,10 +164,11 @@ keys_of es = map (λ e. e.pair.key) es
 
 -- an entry that may be released otherwise may be released where the gateway is lone
 more-go : (s : EntryState) → may_go false s ≡ true → may_go true s ≡ true
-more-go Pending h = h
+more-go (Pending marked) h = h
 more-go Doomed h = h
 more-go Live h = h
-more-go Closing h = h
+more-go (Closing marked) h = h
+more-go Alone h = h
 more-go Held h = absurd (cc)
 
 -- where the gateway has not just become lone, all keys are looked at in time as before

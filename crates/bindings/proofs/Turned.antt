@@ -1,6 +1,6 @@
 -- The rules of a list of entries still hold after the state of one entry was changed.
 use Rattle.std.proofs.Common.{◌≡◌, Bool, true, false, cond, ◌&&◌, Some, None, List, [], ◌∷◌, length, refl, ap, ◌∙◌}
-use Rattle.std.proofs.lemmas.Bool.{cond-true, cond-false, and_right}
+use Rattle.std.proofs.lemmas.Bool.{cond-true, cond-false, and_right, both_ways}
 use Rattle.std.proofs.lemmas.List.{length-map}
 use Rattle.nat_types.specs.declared.pairs.EntryState.{EntryState}
 use Rattle.nat_types.specs.declared.pairs.Endpoint.{Endpoint}
@@ -8,49 +8,51 @@ use Rattle.nat_types.specs.declared.pairs.Key.{Key}
 use Rattle.nat_types.specs.declared.pairs.Pair.{Pair}
 use Rattle.nat_types.specs.Same.{same_endpoint}
 use Rattle.bindings.specs.declared.entries.Entry.{Entry}
-use Rattle.bindings.specs.Entries.{is_pair, has_key, serves, slot_of, entry_of, entry_in, HasDistinctKeys, HasDistinctEndpoints}
+use Rattle.slots.specs.declared.ranks.Rank.{Rank}
+use Rattle.bindings.specs.Entries.{is_of_rank, has_key, serves, slot_of, entry_on, entry_in, HasDistinctKeys, HasDistinctEndpoints}
 use Rattle.bindings.specs.Lists.{with_state}
 use Rattle.bindings.proofs.Found.{find-none}
 use Rattle.bindings.proofs.Slots.{keys-map}
 use Rattle.bindings.proofs.Orders.{turned-pair}
 use Rattle.bindings.proofs.Places.{turn-none, rest-none}
 
--- the key's entry, if there is one, is a pair
-abbrev pub IsPairAt : Key → List Entry → Type 0
-IsPairAt key es = (x : Entry) → slot_of es key ≡ Some x → is_pair x.state ≡ true
+-- the key's entry, if there is one, is of each rank that the new state has
+abbrev pub KeepsRank : Key → EntryState → List Entry → Type 0
+KeepsRank key s es = (x : Entry) → slot_of es key ≡ Some x → (rank : Rank) → is_of_rank rank s ≡ true → is_of_rank rank x.state ≡ true
 
-in-rest : (key : Key) (x : Entry) (xs : List Entry) → has_key key x ≡ false → IsPairAt key (x ∷ xs) → IsPairAt key xs
-in-rest key x xs other is y h = is y (cond-false (has_key key x) (Some x) (slot_of xs key) other ∙ h)
+in-rest : (key : Key) (s : EntryState) (x : Entry) (xs : List Entry) → has_key key x ≡ false → KeepsRank key s (x ∷ xs) → KeepsRank key s xs
+in-rest key s x xs other is y h = is y (cond-false (has_key key x) (Some x) (slot_of xs key) other ∙ h)
 
-unserved : (b : Bool) (s : Bool) (e : Bool) → (b && e) ≡ false → b ≡ true → (s && e) ≡ false
-unserved true s e h pair = and_right s e h
-unserved false s e h pair = cc
+unserved : (b : Bool) (s : Bool) (e : Bool) → (b && e) ≡ false → (s ≡ true → b ≡ true) → (s && e) ≡ false
+unserved true s e h back = and_right s e h
+unserved false true e h back = absurd (both_ways false refl (back refl))
+unserved false false e h back = refl
 
--- an endpoint without a pair has none after the state of an entry was changed
-none-turned : (key : Key) (s : EntryState) (es : List Entry) (q : Endpoint) → HasDistinctKeys es → IsPairAt key es → entry_of es q ≡ None → entry_of (with_state key s es) q ≡ None
-none-turned key s [] q keys is h = refl
-none-turned key s (x ∷ xs) q keys is h = at (has_key key x) refl (λ other. none-turned key s xs q keys.1 (in-rest key x xs other is) parts.1)
+-- an endpoint without a pair of a rank has none after the state of an entry was changed
+none-turned : (rank : Rank) (key : Key) (s : EntryState) (es : List Entry) (q : Endpoint) → HasDistinctKeys es → KeepsRank key s es → entry_on rank es q ≡ None → entry_on rank (with_state key s es) q ≡ None
+none-turned rank key s [] q keys is h = refl
+none-turned rank key s (x ∷ xs) q keys is h = at (has_key key x) refl (λ other. none-turned rank key s xs q keys.1 (in-rest key s x xs other is) parts.1)
   where
-    parts : (serves q x ≡ false) × (entry_of xs q ≡ None)
-    parts = find-none (serves q) x xs h
+    parts : (serves rank q x ≡ false) × (entry_on rank xs q ≡ None)
+    parts = find-none (serves rank q) x xs h
 
-    at : (b : Bool) → has_key key x ≡ b → (has_key key x ≡ false → entry_of (with_state key s xs) q ≡ None) → entry_of ((let y : Entry = cond b (entry_in s x.pair) x in y) ∷ with_state key s xs) q ≡ None
+    at : (b : Bool) → has_key key x ≡ b → (has_key key x ≡ false → entry_on rank (with_state key s xs) q ≡ None) → entry_on rank ((let y : Entry = cond b (entry_in s x.pair) x in y) ∷ with_state key s xs) q ≡ None
     at true here ih =
-        cond-false (serves q (entry_in s x.pair)) (Some (entry_in s x.pair)) (entry_of (with_state key s xs) q)
-        (unserved (is_pair x.state) (is_pair s) (same_endpoint x.pair.endpoint q) parts.0 (is x (cond-true (has_key key x) (Some x) (slot_of xs key) here)))
-        ∙ ap (λ zs. entry_of zs q) (turn-none key s xs (rest-none key x xs here keys.0)) ∙ parts.1
-    at false other ih = cond-false (serves q x) (Some x) (entry_of (with_state key s xs) q) parts.0 ∙ ih other
+        cond-false (serves rank q (entry_in s x.pair)) (Some (entry_in s x.pair)) (entry_on rank (with_state key s xs) q)
+        (unserved (is_of_rank rank x.state) (is_of_rank rank s) (same_endpoint x.pair.endpoint q) parts.0 (is x (cond-true (has_key key x) (Some x) (slot_of xs key) here) rank))
+        ∙ ap (λ zs. entry_on rank zs q) (turn-none key s xs (rest-none key x xs here keys.0)) ∙ parts.1
+    at false other ih = cond-false (serves rank q x) (Some x) (entry_on rank (with_state key s xs) q) parts.0 ∙ ih other
 
-pub endpoints-turn : (key : Key) (s : EntryState) (es : List Entry) → HasDistinctKeys es → IsPairAt key es → HasDistinctEndpoints es → HasDistinctEndpoints (with_state key s es)
+pub endpoints-turn : (key : Key) (s : EntryState) (es : List Entry) → HasDistinctKeys es → KeepsRank key s es → HasDistinctEndpoints es → HasDistinctEndpoints (with_state key s es)
 endpoints-turn key s [] keys is d = tt
-endpoints-turn key s (x ∷ xs) keys is d = at (has_key key x) refl (λ other. endpoints-turn key s xs keys.1 (in-rest key x xs other is) d.1)
+endpoints-turn key s (x ∷ xs) keys is d = at (has_key key x) refl (λ other. endpoints-turn key s xs keys.1 (in-rest key s x xs other is) d.1)
   where
     at : (b : Bool) → has_key key x ≡ b → (has_key key x ≡ false → HasDistinctEndpoints (with_state key s xs)) → HasDistinctEndpoints ((let y : Entry = cond b (entry_in s x.pair) x in y) ∷ with_state key s xs)
     at true here ih =
         let same = turn-none key s xs (rest-none key x xs here keys.0) in
-        let pair = is x (cond-true (has_key key x) (Some x) (slot_of xs key) here) in
-        rw same (λ live. d.0 pair, d.1)
-    at false other ih = (λ live. none-turned key s xs x.pair.endpoint keys.1 (in-rest key x xs other is) (d.0 live), ih other)
+        let back = is x (cond-true (has_key key x) (Some x) (slot_of xs key) here) in
+        rw same (λ rank live. d.0 rank (back rank live), d.1)
+    at false other ih = (λ rank live. none-turned rank key s xs x.pair.endpoint keys.1 (in-rest key s x xs other is) (d.0 rank live), ih other)
 
 turned-key : (k : Key) (s : EntryState) (x : Entry) → (let y : Entry = cond (has_key k x) (entry_in s x.pair) x in y).pair.key ≡ x.pair.key
 turned-key k s x = ap (λ (p : Pair). p.key) (turned-pair k s x)

@@ -1,12 +1,13 @@
 -- Lists of entries by protocol (icmp first) and port, and their changes.
-use Rattle.std.specs.Prelude.{◌≡◌, ℕ, ◌≤◌, zero, suc, Bool, true, cond, not, nat_lt, List, [], ◌∷◌, map, if◌then◌else◌, Option, Some, None, ◌+◌, ◌*◌}
+use Rattle.std.specs.Prelude.{◌≡◌, ℕ, ◌≤◌, zero, suc, Bool, true, ◌&&◌, cond, not, nat_lt, List, [], ◌∷◌, map, if◌then◌else◌, Option, Some, None, ◌+◌, ◌*◌}
 use Rattle.std.specs.List.{filter, find}
 use Rattle.addresses.specs.Transport.{protocol_number}
 use Rattle.nat_types.specs.declared.pairs.EntryState.{EntryState}
 use Rattle.nat_types.specs.declared.pairs.Key.{Key}
 use Rattle.nat_types.specs.declared.pairs.Pair.{Pair}
+use Rattle.slots.specs.declared.ranks.Rank.{Rank}
 use Rattle.bindings.specs.declared.entries.Entry.{Entry}
-use Rattle.bindings.specs.Entries.{is_pair, has_key, slot_of, entry_in, place_of}
+use Rattle.bindings.specs.Entries.{is_of_rank, has_key, slot_of, entry_in, place_of}
 
 -- how many entries are before a pair's place
 abbrev pub place_in : Pair → List Entry → ℕ
@@ -40,11 +41,11 @@ RisesUp low (x ∷ xs) = (low ≤ place_of x.pair) × RisesUp (suc (place_of x.p
 abbrev pub AreInOrder : List Entry → Type 0
 AreInOrder es = Rises 0 es
 
--- No two keys have entries that serve one endpoint, Doomed ones aside.
+-- No two keys have pairs of one rank that serve one endpoint.
 abbrev pub IsOneToOne : List Entry → Type 0
 IsOneToOne es =
-    (k q : Key) (x y : Entry)
-    → slot_of es k ≡ Some x → slot_of es q ≡ Some y → is_pair x.state ≡ true → is_pair y.state ≡ true
+    (k q : Key) (x y : Entry) (rank : Rank)
+    → slot_of es k ≡ Some x → slot_of es q ≡ Some y → is_of_rank rank x.state ≡ true → is_of_rank rank y.state ≡ true
     → x.pair.endpoint ≡ y.pair.endpoint → k ≡ q
 
 -- a key's place in the order by protocol (icmp first) and port
@@ -59,3 +60,7 @@ stands_behind (Some key) e = nat_lt (key_place key) (place_of e.pair)
 -- the first entry after a key in the order, or the first of all where there is no key
 abbrev pub after_key : Option Key → List Entry → Option Entry
 after_key last es = find (stands_behind last) es
+
+-- the first entry after a key in the order whose state passes
+abbrev pub first_after : (EntryState → Bool) → Option Key → List Entry → Option Entry
+first_after test last es = find (λ e. stands_behind last e && test e.state) es

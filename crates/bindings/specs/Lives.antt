@@ -1,7 +1,7 @@
 -- The lives of a table's entries: the first entry has the first life, and so on.
 use Rattle.std.specs.Prelude.{◌≡◌, ℕ, Bool, true, false, ◌&&◌, List, [], ◌∷◌, Option, Some, None, slice_index_or, slice_set, if◌then◌else◌}
 use Rattle.nat_types.specs.declared.pairs.EntryState.{EntryState}
-use Rattle.nat_types.specs.declared.pairs.EntryState.TheVariants.{Pending, Doomed, Live, Closing, Held}
+use Rattle.nat_types.specs.declared.pairs.EntryState.TheVariants.{Pending, Doomed, Live, Closing, Alone, Held}
 use Rattle.nat_types.specs.declared.pairs.Key.{Key}
 use Rattle.nat_types.specs.Same.{same_key}
 use Rattle.addresses.specs.declared.transport.Protocol.{Protocol}
@@ -46,12 +46,13 @@ pub record IsLifeSet (protocol : Protocol) (goes : History → History) (old new
 
 -- ---- idle pairs
 
--- an idle entry may be released: a Live one, and a Held one where the gateway is lone
+-- an idle entry may be released: a Live or an Alone one, and a Held one where the gateway is lone
 abbrev pub may_go : Bool → EntryState → Bool
-may_go lone Pending = false
+may_go lone (Pending marked) = false
 may_go lone Doomed = false
 may_go lone Live = true
-may_go lone Closing = false
+may_go lone (Closing marked) = false
+may_go lone Alone = true
 may_go lone Held = lone
 
 -- an entry with this life is idle and may be released

@@ -2,25 +2,27 @@
 use Rattle.std.specs.Prelude.{Bool, true, false, Option, Some, None, List, [], ◌∷◌, map, if◌then◌else◌}
 use Rattle.std.specs.List.{filter}
 use Rattle.nat_types.specs.declared.pairs.EntryState.{EntryState}
-use Rattle.nat_types.specs.declared.pairs.EntryState.TheVariants.{Pending, Doomed, Live, Closing, Held}
+use Rattle.nat_types.specs.declared.pairs.EntryState.TheVariants.{Pending, Doomed, Live, Closing, Alone, Held}
 use Rattle.activity.specs.Lives.{Activity}
 use Rattle.bindings.specs.declared.entries.Entry.{Entry}
 use Rattle.bindings.specs.Entries.{is_pair, entry_in}
 
--- the state of a pair after that: a pair that was proposed, or that the peer was asked to close, translates
+-- the state of a pair after that: a pair of which the peer hadn't agreed, or that it was asked to close, becomes Live
 abbrev pub woken : EntryState → EntryState
-woken Pending = Live
+woken (Pending marked) = Live
 woken Doomed = Doomed
 woken Live = Live
-woken Closing = Live
+woken (Closing marked) = Live
+woken Alone = Live
 woken Held = Held
 
--- the state is one of which a pair translates after that, and not before
+-- the state is one of which a pair becomes Live by that
 abbrev pub comes_back : EntryState → Bool
-comes_back Pending = true
+comes_back (Pending marked) = true
 comes_back Doomed = false
 comes_back Live = false
-comes_back Closing = true
+comes_back (Closing marked) = true
+comes_back Alone = true
 comes_back Held = false
 
 abbrev pub woken_entry : Entry → Entry

@@ -10,6 +10,7 @@ mod rows;
 mod runs;
 mod store;
 mod table;
+mod tallies;
 
 pub use entries::{Entry, PortBounds, TableFault};
 pub use laws::{room_law, uses_law};

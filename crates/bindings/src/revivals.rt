@@ -60,7 +60,7 @@ pub(crate) fn drop_doomed(store: &mut Store, ports: &mut Ports)
     store.recall();
 }
 
-/// Makes each pair that was proposed, or that the peer was asked to close, translate.
+/// Makes each pair of which the peer hadn't agreed, or that it was asked to close, Live.
 pub(crate) fn wake(store: &mut Store)
     ensures entries { store.new.entries ≡ map woken_entry store.old.entries }
     ensures lives { store.new.lives ≡ store.old.lives }

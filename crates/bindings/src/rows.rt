@@ -1,12 +1,16 @@
 //! Passes over the entries of a store, and questions about them.
 ghost use Rattle.std.specs.Prelude.{◌≡◌, ◌+◌, ◌≤◌, ◌++◌, [], ◌∷◌, if◌then◌else◌, count_by, vec_len, vec_capacity, IfOk, OnOk, OnErr};
 ghost use Rattle.memory.specs.Memory.{WasRefused};
-ghost use Rattle.bindings.specs.Entries.{is_listed, entry_in, refusal_of, pairs_in};
+ghost use Rattle.bindings.specs.Entries.{is_listed, is_sought, entry_in, refusal_of, pairs_in};
+ghost use Rattle.bindings.specs.Lists.{first_after};
 ghost use Rattle.bindings.specs.Dues.{idle_among, is_idle_key};
 ghost use Rattle.bindings.specs.Ports.{is_free_in, is_vacant};
 
-use crate::entries::{endpoint_of, is_pair_state, is_translating, key_of, may_go_state};
+use crate::entries::{
+    endpoint_of, is_pair_state, is_translating, key_of, may_go_state, rank_of_state,
+};
 use crate::store::Store;
+use crate::tallies::{Sought, is_sought_state};
 use crate::{Entry, TableFault};
 use addresses::{Port, Protocol};
 use memory::push;
@@ -28,7 +32,9 @@ pub(crate) fn refusal(
     if store.entry(key_of(pair)).is_some() {
         return Some(TableFault::PortTaken);
     }
-    if is_pair_state(state) && store.entry_of(endpoint_of(pair)).is_some() {
+    if let Some(rank) = rank_of_state(state)
+        && store.entry_on(rank, endpoint_of(pair)).is_some()
+    {
         return Some(TableFault::EndpointTaken);
     }
     None
@@ -90,6 +96,25 @@ pub(crate) fn list_pairs(
         last = Some(key_of(pair));
     }
     Ok(pairs)
+}
+
+/// Returns the first entry after a key in the order of those that are sought, or the first of all for None. Where there
+/// is none in the store, no entry is looked at.
+pub(crate) fn next_sought(store: &Store, sought: Sought, from: Option<Key>) -> Option<Entry>
+    ensures { result ≡ first_after (is_sought sought) from store.now.entries }
+{
+    if store.count(sought) == 0 {
+        return None;
+    }
+    store.recall();
+    let mut last = from;
+    while let Some(entry) = store.entry_after(last) {
+        if is_sought_state(sought, entry.state) {
+            return Some(entry);
+        }
+        last = Some(key_of(entry.pair));
+    }
+    None
 }
 
 /// Whether a key's entry is idle and may be released.

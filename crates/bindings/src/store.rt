@@ -1,15 +1,16 @@
-//! The entries of a table in slots, each with its life. A slot is found by key and by endpoint.
+//! The entries of a table in slots, each with its life. A slot is found by key, and by endpoint and rank.
 ghost use Rattle.std.specs.Prelude.{◌≡◌, ◌+◌, ◌<◌, ◌≤◌, [], Some, None, true, false, not, ◌&&◌, if◌then◌else◌, length, IfOk, IsOk, OnOk, OnErr};
 ghost use Rattle.nat_types.specs.declared.pairs.Endpoint.{Endpoint as InsidePort};
 ghost use Rattle.addresses.specs.declared.internet.Ip.{Ip as Address};
-ghost use Rattle.slots.specs.Endpoints.{slot_of as number_of_endpoint, count_in};
+ghost use Rattle.slots.specs.declared.ranks.Rank.{Rank as Which};
+ghost use Rattle.slots.specs.Endpoints.{slot_on, count_in};
 ghost use Rattle.slots.specs.Memory.{LacksEndpoints};
 ghost use Rattle.bindings.specs.Memory.{LacksStore};
 ghost use Rattle.bindings.specs.Stores.{one_of};
 ghost use Rattle.std.specs.Prelude.{IsSome};
 ghost use Rattle.std.specs.List.{insert};
 ghost use Rattle.bindings.specs.declared.entries.Entry.{Entry as Row};
-ghost use Rattle.bindings.specs.Entries.{is_pair, is_pair_of, pairs_of, serves, slot_of, entry_of, entry_in, HasDistinctEndpoints};
+ghost use Rattle.bindings.specs.Entries.{is_of_rank, is_pair, is_pair_of, is_sought, pairs_of, serves, slot_of, entry_of, entry_on, entry_in, state_count, HasDistinctEndpoints};
 ghost use Rattle.bindings.specs.Lists.{put_in, place_in, without, with_state, after_key, key_place, RisesUp};
 ghost use Rattle.bindings.specs.Lives.{life_in, lives_with, lives_without, rests_at, is_unused_at};
 ghost use Rattle.activity.specs.Lives.{Activity as Lived, History, Agrees, with_packet, renewed, life_carried, life_renewed};
@@ -26,12 +27,13 @@ ghost use Rattle.bindings.specs.Stores.{AreKeyed};
 ghost use Rattle.bindings.specs.Dues.{AreListed, AreTimed, AreTimedBut, IsTimedAt, KeepsDues, idle_among};
 
 use crate::Entry;
-use crate::entries::{endpoint_of, is_pair_state, key_of, may_go_state};
+use crate::entries::{endpoint_of, is_pair_state, key_of, may_go_state, rank_of_state};
+use crate::tallies::{Sought, Tally};
 use activity::{Activity, Packet};
 use addresses::Ip;
 use memory::with_room;
 use nat_types::{Endpoint, EntryState, Key, Pair};
-use slots::{Dues, EndpointIndex, Hashers, PortSlots, SlotNumber};
+use slots::{Dues, EndpointIndex, Hashers, PortSlots, Rank, SlotNumber};
 use std::alloc::{AllocError, Global};
 use std::marker::Model;
 
@@ -46,8 +48,11 @@ pub(crate) struct Item {
 #[derive(Drop)]
 pub(crate) struct Store {
     slots: PortSlots<Item>,
-    // The slot of each pair, by its endpoint, and how many pairs each inside address has. A Doomed entry isn't a pair.
+    // The slot of each pair, by its endpoint and rank, and how many pairs each inside address has. A Doomed entry isn't
+    // a pair.
     index: EndpointIndex<Hashers>,
+    // How many entries a tick has to mark, and how many to tell, so that it finds without a walk that there are none.
+    tally: Tally,
     // The time at which each entry that may be released is looked at again, which is not after the entry is idle. A
     // slot that no entry has any more may be due too. Its next entry is then looked at once too often.
     dues: Dues,
@@ -62,7 +67,7 @@ impl Model for Store {
 
     ghost Value = { Seen };
 
-    ghost use Rattle.bindings.specs.Stores.{entries_of, lives_of, IsIndexed};
+    ghost use Rattle.bindings.specs.Stores.{entries_of, lives_of, IsIndexed, IsTally};
     ghost use Rattle.bindings.specs.Dues.{AreWatched};
     ghost use Rattle.std.specs.Prelude.{vec_capacity};
 
@@ -76,7 +81,8 @@ impl Model for Store {
     } };
 
     ghost invariant = { λ s. IsIndexed s.slots.rows s.index
-        × AreWatched s.alone s.dues.moments s.slots (vec_capacity s.found) };
+        × AreWatched s.alone s.dues.moments s.slots (vec_capacity s.found)
+        × IsTally (entries_of s.slots.rows) s.tally };
 }
 
 fn entry_of_item(item: &Item) -> Entry
@@ -95,42 +101,45 @@ fn item_with(pair: Pair, state: EntryState, life: Activity) -> Item
 /// Adds the endpoint of a new entry to the index, where the entry is a pair.
 fn list_pair(index: &mut EndpointIndex<Hashers>, pair: Pair, state: EntryState, number: SlotNumber)
     requires spare { 0 < index.old.spare }
-    requires free { is_pair state ≡ true
-        → number_of_endpoint index.old pair.endpoint ≡ None }
-    ensures slots { (x : InsidePort) → number_of_endpoint index.new x ≡ (if serves x (entry_in
-        state pair) then Some number else number_of_endpoint index.old x) }
+    requires small { number.0 < 4294967295 }
+    requires free { (r : Which) → is_of_rank r state ≡ true
+        → slot_on index.old r pair.endpoint ≡ None }
+    ensures slots { (r : Which) → (x : InsidePort) → slot_on index.new r x
+        ≡ (if serves r x (entry_in state pair) then Some number else slot_on index.old r x) }
     ensures counts { (a : Address) → count_in index.new a
         ≡ count_in index.old a + one_of a (entry_in state pair) }
     ensures spare { index.old.spare ≤ index.new.spare + 1 }
     ensures hasher { index.new.hasher ≡ index.old.hasher }
 {
-    if is_pair_state(state) {
-        index.put(endpoint_of(pair), number);
+    if let Some(rank) = rank_of_state(state) {
+        index.put(rank, endpoint_of(pair), number);
     }
 }
 
 /// Removes the endpoint of an entry that is removed from the index, where the entry is a pair.
 fn unlist(index: &mut EndpointIndex<Hashers>, pair: Pair, state: EntryState)
-    requires held { is_pair state ≡ true → IsSome (number_of_endpoint index.old pair.endpoint) }
-    ensures slots { (x : InsidePort) → number_of_endpoint index.new x ≡ (if serves x (entry_in
-        state pair) then None else number_of_endpoint index.old x) }
+    requires held { (r : Which) → is_of_rank r state ≡ true
+        → IsSome (slot_on index.old r pair.endpoint) }
+    ensures slots { (r : Which) → (x : InsidePort) → slot_on index.new r x
+        ≡ (if serves r x (entry_in state pair) then None else slot_on index.old r x) }
     ensures counts { (a : Address) → count_in index.old a
         ≡ count_in index.new a + one_of a (entry_in state pair) }
     ensures spare { index.old.spare ≤ index.new.spare }
     ensures hasher { index.new.hasher ≡ index.old.hasher }
 {
-    if is_pair_state(state) {
-        index.remove(endpoint_of(pair));
+    if let Some(rank) = rank_of_state(state) {
+        index.remove(rank, endpoint_of(pair));
     }
 }
 
 /// Removes the endpoint of an entry from the index, where the entry is a pair before the change of its state and not
 /// after.
 fn unlist_turned(index: &mut EndpointIndex<Hashers>, pair: Pair, was: EntryState, state: EntryState)
-    requires held { is_pair was ≡ true → IsSome (number_of_endpoint index.old pair.endpoint) }
-    ensures slots { (x : InsidePort) → number_of_endpoint index.new x
-        ≡ (if serves x (entry_in was pair) && not (is_pair state) then None
-        else number_of_endpoint index.old x) }
+    requires held { (r : Which) → is_of_rank r was ≡ true
+        → IsSome (slot_on index.old r pair.endpoint) }
+    ensures slots { (r : Which) → (x : InsidePort) → slot_on index.new r x
+        ≡ (if serves r x (entry_in was pair) && not (is_pair state) then None
+        else slot_on index.old r x) }
     ensures counts { (a : Address) → count_in index.old a ≡ count_in index.new a
         + (if is_pair_of a (entry_in was pair) && not (is_pair state) then 1 else 0) }
     ensures spare { index.old.spare ≤ index.new.spare }
@@ -346,6 +355,7 @@ impl Store {
         Ok(Store {
             slots,
             index,
+            tally: Tally::none(),
             dues,
             alone: false,
             found,
@@ -388,7 +398,8 @@ impl Store {
         }
     }
 
-    /// Returns the entry of an endpoint, or None where the endpoint has none. A Doomed entry doesn't count.
+    /// Returns the entry of an endpoint's own pair, or where there is none that of its Held pair, or None where the
+    /// endpoint has neither. A Doomed entry doesn't count.
     #[inline(always)]
     pub(crate) fn entry_of(&self, endpoint: Endpoint) -> Option<Entry>
         ensures { result ≡ entry_of self.now.entries endpoint }
@@ -398,6 +409,24 @@ impl Store {
             Some(number) => entry_at(&self.slots, number),
             None => None,
         }
+    }
+
+    /// Returns the entry of an endpoint's pair of that rank, or None where the endpoint has none.
+    pub(crate) fn entry_on(&self, rank: Rank, endpoint: Endpoint) -> Option<Entry>
+        ensures { result ≡ entry_on rank self.now.entries endpoint }
+    {
+        self.slots.recall();
+        match self.index.get_of(rank, endpoint) {
+            Some(number) => entry_at(&self.slots, number),
+            None => None,
+        }
+    }
+
+    /// Returns how many entries there are of those that a tick looks for.
+    pub(crate) fn count(&self, sought: Sought) -> usize
+        ensures { result ≡ state_count (is_sought sought) self.now.entries }
+    {
+        self.tally.get(sought)
     }
 
     /// Returns how many pairs an inside address has. Doomed entries don't count.
@@ -421,8 +450,8 @@ impl Store {
     /// Adds an entry with its life.
     pub(crate) fn add(&mut self, pair: Pair, state: EntryState, life: Activity)
         requires vacant { slot_of self.old.entries pair.key ≡ None }
-        requires free { is_pair state ≡ true
-            → entry_of self.old.entries pair.endpoint ≡ None }
+        requires free { (r : Which) → is_of_rank r state ≡ true
+            → entry_on r self.old.entries pair.endpoint ≡ None }
         requires room { length self.old.entries < self.old.room }
         requires spare { 0 < self.old.spare }
         ensures entries { self.new.entries ≡ put_in (entry_in state pair) self.old.entries }
@@ -432,17 +461,19 @@ impl Store {
         ensures spare { self.old.spare ≤ self.new.spare + 1 }
         ensures hashers { self.new.hashers ≡ self.old.hashers }
     {
+        self.slots.recall_few();
         let key = key_of(pair);
         let number = self.slots.insert(key, item_with(pair, state, life));
         list_pair(&mut self.index, pair, state, number);
+        self.tally = self.tally.plus(state);
         set_in_time(&self.slots, &mut self.dues, self.alone, key);
     }
 
-    /// Sets the state of a key's entry. An entry that isn't a pair doesn't become one.
+    /// Sets the state of a key's entry. A pair remains one of its rank, or becomes Doomed, and a Doomed entry remains
+    /// Doomed.
     pub(crate) fn turn(&mut self, key: Key, state: EntryState)
         requires pair { (e : Row) → slot_of self.old.entries key ≡ Some e
-            → is_pair state ≡ true
-            → is_pair e.state ≡ true }
+            → (r : Which) → is_of_rank r state ≡ true → is_of_rank r e.state ≡ true }
         requires endpoints { (e : Row) → slot_of self.old.entries key ≡ Some e
             → is_pair e.state ≡ true → is_pair state ≡ false → HasDistinctEndpoints
             self.old.entries }
@@ -453,10 +484,12 @@ impl Store {
         ensures hashers { self.new.hashers ≡ self.old.hashers }
     {
         self.slots.recall();
+        self.slots.recall_few();
         if let Some(entry) = self.entry(key) {
             let Entry { pair, state: was } = entry;
             unlist_turned(&mut self.index, pair, was, state);
             put_state(&mut self.slots, key, pair, state);
+            self.tally = self.tally.minus(was).plus(state);
             set_in_time(&self.slots, &mut self.dues, self.alone, key);
         }
     }
@@ -476,6 +509,7 @@ impl Store {
         if let Some(item) = self.slots.remove(key) {
             let Entry { pair, state } = entry_of_item(&item);
             unlist(&mut self.index, pair, state);
+            self.tally = self.tally.minus(state);
         }
     }
 
@@ -489,6 +523,7 @@ impl Store {
     {
         self.slots.clear();
         self.index.clear();
+        self.tally = Tally::none();
     }
 
     /// Adds a packet that a key's pair carried to its life.

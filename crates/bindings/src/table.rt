@@ -7,14 +7,16 @@ ghost use Rattle.nat_types.specs.declared.pairs.Key.{Key as OutsidePort};
 ghost use Rattle.activity.specs.Lives.{History, came, with_packet, renewed, is_idle, is_unused};
 ghost use Rattle.bindings.specs.declared.entries.Entry.{Entry as Row};
 ghost use Rattle.activity.specs.declared.packets.Packet.{Packet as Carried};
-ghost use Rattle.bindings.specs.Entries.{is_pair, translates, slot_of, entry_of, set_at, refusal_of, entry_in, pairs_in, pairs_of};
-ghost use Rattle.bindings.specs.Lists.{put_in, after_key};
+ghost use Rattle.slots.specs.declared.ranks.Rank.{Rank as Which};
+ghost use Rattle.bindings.specs.Entries.{is_alone, is_markable, is_of_rank, is_pair, translates, waits, with_mark};
+ghost use Rattle.bindings.specs.Entries.{slot_of, entry_of, held_entry_of, set_at, refusal_of, entry_in, pairs_in, pairs_of, state_count};
+ghost use Rattle.bindings.specs.Lists.{put_in, after_key, first_after};
 ghost use Rattle.bindings.specs.Revivals.{revived_entries, revived_slot, lives_of_pairs};
 ghost use Rattle.bindings.specs.Table.{empty_table};
 ghost use Rattle.bindings.specs.Runs.{own_in, without_port, all_ports, first_run, port_at};
 ghost use Rattle.bindings.specs.Lives.{KeepsOthers, is_among, may_go, rests_at, is_unused_at};
 ghost use Rattle.bindings.specs.Ports.{AreBounds, in_either, key_count, is_open_in, is_vacant, is_spare, chosen_port, ports_in};
-ghost use Rattle.bindings.specs.Table.{IsTable, IsPast, owns, idle_keys_of, with_entry_state, without_entry};
+ghost use Rattle.bindings.specs.Table.{IsTable, IsPast, owns, idle_keys_of, is_alone_at, is_marked_at, with_entry_state, without_entry};
 ghost use Rattle.bindings.specs.Lives.{lives_with};
 ghost use Rattle.bindings.specs.Lists.{place_in};
 ghost use Rattle.std.specs.List.{insert};
@@ -22,23 +24,24 @@ ghost use Rattle.port_range.specs.Ports.{IsChosen};
 ghost use Rattle.port_range.specs.Searches.{IsLastBelow};
 ghost use Rattle.activity.specs.Lives.{life_begun, life_carried, life_renewed};
 
-use crate::entries::key_of;
+use crate::entries::{is_alone_state, is_marked_state, key_of, marked_state};
 use crate::ports::{Ports, highest_port, lowest_port};
 use crate::revivals::{drop_doomed, renew_all, wake};
-use crate::rows::{count_idle, is_vacant_port, list_idle, list_pairs, refusal};
+use crate::rows::{count_idle, is_vacant_port, list_idle, list_pairs, next_sought, refusal};
 use crate::runs::{find_run, list_owned};
 use crate::store::Store;
+use crate::tallies::Sought;
 use crate::{Entry, PortBounds, TableFault};
 use activity::{Activity, Packet, Remote, Way};
 use addresses::{Ip, Parity, Port, Protocol, TcpFlags};
 use memory::reserve_exact;
 use nat_types::{Endpoint, EntryState, Key, Pair};
-use slots::Hashers;
+use slots::{Hashers, Rank};
 use std::alloc::{AllocError, Global};
 use std::marker::Model;
 
-/// A table of entries by protocol (icmp first) and port. Keys are distinct, and so are endpoints, except those of
-/// Doomed entries.
+/// A table of entries by protocol (icmp first) and port. Keys are distinct, and so are the endpoints of the own pairs,
+/// and those of the Held ones. An endpoint may have a pair of each kind; a Doomed entry is no pair.
 #[derive(Drop)]
 pub struct Table {
     alloc: Global,
@@ -147,12 +150,21 @@ impl Table {
         self.store.entry_after(last)
     }
 
-    /// Returns the entry of an endpoint, or None where the endpoint has none. A Doomed entry doesn't count.
+    /// Returns the entry of an endpoint's pair, or None where the endpoint has none. That is its own pair, whatever the
+    /// state, or where there is none its Held one. A Doomed entry doesn't count.
     #[inline(always)]
     pub fn port_of(&self, endpoint: Endpoint) -> Option<Entry>
         ensures { result ≡ entry_of self.now.entries endpoint }
     {
         self.store.entry_of(endpoint)
+    }
+
+    /// Returns the entry of an endpoint's Held pair, also where it has an own pair too, or None where the endpoint has no
+    /// Held pair.
+    pub fn held_of(&self, endpoint: Endpoint) -> Option<Entry>
+        ensures { result ≡ held_entry_of self.now.entries endpoint }
+    {
+        self.store.entry_on(Rank::Second, endpoint)
     }
 
     /// Returns how many pairs an inside address has, of all protocols together and whatever their state. Doomed entries
@@ -180,7 +192,8 @@ impl Table {
         Ok(())
     }
 
-    /// Adds a pair in a state. Its life begins at `now`.
+    /// Adds a pair in a state. Its life begins at `now`. An own pair comes in beside a Held one of its endpoint, and a Held
+    /// one beside an own one.
     pub fn add(
         &mut self,
         pair: Pair,
@@ -220,11 +233,11 @@ impl Table {
         Ok(())
     }
 
-    /// Sets the state of a key's entry, which must not be Doomed. A key without an entry changes nothing.
+    /// Sets the state of a key's entry. An own pair remains one or becomes Doomed, and so does a Held one; a Doomed entry
+    /// remains Doomed. A key without an entry changes nothing.
     pub fn set_state(&mut self, key: Key, state: EntryState)
         requires { (entry : Row) → slot_of self.old.entries key ≡ Some entry
-            → is_pair entry.state
-            ≡ true }
+            → (r : Which) → is_of_rank r state ≡ true → is_of_rank r entry.state ≡ true }
         ensures entries { self.new ≡ with_entry_state self.old key state }
         ensures slots { (entry : Row) → slot_of self.old.entries key ≡ Some entry
             → (q : OutsidePort) → slot_of self.new.entries q
@@ -233,6 +246,77 @@ impl Table {
             → IsPast self.new q past }
     {
         self.store.turn(key, state);
+    }
+
+    /// Marks a key's entry, which must be Pending or Closing: its pair goes on though an answer is awaited. A key without
+    /// an entry changes nothing.
+    pub fn mark(&mut self, key: Key)
+        requires { (entry : Row) → slot_of self.old.entries key ≡ Some entry
+            → is_markable entry.state ≡ true }
+        ensures entries { (entry : Row) → slot_of self.old.entries key ≡ Some entry
+            → self.new ≡ with_entry_state self.old key (with_mark entry.state) }
+        ensures slots { (entry : Row) → slot_of self.old.entries key ≡ Some entry
+            → (q : OutsidePort) → slot_of self.new.entries q
+            ≡ set_at (slot_of self.old.entries) key (Some (entry_in (with_mark entry.state)
+            entry.pair)) q }
+        ensures absent { slot_of self.old.entries key ≡ None → self.new ≡ self.old }
+        ensures pasts { (q : OutsidePort) → (past : History) → IsPast self.old q past
+            → IsPast self.new q past }
+    {
+        if let Some(entry) = self.store.entry(key) {
+            self.store.turn(key, marked_state(entry.state));
+        }
+    }
+
+    /// Whether a key's entry is marked. A key without an entry isn't.
+    pub fn marked(&self, key: Key) -> bool
+        ensures { result ≡ is_marked_at self.now key }
+    {
+        match self.store.entry(key) {
+            Some(entry) => is_marked_state(entry.state),
+            None => false,
+        }
+    }
+
+    /// Whether a key's entry is Alone. A key without an entry isn't.
+    pub fn is_alone(&self, key: Key) -> bool
+        ensures { result ≡ is_alone_at self.now key }
+    {
+        match self.store.entry(key) {
+            Some(entry) => is_alone_state(entry.state),
+            None => false,
+        }
+    }
+
+    /// Returns how many entries wait for an answer of the peer without a mark: the Pending and Closing ones that don't
+    /// translate. It takes no walk over the entries.
+    pub fn waiting_count(&self) -> usize
+        ensures { result ≡ state_count waits self.now.entries }
+    {
+        self.store.count(Sought::ToMark)
+    }
+
+    /// Returns the first entry after a key in the order by protocol (icmp first) and port that waits for an answer
+    /// without a mark, or the first of all such for None. Where none waits at all, it takes no walk over the entries.
+    pub fn waiting_after(&self, last: Option<Key>) -> Option<Entry>
+        ensures { result ≡ first_after waits last self.now.entries }
+    {
+        next_sought(&self.store, Sought::ToMark, last)
+    }
+
+    /// Returns how many entries are Alone. It takes no walk over the entries.
+    pub fn alone_count(&self) -> usize
+        ensures { result ≡ state_count is_alone self.now.entries }
+    {
+        self.store.count(Sought::ToTell)
+    }
+
+    /// Returns the first entry after a key in the order by protocol (icmp first) and port that is Alone, or the first of
+    /// all such for None. Where none is Alone at all, it takes no walk over the entries.
+    pub fn alone_after(&self, last: Option<Key>) -> Option<Entry>
+        ensures { result ≡ first_after is_alone last self.now.entries }
+    {
+        next_sought(&self.store, Sought::ToTell, last)
     }
 
     /// Removes a key's entry. A key without an entry changes nothing.
@@ -247,8 +331,8 @@ impl Table {
         self.ports.put_back(key);
     }
 
-    /// Changes the entries as the peer begins anew: pairs that were proposed, or that the peer was asked to close,
-    /// translate, with the lives that they have, and Doomed entries (proposals given up) are removed.
+    /// Changes the entries as the peer begins anew, or is off for good: Pending, Closing and Alone pairs, marked or not,
+    /// become Live, with the lives that they have, and Doomed entries (proposals given up) are removed.
     pub fn revive(&mut self)
         ensures entries { self.new.entries ≡ revived_entries self.old.entries }
         ensures slots { (q : OutsidePort) → slot_of self.new.entries q
@@ -294,7 +378,7 @@ impl Table {
         list_pairs(self.alloc, &self.store, false)
     }
 
-    /// Returns the Live and Held pairs, by protocol (icmp first) and port.
+    /// Returns the pairs that translate, by protocol (icmp first) and port: the Live, Alone, Held and marked ones.
     pub fn translating(&self) -> Result<Vec<Pair>, AllocError>
         ensures items { IfOk result (λ v. v.items ≡ pairs_in translates self.now.entries) }
         ensures refused { OnErr result (WasRefused 1) }
@@ -462,7 +546,7 @@ impl Table {
     }
 
     /// Appends the keys of the idle entries that may be released, each once, by protocol (icmp first) and port: of the
-    /// Live ones, and where the gateway is lone of the Held ones too. Capacity for as many keys as there are entries is
+    /// Live and the Alone ones, and where the gateway is lone of the Held ones too. Capacity for as many keys as there are entries is
     /// enough. An Err says that there is no memory, and changes nothing.
     pub fn idle_keys(&mut self, lone: bool, now: u64, keys: &mut Vec<Key>) -> Result<(), AllocError>
         ensures keys { OnOk result (keys.new.items

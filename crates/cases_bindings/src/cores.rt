@@ -21,9 +21,9 @@ impl Cores {
         }
     }
 
-    /// Begins a new core, in place of the one before, by a line such as `0 founder 20000 20003 40000 40003 200 2`: its
-    /// gateway, how it begins, both ranges, the places of the link, and the most pairs that an inside address may have,
-    /// if there is a limit.
+    /// Begins a new core, in place of the one before, by a line such as `0 founder 20000 20003 40000 40003 200 2 100`:
+    /// its gateway, how it begins, both ranges, the places of the link, the most pairs that an inside address may have,
+    /// if there is a limit, and after how many centiseconds without an answer it is apart, if ever.
     fn begin(&mut self, case: &mut Case) {
         let id = case.gateway();
         let is_founder = case.is_first("founder", "unsynced");
@@ -33,10 +33,15 @@ impl Cores {
         let Some(limit) = limit_in(case) else {
             return;
         };
+        let Some(alone) = alone_in(case) else {
+            return;
+        };
         if is_founder && id == GatewayId::One {
             return refuse("no beginning founder", case);
         }
-        let side = Side::new(case.alloc, id, is_founder, zero, one, capacity, limit);
+        let side = Side::new(
+            case.alloc, id, is_founder, zero, one, capacity, limit, alone,
+        );
         self.put(side, case);
     }
 
@@ -63,16 +68,35 @@ impl Actor for Cores {
     }
 }
 
-/// Reads the most pairs that an inside address may have, where one more word is left. None says that the line is
-/// refused.
+/// Reads the most pairs that an inside address may have, where one more word is left; `none` is no limit. None says
+/// that the line is refused.
 fn limit_in(case: &mut Case) -> Option<Option<u16>> {
     if case.left() == 0 {
         return Some(None);
     }
+    if case.word() == "none" {
+        return Some(None);
+    }
+    case.back();
     match u16::try_from(case.number()) {
         Ok(limit) => Some(Some(limit)),
         Err(_) => {
             refuse("a limit has 16 bits", case);
+            None
+        }
+    }
+}
+
+/// Reads after how many centiseconds a core is apart, where one more word is left; else it never is. None says that
+/// the line is refused.
+fn alone_in(case: &mut Case) -> Option<u16> {
+    if case.left() == 0 {
+        return Some(0);
+    }
+    match u16::try_from(case.number()) {
+        Ok(alone) => Some(alone),
+        Err(_) => {
+            refuse("a time has 16 bits", case);
             None
         }
     }
@@ -89,9 +113,11 @@ fn call(side: &mut Side, case: &mut Case) {
         "carried" => side.carried(case),
         "inbound" => inbound(side, case),
         "hear" => side.hear_again(case),
+        "answer" => side.hear_answer(case),
         "restart" => restart(side, case),
         "off" => side.peer_off(case.number(), case),
         "table" => side.tell(case),
+        "apart" => side.tell_apart(case),
         _ => case.fault(),
     }
 }

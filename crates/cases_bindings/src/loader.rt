@@ -3,6 +3,7 @@ ghost use Rattle.std.specs.Prelude.{◌≡◌};
 ghost use Rattle.bindings.specs.Ports.{AreBounds};
 ghost use Rattle.bindings.specs.Table.{AreInRanges};
 
+use crate::states::state_name;
 use addresses::{Ip, Port, Protocol};
 use bindings::{Hashers, PortBounds, Table};
 use cases_words::Case;
@@ -69,7 +70,7 @@ impl Loader {
             if let Some(entry) = self.table.entry_after(last) {
                 let (pair, state) = (entry.pair, entry.state);
                 case.say(", ", pair);
-                case.show(" ", state);
+                case.say(" ", state_name(state));
                 last = Some(pair.key);
             }
         }

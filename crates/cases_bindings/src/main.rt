@@ -12,6 +12,7 @@ mod ports;
 mod sender;
 mod side;
 mod spelled;
+mod states;
 mod tables;
 mod telling;
 mod traces;

@@ -4,6 +4,7 @@ ghost use Rattle.bindings.specs.Ports.{AreBounds};
 ghost use Rattle.resync.specs.Batch.{CanBeSent};
 
 use crate::spelled::is_spelled_pair;
+use crate::states::may_turn;
 use addresses::Port;
 use anyhow::{Result, bail};
 use arrayvec::ArrayVec;
@@ -90,6 +91,9 @@ impl Sender {
     pub(crate) fn set_state(&mut self, key: Key, state: EntryState, case: &mut Case) {
         match self.table.pair_of_port(key) {
             Some(entry) if entry.state == EntryState::Doomed => case.refuse("it is Doomed"),
+            Some(entry) if !may_turn(entry.state, state) => {
+                case.refuse("its side is another");
+            }
             _ => self.table.set_state(key, state),
         }
     }

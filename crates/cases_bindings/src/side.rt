@@ -28,18 +28,20 @@ pub(crate) struct Side {
     core: Core,
     link: Link,
     clock: u64,
-    /// The number of the link's records that were printed.
+    /// The number of the link's records that were printed, and aren't acknowledged.
     printed: usize,
+    /// The number of records that the peer acknowledged in this session.
+    acknowledged: usize,
 }
 
-/// Returns a datagram of the peer without records.
-fn empty_datagram(sender: GatewayId, boot: u64) -> Datagram {
+/// Returns a datagram of the peer without records, which acknowledges so many.
+fn empty_datagram(sender: GatewayId, boot: u64, delivered: usize) -> Datagram {
     Datagram {
         sender,
         boot,
         receiver_boot: 1,
         serves: true,
-        delivered: 0,
+        delivered: delivered as u64,
         first: 1,
         records: ArrayVec::new(),
     }
@@ -53,15 +55,16 @@ fn begin_core(
     zero: PortBounds,
     one: PortBounds,
     limit: Option<u16>,
+    alone: u16,
 ) -> Option<Core>
     requires zero { AreBounds zero }
     requires one { AreBounds one }
 {
     let hashers = Hashers::fixed();
     if is_founder {
-        return Core::founder(alloc, zero, one, limit, hashers).ok();
+        return Core::founder(alloc, zero, one, limit, alone, hashers).ok();
     }
-    Core::unsynced(alloc, id, zero, one, limit, hashers).ok()
+    Core::unsynced(alloc, id, zero, one, limit, alone, hashers).ok()
 }
 
 /// Returns how many ports a table's gateway owns, or None where there is no memory for their list.
@@ -107,11 +110,12 @@ impl Side {
         one: PortBounds,
         capacity: usize,
         limit: Option<u16>,
+        alone: u16,
     ) -> Option<Side>
         requires zero { AreBounds zero }
         requires one { AreBounds one }
     {
-        let core = begin_core(alloc, id, is_founder, zero, one, limit)?;
+        let core = begin_core(alloc, id, is_founder, zero, one, limit, alone)?;
         let (core, link) = beside(core, Link::new(alloc, id, 1, capacity)).ok()?;
         Some(Side {
             alloc,
@@ -120,6 +124,7 @@ impl Side {
             link,
             clock: 0,
             printed: 0,
+            acknowledged: 0,
         })
     }
 
@@ -168,7 +173,7 @@ impl Side {
         let Some(mut notes) = self.prepare() else {
             return case.fault();
         };
-        let looked = self.core.look(&self.link, endpoint);
+        let looked = self.core.look(&self.link, endpoint, self.clock);
         let want = self
             .core
             .want(endpoint, &mut self.link, self.clock, &mut notes);
@@ -204,6 +209,23 @@ impl Side {
         };
         self.core.tick(&mut self.link, self.clock, &mut notes);
         self.tell_done(&notes, case);
+        self.go_on(case);
+    }
+
+    /// Marks what waits, or tells the peer of what was made alone.
+    fn go_on(&mut self, case: &mut Case) {
+        let Some(mut notes) = self.prepare() else {
+            return case.fault();
+        };
+        self.core
+            .mark_or_tell(&mut self.link, self.clock, &mut notes);
+        self.tell_done(&notes, case);
+    }
+
+    /// Prints whether the gateway is apart.
+    pub(crate) fn tell_apart(&self, case: &mut Case) {
+        let is_apart = self.core.is_apart(&self.link, self.clock);
+        begin_part(if is_apart { "apart" } else { "together" }, case);
     }
 
     /// Does a call such as `udp 20000 198.51.100.7 53 out -`: the key, the remote host, the way and the flags.
@@ -221,7 +243,8 @@ impl Side {
     /// Gives the link a datagram without records of a boot of the peer, and returns whether it begins a session.
     fn hear(&mut self, boot: u64, case: &mut Case) -> bool {
         let mut bytes = Vec::new(self.alloc);
-        case.keep(write(&empty_datagram(self.id.other(), boot), &mut bytes));
+        let datagram = empty_datagram(self.id.other(), boot, self.acknowledged);
+        case.keep(write(&datagram, &mut bytes));
         match self.link.take(bytes.as_slice(), self.clock) {
             Ok(taken) => taken.restarted,
             Err(_) => {
@@ -229,6 +252,13 @@ impl Side {
                 false
             }
         }
+    }
+
+    /// Gives the link a datagram of the known boot of the peer that acknowledges all records.
+    pub(crate) fn hear_answer(&mut self, case: &mut Case) {
+        self.acknowledged = self.acknowledged.saturating_add(self.printed);
+        self.printed = 0;
+        self.hear_again(case);
     }
 
     /// Gives the link a datagram of the boot of the peer that is known already.
@@ -245,6 +275,7 @@ impl Side {
         if boot <= self.link.known_peer() {
             return refuse("it isn't greater", case);
         }
+        self.acknowledged = 0;
         self.hear(boot, case);
         self.printed = 0;
         match self.prepare() {
@@ -290,14 +321,17 @@ impl Side {
         Some(ports + pairs + 2)
     }
 
-    /// Returns the endpoint to which a packet to an outside port goes: that of a Live or Held pair, once the core is
+    /// Returns the endpoint to which a packet to an outside port goes: that of a pair that translates, once the core is
     /// synced. None where there is no such pair.
     pub(crate) fn inbound(&self, key: Key) -> Option<Endpoint> {
         let entry = self.core.table().pair_of_port(key)?;
         match entry.state {
-            EntryState::Live | EntryState::Held if self.core.is_synced() => {
-                Some(entry.pair.endpoint)
-            }
+            EntryState::Live
+            | EntryState::Held
+            | EntryState::Alone
+            | EntryState::Pending { marked: true }
+            | EntryState::Closing { marked: true }
+                if self.core.is_synced() => { Some(entry.pair.endpoint) }
             _ => None,
         }
     }
@@ -315,6 +349,7 @@ impl Side {
         }
         self.link.close(boot);
         self.printed = 0;
+        self.acknowledged = 0;
         self.core.peer_off(&self.link, self.clock, &mut notes);
         self.tell_done(&notes, case);
     }

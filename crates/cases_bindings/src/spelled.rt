@@ -33,7 +33,7 @@ pub(crate) fn is_spelled(item: &Record) -> bool
     ensures { result ≡ true → IsWellFormedRecord item.now }
 {
     match *item {
-        Record::Install(pair) | Record::Put(pair) => is_spelled_pair(pair),
+        Record::Install(pair) | Record::Put(pair) | Record::Tell(pair) => is_spelled_pair(pair),
         Record::Accept(key)
         | Record::Refuse(key)
         | Record::Ask(key)

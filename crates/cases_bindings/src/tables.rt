@@ -4,6 +4,7 @@ ghost use Rattle.bindings.specs.Ports.{AreBounds};
 
 use crate::listing::{list, tell_found};
 use crate::ports::parity;
+use crate::states::{is_markable, may_turn, state_name};
 use addresses::Port;
 use bindings::{Entry, Hashers, PortBounds, Table};
 use cases_words::{Actor, Case};
@@ -26,7 +27,7 @@ fn show(entry: Option<Entry>, case: &mut Case) {
     match entry {
         Some(entry) => {
             case.put(entry.pair);
-            case.show(" ", entry.state);
+            case.say(" ", state_name(entry.state));
         }
         None => case.put("none"),
     }
@@ -90,6 +91,7 @@ impl TableCase {
             "renew" => self.table.renew(case.key(), case.number()),
             "renew_all" => self.table.renew_all(case.number()),
             "set_state" => self.set_state(case),
+            "mark" => self.mark(case),
             "remove" => self.table.remove(case.key()),
             "revive" => self.table.revive(),
             "clear" => self.table.clear(),
@@ -127,6 +129,8 @@ impl TableCase {
             "owns" => self.table.owns(case.port()),
             "idle" => self.table.idle(case.key(), case.number()),
             "unused" => self.table.unused(case.key()),
+            "marked" => self.table.marked(case.key()),
+            "is_alone" => self.table.is_alone(case.key()),
             "is_vacant" => self.table.is_vacant(case.port()),
             "is_spare" => self.table.is_spare(case.port()),
             _ => return self.count(case),
@@ -203,7 +207,18 @@ impl TableCase {
         let (key, state) = (case.key(), case.state());
         match self.table.pair_of_port(key) {
             Some(entry) if entry.state == EntryState::Doomed => case.refuse("it is Doomed"),
+            Some(entry) if !may_turn(entry.state, state) => {
+                case.refuse("its side is another");
+            }
             _ => self.table.set_state(key, state),
+        }
+    }
+
+    fn mark(&mut self, case: &mut Case) {
+        let key = case.key();
+        match self.table.pair_of_port(key) {
+            Some(entry) if is_markable(entry.state) => self.table.mark(key),
+            _ => case.refuse("it is neither Pending nor Closing"),
         }
     }
 

@@ -1,5 +1,6 @@
 //! The parts of the answer to a line of one side, printed one after another.
 
+use crate::states::state_name;
 use addresses::Port;
 use cases_words::Case;
 use nat_types::{Endpoint, EntryState, Key, Note, Pair, Record};
@@ -44,6 +45,7 @@ pub(crate) fn tell_record(item: &Record, case: &mut Case) {
     match *item {
         Record::Install(pair) => case.say("install ", pair),
         Record::Put(pair) => case.say("put ", pair),
+        Record::Tell(pair) => case.say("tell ", pair),
         Record::Accept(key) => tell_key("accept ", key, case),
         Record::Refuse(key) => tell_key("refuse ", key, case),
         Record::Ask(key) => tell_key("ask ", key, case),
@@ -101,7 +103,7 @@ pub(crate) fn tell_endpoint(word: &str, endpoint: Endpoint, case: &mut Case) {
 pub(crate) fn tell_entry(pair: Pair, state: EntryState, case: &mut Case) {
     begin_part("", case);
     case.put(pair);
-    case.show(" ", state);
+    case.say(" ", state_name(state));
 }
 
 pub(crate) fn tell_owned(ports: &[Port], case: &mut Case) {

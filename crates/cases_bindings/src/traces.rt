@@ -76,6 +76,7 @@ fn happening(case: &mut Case) -> NoteKind {
         "Used" => NoteKind::Used(case.pair()),
         "Released" => NoteKind::Released(case.pair()),
         "Retaken" => NoteKind::Retaken(case.pair()),
+        "Alone" => NoteKind::Alone(case.pair()),
         "Crashed" => NoteKind::Crashed,
         "Booted" => NoteKind::Booted(case.number()),
         "Synced" => NoteKind::Synced,

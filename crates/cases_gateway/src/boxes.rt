@@ -64,6 +64,13 @@ impl<G: AnyGateway> Boxes<G> {
         }
     }
 
+    fn set_alone(&mut self, case: &mut Case) {
+        match u16::try_from(case.number()) {
+            Ok(alone) if alone == 0 || 50 <= alone => self.settings.alone = alone,
+            _ => case.fault(),
+        }
+    }
+
     /// Replaces a box, and drops the one that was there.
     fn put(&mut self, id: GatewayId, new: Option<TestBox<G>>) {
         end_if_there(mem::replace(self.at(id), new));
@@ -94,14 +101,17 @@ impl<G: AnyGateway> Actor for Boxes<G> {
     ///
     /// - `I ..`: something happens to box I (`happen`)
     /// - `fail ..`: a box founded anew runs, and something fails (`failures::run`)
+    /// - `alone N`: boxes that start from now on make pairs alone after N centiseconds without an answer, or never (0)
     fn act(&mut self, case: &mut Case) {
         case.title("", "\n");
-        if case.word() == "fail" {
-            failures::run::<G>(&self.settings, case);
-        } else {
-            case.back();
-            let id = case.gateway();
-            self.happen(id, case);
+        match case.word() {
+            "fail" => failures::run::<G>(&self.settings, case),
+            "alone" => self.set_alone(case),
+            _ => {
+                case.back();
+                let id = case.gateway();
+                self.happen(id, case);
+            }
         }
     }
 }

@@ -94,10 +94,16 @@ fn show_side(name: &str, side: &SideReport, case: &mut Case) {
 /// Prints how many entries of a protocol have each state.
 fn show_pairs(pairs: &PairCounts, protocol: Protocol, case: &mut Case) {
     case.say("    ", protocol);
-    case.say(" pending ", pairs.of(protocol, EntryState::Pending));
+    case.say(
+        " pending ",
+        pairs.of(protocol, EntryState::Pending { marked: false }),
+    );
     case.say(" doomed ", pairs.of(protocol, EntryState::Doomed));
     case.say(" live ", pairs.of(protocol, EntryState::Live));
-    case.say(" closing ", pairs.of(protocol, EntryState::Closing));
+    case.say(
+        " closing ",
+        pairs.of(protocol, EntryState::Closing { marked: false }),
+    );
     case.say(" held ", pairs.of(protocol, EntryState::Held));
     case.end();
 }

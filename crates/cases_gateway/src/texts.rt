@@ -1,7 +1,8 @@
-//! The texts of a report; and its bytes, whole, cut or changed, and how they are read.
+//! The texts of a report; its bytes, whole, cut or changed, and how they are read; and pages by their bytes.
 
+use crate::watched::filter_of;
 use cases_words::Case;
-use reports::{JsonText, MetricsText, PlainText, ReadFault, Report};
+use reports::{JsonText, MetricsText, Page, PairLines, PlainText, ReadFault, Report};
 
 /// Reads a report. The function has no clauses, so callers learn nothing of the result.
 fn read_of(bytes: &[u8]) -> Result<Report, ReadFault> {
@@ -90,6 +91,20 @@ fn tell_read(report: &Report, bytes: &[u8], case: &mut Case) {
     match read_of(bytes) {
         Ok(read) if read == *report => case.put("the same"),
         Ok(_) => case.put("another report"),
+        Err(fault) => case.put(fault),
+    }
+    case.end();
+}
+
+/// Reads a page from its bytes. Prints the entries that are wanted, and whether the page has the same bytes again.
+pub(crate) fn tell_page(case: &mut Case) {
+    let bytes = case.bytes();
+    let filter = filter_of(case);
+    match Page::read(bytes.as_slice()) {
+        Ok(page) => {
+            case.put(PairLines(&page, &filter));
+            case.say("the same ", page.bytes().as_slice() == bytes.as_slice());
+        }
         Err(fault) => case.put(fault),
     }
     case.end();

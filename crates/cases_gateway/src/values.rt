@@ -1,12 +1,13 @@
 //! A report's value, set field by field.
 
-use crate::texts::{Kind, tell_bytes, tell_changed, tell_cuts, tell_text};
+use crate::texts::{Kind, tell_bytes, tell_changed, tell_cuts, tell_page, tell_text};
 use crate::words::{origin, role, what};
+use addresses::{Ip, Port, Protocol};
 use cases_words::{Actor, Case};
-use nat_types::{GatewayId, Side};
+use nat_types::{GatewayId, Key, Note, NoteKind, Pair, Side};
 use reports::{
-    Counters, GatewayReport, PairCounts, PeerReport, PortCounts, Report, SideReport, Sides,
-    WaitingCounts,
+    ApartReport, Counters, GatewayReport, PairCounts, PeerReport, PortCounts, Report, SideReport,
+    Sides, WaitingCounts,
 };
 use vrrp_states::State;
 
@@ -44,6 +45,7 @@ pub(crate) fn blank() -> Report {
         },
         counters: Counters::new(),
         lines_left_out: 0,
+        apart: ApartReport::new(),
     }
 }
 
@@ -66,6 +68,7 @@ impl Actor for Reports {
     /// - `bytes FROM COUNT`: prints how many bytes the report has, and some of them
     /// - `cuts`: cuts the bytes at each length, and makes them longer by one
     /// - `change AT BYTE`: changes one byte
+    /// - `page HEX PROTOCOL ADDRESS PORT STATE`: reads a page, and prints the entries that are wanted
     fn act(&mut self, case: &mut Case) {
         case.title("> ", "\n");
         match case.word() {
@@ -75,6 +78,7 @@ impl Actor for Reports {
             "bytes" => tell_bytes(&self.report, case),
             "cuts" => tell_cuts(&self.report, case),
             "change" => tell_changed(&self.report, case),
+            "page" => tell_page(case),
             _ => set(&mut self.report, case),
         }
     }
@@ -86,6 +90,8 @@ impl Actor for Reports {
 /// - `look SIDE ROLE up|down MOMENT`: the side is seen so at that time
 /// - `count ORIGIN WHAT COUNT`: adds to a count
 /// - `lines COUNT`: how many lines of the log were left out
+/// - `apart yes|no MOMENT`: whether the gateway is apart at that time
+/// - `made COUNT`: it notes so many pairs that it has made alone
 /// - a line of `set_gateway`
 fn set(report: &mut Report, case: &mut Case) {
     case.back();
@@ -94,6 +100,8 @@ fn set(report: &mut Report, case: &mut Case) {
         "look" => look(&mut report.sides, case),
         "count" => count(&mut report.counters, case),
         "lines" => report.lines_left_out = case.number(),
+        "apart" => apart(&mut report.apart, case),
+        "made" => make(&mut report.apart, case),
         _ => set_gateway(&mut report.gateway, case),
     }
 }
@@ -111,6 +119,31 @@ fn look(sides: &mut Sides, case: &mut Case) {
     match side {
         Side::Inside => sides.inside.update(role, up, moment),
         Side::Outside => sides.outside.update(role, up, moment),
+    }
+}
+
+fn apart(report: &mut ApartReport, case: &mut Case) {
+    let is_apart = case.is_first("yes", "no");
+    let changed = report.update(is_apart, case.number());
+    case.say("changed ", changed);
+    case.end();
+}
+
+/// Counts notes of pairs made alone, with one of another kind behind each.
+fn make(report: &mut ApartReport, case: &mut Case) {
+    let key = Key {
+        protocol: Protocol::Udp,
+        port: Port(20000),
+    };
+    let pair = Pair::new(key, Ip::new([192, 168, 1, 10]), Port(5000));
+    let note = |what| Note {
+        by: GatewayId::Zero,
+        at: 0,
+        what,
+    };
+    let notes = [note(NoteKind::Alone(pair)), note(NoteKind::Used(pair))];
+    for _ in 0..case.number() {
+        report.count(&notes);
     }
 }
 

@@ -157,7 +157,7 @@ fn is_any(case: &mut Case) -> bool {
 }
 
 /// Reads which entries are wanted: a protocol, an address, a port and a state, each of them or `any`.
-fn filter_of(case: &mut Case) -> PairFilter {
+pub(crate) fn filter_of(case: &mut Case) -> PairFilter {
     let mut filter = PairFilter::ALL;
     if !is_any(case) {
         filter.protocol = Some(case.protocol());

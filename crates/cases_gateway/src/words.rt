@@ -19,12 +19,15 @@ const ORIGINS: [(&str, Origin); 4] = [
     ("own", Origin::Own),
 ];
 
-const STATES: [(&str, EntryState); 5] = [
-    ("pending", EntryState::Pending),
+const STATES: [(&str, EntryState); 8] = [
+    ("pending", EntryState::Pending { marked: false }),
     ("doomed", EntryState::Doomed),
     ("live", EntryState::Live),
-    ("closing", EntryState::Closing),
+    ("closing", EntryState::Closing { marked: false }),
     ("held", EntryState::Held),
+    ("alone", EntryState::Alone),
+    ("pending_marked", EntryState::Pending { marked: true }),
+    ("closing_marked", EntryState::Closing { marked: true }),
 ];
 
 pub(crate) fn role(case: &mut Case) -> State {
@@ -37,7 +40,7 @@ pub(crate) fn origin(case: &mut Case) -> Origin {
 
 /// Reads a state by its name.
 pub(crate) fn state_of(case: &mut Case) -> EntryState {
-    case.pick(&STATES, EntryState::Pending)
+    case.pick(&STATES, EntryState::Live)
 }
 
 /// Reads what is counted: by its name, or by the number of the reason of a drop.

@@ -52,9 +52,10 @@ fn sample(rt: &HostRuntime, case: &mut Case) -> String {
 
 /// Runs a script's file:
 ///
-/// - `script NAME` runs the file NAME.script, and audits its trace; `with NAME` does so with the settings of NAME.toml
+/// - `script NAME` runs the file NAME.script, and audits its trace; `with NAME` does so with the settings of NAME.toml, and
+///   `alone NAME` with those of alone.toml
 /// - `each NAME` runs NAME.script event by event, and audits the trace after each; it prints how many there were, or the
-///   first one after which the audit fails; `each-with NAME` does so with the settings of NAME.toml
+///   first one after which the audit fails; `each-with NAME` and `each-alone NAME` do so with those settings
 /// - `fault NAME` runs a file that isn't read as a script
 fn scripted(rt: &HostRuntime, case: &mut Case) {
     case.back();
@@ -62,15 +63,19 @@ fn scripted(rt: &HostRuntime, case: &mut Case) {
     let name = case.name();
     let read = text_at(rt, name.as_str(), "script");
     let script = case.or_empty(read);
-    let has_own = verb.as_str().ends_with("with");
-    let read = text_at(rt, if has_own { name.as_str() } else { "rows" }, "toml");
+    let settings = match verb.as_str() {
+        "with" | "each-with" => name.as_str(),
+        "alone" | "each-alone" => "alone",
+        _ => "rows",
+    };
+    let read = text_at(rt, settings, "toml");
     let settings = case.or_empty(read);
     match verb.as_str() {
-        "script" | "with" => {
+        "script" | "with" | "alone" => {
             simulated(rt, settings.as_str(), script.as_str(), case);
             audits::audited(settings.as_str(), script.as_str(), false, case);
         }
-        "each" | "each-with" => {
+        "each" | "each-with" | "each-alone" => {
             audits::audited(settings.as_str(), script.as_str(), true, case);
         }
         "fault" => simulated(rt, settings.as_str(), script.as_str(), case),

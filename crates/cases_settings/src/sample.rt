@@ -9,6 +9,8 @@ pub(crate) fn print(case: &mut Case, settings: &Settings) {
     case.put("[ports]\n");
     range(case, "zero", settings.ports.zero);
     range(case, "one", settings.ports.one);
+    case.say("alone = ", settings.alone);
+    case.end();
     interface(case, "\n[inside", &settings.inside, None);
     interface(case, "\n[outside", &settings.outside, Some(settings.router));
     icmp(case, settings.icmp);

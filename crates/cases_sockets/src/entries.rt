@@ -68,6 +68,8 @@ pub(crate) fn entry_in(case: &mut Case) -> Entry {
         "peer-boot" => Entry::PeerBoot(case.number()),
         "peer-heard" => Entry::PeerHeard,
         "peer-silent" => Entry::PeerSilent,
+        "apart" => Entry::Apart,
+        "not-apart" => Entry::NotApart(case.number()),
         "fails" => Entry::Fails(origin_in(case)),
         "works" => Entry::Works(origin_in(case)),
         "too-long" => Entry::TooLong(origin_in(case)),

@@ -89,9 +89,9 @@ impl Case {
         Ip(self.or(read, Ipv4Addr::UNSPECIFIED).to_bits())
     }
 
-    /// Reads the name of an entry's state.
+    /// Reads the name of an entry's state, as `Live` or `PendingMarked`.
     pub fn state(&mut self) -> EntryState {
-        self.pick(&STATES, EntryState::Pending)
+        self.pick(&STATES, EntryState::Live)
     }
 
     /// Reads the first or the second of two words; true is the first.

@@ -14,6 +14,7 @@ impl Case {
             "grant" => self.grant(),
             "put" => Record::Put(self.pair()),
             "install" => Record::Install(self.pair()),
+            "tell" => Record::Tell(self.pair()),
             "owner" => self.owner(),
             _ => self.record_of_key(),
         }

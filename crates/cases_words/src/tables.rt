@@ -14,12 +14,15 @@ pub(crate) const PROTOCOLS: [(&str, Protocol); 3] = [
     ("udp", Protocol::Udp),
 ];
 
-pub(crate) const STATES: [(&str, EntryState); 5] = [
-    ("Pending", EntryState::Pending),
+pub(crate) const STATES: [(&str, EntryState); 8] = [
+    ("Pending", EntryState::Pending { marked: false }),
     ("Doomed", EntryState::Doomed),
     ("Live", EntryState::Live),
-    ("Closing", EntryState::Closing),
+    ("Closing", EntryState::Closing { marked: false }),
     ("Held", EntryState::Held),
+    ("Alone", EntryState::Alone),
+    ("PendingMarked", EntryState::Pending { marked: true }),
+    ("ClosingMarked", EntryState::Closing { marked: true }),
 ];
 
 pub(crate) const WAYS: [(&str, Way); 2] = [("out", Way::Outward), ("in", Way::Inward)];

@@ -26,11 +26,12 @@ fn same_neighbours(one: &[Neighbour], other: &[Neighbour]) -> bool {
 }
 
 /// Returns the keys of `[ports]` and `[inside]`, each with whether its values are the same.
-fn ports_and_inside_rows(one: &Settings, other: &Settings) -> [(Key, bool); 8] {
+fn ports_and_inside_rows(one: &Settings, other: &Settings) -> [(Key, bool); 9] {
     let (ports, inside) = (Section::Ports, Section::Inside);
     let same_zero = same_range(one.ports.zero, other.ports.zero);
     let same_one = same_range(one.ports.one, other.ports.one);
     let same_limit = one.ports.host_limit == other.ports.host_limit;
+    let same_alone = one.alone == other.alone;
     let (one, other) = (&one.inside, &other.inside);
     let same_virtual = one.virtual_ip == other.virtual_ip;
     let same_prefix = one.prefix_length == other.prefix_length;
@@ -39,6 +40,7 @@ fn ports_and_inside_rows(one: &Settings, other: &Settings) -> [(Key, bool); 8] {
         (Key::new(ports, Name::Zero), same_zero),
         (Key::new(ports, Name::One), same_one),
         (Key::new(ports, Name::HostLimit), same_limit),
+        (Key::new(ports, Name::Alone), same_alone),
         (Key::new(inside, Name::Virtual), same_virtual),
         (Key::new(inside, Name::Prefix), same_prefix),
         (Key::new(inside, Name::Vrid), same_number),
@@ -131,6 +133,7 @@ pub fn may_differ(key: Key) -> bool {
         Some(Name::Zero | Name::One | Name::Virtual | Name::Prefix | Name::Vrid) => false,
         Some(
             Name::HostLimit
+            | Name::Alone
             | Name::Wire
             | Name::Router
             | Name::Mtu

@@ -7,6 +7,10 @@ use settings_file::Key;
 pub enum WarningKind {
     /// The range has one port.
     OnePort,
+    /// A gateway never makes pairs alone.
+    NeverAlone,
+    /// A gateway makes pairs alone only once packets that wait for a pair are lost.
+    LateAlone,
     /// The network has addresses that no host has.
     Martian,
     /// Both sides have this virtual router's number.
@@ -42,6 +46,10 @@ impl WarningKind {
     pub fn as_str(self) -> &'static str {
         match self {
             WarningKind::OnePort => "the range has one port, for one UDP and one TCP pair",
+            WarningKind::NeverAlone =>
+                "0 or left out: new connections wait for the other box while it doesn't answer",
+            WarningKind::LateAlone =>
+                "above 300: a connection's first packet is kept for 300 centiseconds, and then lost",
             WarningKind::Martian =>
                 "in 0/8, 127/8, 224/4 and 240/4 no host has an address; nothing is translated",
             WarningKind::SameNumber =>

@@ -10,8 +10,8 @@ use std::alloc::{AllocError, Global};
 /// socket's path, less the end of its name.
 const MAX_BOOT_FILE_PATH: usize = 107 - ".control/socket".len();
 
-/// Returns all warnings of settings: those of the networks, of each gateway, of both gateways and of the neighbours,
-/// then the loopback ports that two keys have, and those that are left out beside others of their place.
+/// Returns all warnings of settings: those of the ports, of the networks, of each gateway, of both gateways and of the
+/// neighbours, then the loopback ports that two keys have, and those that are left out beside others of their place.
 ///
 /// # Errors
 ///
@@ -19,6 +19,7 @@ const MAX_BOOT_FILE_PATH: usize = 107 - ".control/socket".len();
 pub fn warnings_of(alloc: Global, settings: &Settings) -> Result<Vec<Warning>, AllocError> {
     let Settings { zero, one, .. } = settings;
     let mut found = Vec::new(alloc);
+    add_warnings(&port_warnings(settings), &mut found)?;
     add_warnings(&network_warnings(settings), &mut found)?;
     add_warnings(&gateway_warnings(Section::GatewayZero, zero), &mut found)?;
     add_warnings(&gateway_warnings(Section::GatewayOne, one), &mut found)?;
@@ -60,23 +61,39 @@ fn warn_if(condition: bool, section: Section, name: Name, kind: WarningKind) -> 
     }
 }
 
-fn network_warnings(settings: &Settings) -> [Option<Warning>; 6] {
+/// For how many centiseconds a packet that waits for its pair is kept.
+const KEPT: u16 = 300;
+
+fn port_warnings(settings: &Settings) -> [Option<Warning>; 4] {
+    let Settings { ports, alone, .. } = settings;
+    let one_zero = has_one_port(ports.zero);
+    let one_one = has_one_port(ports.one);
+    let (is_never, is_late) = (*alone == 0, *alone > KEPT);
+    [
+        warn_if(one_zero, Section::Ports, Name::Zero, WarningKind::OnePort),
+        warn_if(one_one, Section::Ports, Name::One, WarningKind::OnePort),
+        warn_if(
+            is_never,
+            Section::Ports,
+            Name::Alone,
+            WarningKind::NeverAlone,
+        ),
+        warn_if(is_late, Section::Ports, Name::Alone, WarningKind::LateAlone),
+    ]
+}
+
+fn network_warnings(settings: &Settings) -> [Option<Warning>; 4] {
     let Settings {
-        ports,
         inside,
         outside,
         router,
         ..
     } = settings;
-    let one_zero = has_one_port(ports.zero);
-    let one_one = has_one_port(ports.one);
     let martian_inside = is_martian(inside.virtual_ip);
     let martian_outside = is_martian(outside.virtual_ip);
     let same_number = inside.virtual_router == outside.virtual_router;
     let is_network = is_network_address(*router, outside.prefix_length);
     [
-        warn_if(one_zero, Section::Ports, Name::Zero, WarningKind::OnePort),
-        warn_if(one_one, Section::Ports, Name::One, WarningKind::OnePort),
         warn_if(
             martian_inside,
             Section::Inside,

@@ -10,7 +10,7 @@ use Rattle.addresses.specs.declared.transport.Port.{Port}
 use Rattle.addresses.specs.declared.transport.Protocol.{Protocol}
 use Rattle.addresses.specs.declared.transport.Protocol.TheVariants.{Icmp, Tcp, Udp}
 use Rattle.nat_types.specs.declared.pairs.EntryState.{EntryState}
-use Rattle.nat_types.specs.declared.pairs.EntryState.TheVariants.{Pending, Doomed, Live, Closing, Held}
+use Rattle.nat_types.specs.declared.pairs.EntryState.TheVariants.{Pending, Doomed, Live, Closing, Held, Alone}
 use Rattle.command_line.specs.Values.{IsReadIf, flag_of}
 use Rattle.command_line.specs.declared.words.StatusFormat.{StatusFormat}
 use Rattle.command_line.specs.declared.words.StatusFormat.TheVariants.{Plain, Json, Prometheus}
@@ -56,9 +56,11 @@ protocol_in rows = meant protocol_of (first_of (codes "protocol") rows)
 
 abbrev pub entry_state_of : Text → Option EntryState
 entry_state_of word =
-    if bytes_eq word (codes "pending") then Some Pending else if bytes_eq word (codes "doomed") then Some Doomed
-    else if bytes_eq word (codes "live") then Some Live else if bytes_eq word (codes "closing") then Some Closing
-    else if bytes_eq word (codes "held") then Some Held else None
+    if bytes_eq word (codes "pending") then Some (Pending false) else if bytes_eq word (codes "doomed") then Some Doomed
+    else if bytes_eq word (codes "live") then Some Live else if bytes_eq word (codes "closing") then Some (Closing false)
+    else if bytes_eq word (codes "held") then Some Held else if bytes_eq word (codes "alone") then Some Alone
+    else if bytes_eq word (codes "pending_marked") then Some (Pending true)
+    else if bytes_eq word (codes "closing_marked") then Some (Closing true) else None
 
 abbrev pub entry_state_in : List Row → Option (Option EntryState)
 entry_state_in rows = meant entry_state_of (first_of (codes "state") rows)

@@ -72,11 +72,14 @@ fn state_of(word: &str) -> Option<EntryState>
     ensures { result ≡ entry_state_of word.now }
 {
     match word {
-        "pending" => Some(EntryState::Pending),
+        "pending" => Some(EntryState::Pending { marked: false }),
         "doomed" => Some(EntryState::Doomed),
         "live" => Some(EntryState::Live),
-        "closing" => Some(EntryState::Closing),
+        "closing" => Some(EntryState::Closing { marked: false }),
         "held" => Some(EntryState::Held),
+        "alone" => Some(EntryState::Alone),
+        "pending_marked" => Some(EntryState::Pending { marked: true }),
+        "closing_marked" => Some(EntryState::Closing { marked: true }),
         _ => None,
     }
 }

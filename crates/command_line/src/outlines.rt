@@ -249,7 +249,7 @@ static COMMANDS: [Outline<'static>; 10] = [
             Argument {
                 kind: ArgumentKind::Text,
                 name: "state",
-                help: "Pairs in this state: pending, doomed, live, closing or held",
+                help: "Pairs in one state: pending, doomed, live, closing, held, alone, pending_marked, closing_marked",
             },
         ],
     },

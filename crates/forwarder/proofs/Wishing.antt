@@ -19,17 +19,20 @@ use Rattle.spec_binding.specs.declared.changes.PortRequest.{PortRequest}
 use Rattle.spec_binding.specs.declared.changes.Transition.{Transition}
 use Rattle.spec_binding.specs.declared.changes.Want.TheVariants as want
 use Rattle.spec_binding.specs.Books.{Book, is_lone, is_synced}
-use Rattle.spec_binding.specs.Rows.{answered, is_at_limit, is_full, known_wish, new_pair, new_wish, none_row, port_for, quiet, row, wish, wish_by, wish_of}
+use Rattle.spec_binding.specs.Rows.{answered, is_at_limit, is_full, known_wish, new_pair, new_wish, none_row, paired_wish, port_for, quiet, row, wish, wish_by, wish_of}
 use Rattle.spec_step.specs.Parts.{by_row, wanted_by}
-use Rattle.spec_step.specs.Shown.{GatewayAndOutput, scene}
+use Rattle.spec_step.specs.Shown.{GatewayAndOutput, is_apart, scene}
 
 -- ---- nothing is pushed where the link is full
 
 known-mute : (p : Pair) (s : EntryState) → (known_wish p s).row.answer ≡ None
-known-mute p state.Pending = refl
+known-mute p (state.Pending true) = refl
+known-mute p (state.Pending false) = refl
 known-mute p state.Doomed = refl
 known-mute p state.Live = refl
-known-mute p state.Closing = refl
+known-mute p (state.Closing true) = refl
+known-mute p (state.Closing false) = refl
+known-mute p state.Alone = refl
 known-mute p state.Held = refl
 
 none-mute : (b : Book) → (none_row b true).answer ≡ None
@@ -40,27 +43,31 @@ none-mute b = at (is_lone b.stage) b.wants
     at false true = refl
     at false false = refl
 
-new-mute : (b : Book) (e : Endpoint) (o : Option Port) → (new_wish b true e o).row.answer ≡ None
-new-mute b e None = none-mute b
-new-mute b e (Some port) = at (is_lone b.stage)
-  where
-    at : (lone : Bool) → (let w : PortRequest = cond lone (wish (want.Port port) (row (change_of.Add (entry_in state.Live (new_pair e port))) None (Some (Retaken (new_pair e port))))) (wish want.NotNow quiet) in w.row).answer ≡ None
-    at true = refl
-    at false = refl
+paired-mute : (apart : Bool) (p : Pair) → (paired_wish apart true p).row.answer ≡ None
+paired-mute true p = refl
+paired-mute false p = refl
 
-by-mute : (b : Book) (e : Endpoint) (o : Option Entry) → (wish_by b true e o).row.answer ≡ None
-by-mute b e (Some x) = known-mute x.pair x.state
-by-mute b e None = at (is_at_limit b e.address)
+new-mute : (b : Book) (apart : Bool) (e : Endpoint) (o : Option Port) → (new_wish b apart true e o).row.answer ≡ None
+new-mute b apart e None = none-mute b
+new-mute b apart e (Some port) = at (is_lone b.stage)
   where
-    at : (limited : Bool) → (let w : PortRequest = cond limited (wish want.HostLimit quiet) (new_wish b true e (port_for b e)) in w.row).answer ≡ None
+    at : (lone : Bool) → (let w : PortRequest = cond lone (wish (want.Port port) (row (change_of.Add (entry_in state.Live (new_pair e port))) None (Some (Retaken (new_pair e port))))) (paired_wish apart true (new_pair e port)) in w.row).answer ≡ None
     at true = refl
-    at false = new-mute b e (port_for b e)
+    at false = paired-mute apart (new_pair e port)
 
-wish-mute : (b : Book) (e : Endpoint) → (wish_of b true e).row.answer ≡ None
-wish-mute b e = at (is_synced b.stage)
+by-mute : (b : Book) (apart : Bool) (e : Endpoint) (o : Option Entry) → (wish_by b apart true e o).row.answer ≡ None
+by-mute b apart e (Some x) = known-mute x.pair x.state
+by-mute b apart e None = at (is_at_limit b e.address)
   where
-    at : (synced : Bool) → (let w : PortRequest = cond synced (wish_by b true e (entry_of b.entries e)) (wish want.NotNow quiet) in w.row).answer ≡ None
-    at true = by-mute b e (entry_of b.entries e)
+    at : (limited : Bool) → (let w : PortRequest = cond limited (wish want.HostLimit quiet) (new_wish b apart true e (port_for b e)) in w.row).answer ≡ None
+    at true = refl
+    at false = new-mute b apart e (port_for b e)
+
+wish-mute : (b : Book) (apart : Bool) (e : Endpoint) → (wish_of b apart true e).row.answer ≡ None
+wish-mute b apart e = at (is_synced b.stage)
+  where
+    at : (synced : Bool) → (let w : PortRequest = cond synced (wish_by b apart true e (entry_of b.entries e)) (wish want.NotNow quiet) in w.row).answer ≡ None
+    at true = by-mute b apart e (entry_of b.entries e)
     at false = refl
 
 -- ---- elsewhere a push takes one of 65 places or more
@@ -79,17 +86,17 @@ mute-leaves : (e : Link) (a : Option Record) → a ≡ None → min 64 (free_pla
 mute-leaves e None mute = omega arith
 mute-leaves e (Some r) mute = cc
 
-pub wish-leaves : (b : Book) (l : Link) (e : Endpoint) → min 64 (free_places l) ≤ free_places (answered l (wish_of b (is_full l) e).row.answer)
-wish-leaves b l e = at (is_full l) refl
+pub wish-leaves : (b : Book) (apart : Bool) (l : Link) (e : Endpoint) → min 64 (free_places l) ≤ free_places (answered l (wish_of b apart (is_full l) e).row.answer)
+wish-leaves b apart l e = at (is_full l) refl
   where
-    at : (full : Bool) → is_full l ≡ full → min 64 (free_places l) ≤ free_places (answered l (wish_of b full e).row.answer)
-    at true is = mute-leaves l (wish_of b true e).row.answer (wish-mute b e)
-    at false is = answered-leaves l (wish_of b false e).row.answer is
+    at : (full : Bool) → is_full l ≡ full → min 64 (free_places l) ≤ free_places (answered l (wish_of b apart full e).row.answer)
+    at true is = mute-leaves l (wish_of b apart true e).row.answer (wish-mute b apart e)
+    at false is = answered-leaves l (wish_of b apart false e).row.answer is
 
 -- ---- a wish that changes nothing
 
 quiet-done : (s : GatewayAndOutput) → by_row s quiet ≡ s
 quiet-done s = ap (λ (notes : List Note). scene s.shown (record s.told { notes = notes })) (append-nil s.told.notes)
 
-pub still : (s : GatewayAndOutput) (e : Endpoint) → (wish_of s.shown.ledger.book (is_full s.shown.link) e).row ≡ quiet → wanted_by s e ≡ s
+pub still : (s : GatewayAndOutput) (e : Endpoint) → (wish_of s.shown.ledger.book (is_apart s.shown) (is_full s.shown.link) e).row ≡ quiet → wanted_by s e ≡ s
 still s e is = ap (by_row s) is ∙ quiet-done s

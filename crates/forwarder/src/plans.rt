@@ -31,8 +31,9 @@ fn own_pair(flow: Flow, port: Port) -> Pair
     Pair::new(key, flow.source, flow.source_port)
 }
 
-/// Returns the pair of an entry that translates. The Err is `NoBinding` where there is no entry or
-/// its proposal was given up, and `CannotWait` where the pair isn't agreed or is being closed.
+/// Returns the pair of an entry that translates, as a marked one does. The Err is `NoBinding` where
+/// there is no entry or its proposal was given up, and `CannotWait` where the pair isn't agreed or is
+/// being closed.
 #[inline(always)]
 pub(crate) fn pair_of(entry: Option<Entry>) -> Result<Pair, Reason>
     ensures { result ≡ pair_at entry }
@@ -40,8 +41,14 @@ pub(crate) fn pair_of(entry: Option<Entry>) -> Result<Pair, Reason>
     match entry {
         None => Err(Reason::NoBinding),
         Some(entry) => match entry.state {
-            EntryState::Live | EntryState::Held => Ok(entry.pair),
-            EntryState::Pending | EntryState::Closing => Err(Reason::CannotWait),
+            EntryState::Live | EntryState::Alone | EntryState::Held => Ok(entry.pair),
+            EntryState::Pending { marked } | EntryState::Closing { marked } => {
+                if marked {
+                    Ok(entry.pair)
+                } else {
+                    Err(Reason::CannotWait)
+                }
+            }
             EntryState::Doomed => Err(Reason::NoBinding),
         },
     }
@@ -127,12 +134,13 @@ impl Forwarder {
         }
     }
 
-    /// Returns what the endpoint of a packet's source would be given; nothing changes.
+    /// Returns what the endpoint of a packet's source would be given now; nothing changes.
     #[inline(always)]
     fn look_for(&self, flow: Flow) -> Want
         ensures { result ≡ look_for (shown_of self.now) flow }
     {
-        self.core.look(&self.link, source_endpoint(flow))
+        self.core
+            .look(&self.link, source_endpoint(flow), self.moment)
     }
 
     /// Returns the pair of the outside port to which a packet goes, or why there is none.

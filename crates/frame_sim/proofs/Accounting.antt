@@ -14,7 +14,7 @@ use Rattle.output.specs.Output.{Output}
 use Rattle.spec_step.specs.Founding.{begun}
 use Rattle.spec_step.specs.Rests.{AccountsOn, Rests}
 use Rattle.spec_step.specs.Shown.{Shown, id_of, scene}
-use Rattle.frame_sim.specs.World.{Half, World, founding, gateway_at, half, with_half}
+use Rattle.frame_sim.specs.World.{Half, World, founding_of, gateway_at, half, settings_of, with_half}
 use Rattle.frame_sim.specs.Events.{noting, since, stepped}
 use Rattle.frame_sim.specs.Scene.{AccountsAt, IsAccounted, IsHalf}
 use Rattle.frame_sim.proofs.Laws.{BegunAccounts, FoundedAccounts, OthersBoot, OthersCrash, OthersStep}
@@ -72,22 +72,22 @@ crash-accounted others w pushed i moment halves was =
     }
 
 pub boot-accounted : OthersBoot → BegunAccounts → (w : World) (pushed : GatewayId → List Record) (i : GatewayId) (number : ℕ) → ((j : GatewayId) → IsHalf w.settings.ports j (half w j).boot (half w j).gateway (pushed j))
-    → IsAccounted w → IsAccounted (with_half w i (record (half w i) { gateway = Some (begun w.settings i number); boot = number }) (w.trace ++ noting i 0 (Booted number) ∷ []))
+    → IsAccounted w → IsAccounted (with_half w i (record (half w i) { gateway = Some (begun (settings_of w i) i number); boot = number }) (w.trace ++ noting i 0 (Booted number) ∷ []))
 boot-accounted others begins w pushed i number halves was =
     let n = noting i 0 (Booted number) in
     let trace2 = w.trace ++ n ∷ [] in
-    let new = begun w.settings i number in
+    let new = begun (settings_of w i) i number in
     let keeps : (o : Shown) → same (id_of o) i ≡ false → AccountsOn o (reverse w.trace) → AccountsOn o (reverse trace2) =
     λ o apart theirs. subst (AccountsOn o) (one-more w.trace n) (others o i 0 number (reverse w.trace) apart theirs) in
     record {
       idle = subst past.Idle (one-more w.trace n) (tt, was.idle);
-      accounts = accounts-are w i (record (half w i) { gateway = Some new; boot = number }) trace2 (subst (AccountsOn new) (one-more w.trace n) (begins w.settings i number 0 (reverse w.trace) was.idle))
+      accounts = accounts-are w i (record (half w i) { gateway = Some new; boot = number }) trace2 (subst (AccountsOn new) (one-more w.trace n) (begins (settings_of w i) i number 0 (reverse w.trace) was.idle))
           (beside i w.settings.ports (half w (other i)).boot (pushed (other i)) w.trace trace2 (gateway_at w (other i)) (halves (other i)) keeps (was.accounts (other i)));
     }
 
-pub founding-accounted : FoundedAccounts → (settings : Settings) → IsAccounted (founding settings)
-founding-accounted founds settings = record { idle = tt; accounts = accounts }
+pub founding-accounted : FoundedAccounts → (settings settings_one : Settings) → IsAccounted (founding_of settings settings_one)
+founding-accounted founds settings settings_one = record { idle = tt; accounts = accounts }
   where
-    accounts : (i : GatewayId) → AccountsAt (gateway_at (founding settings) i) []
+    accounts : (i : GatewayId) → AccountsAt (gateway_at (founding_of settings settings_one) i) []
     accounts Zero = founds settings 1
     accounts One = tt

@@ -53,11 +53,11 @@ GoesTo = (r : Ranges) (s : Seen) (e : MachineEvent) → IsWorld r s → Can r e.
 
 -- the boxes with which the machine begins
 abbrev pub BoxBooted : Type 0
-BoxBooted = (id : GatewayId) (zero one : PortBounds) (limit : Option ℕ) (boot capacity : ℕ) → box_at (empty_book id zero one limit) (fresh id boot capacity) [] 0 ≡ booted boot
+BoxBooted = (id : GatewayId) (zero one : PortBounds) (limit : Option ℕ) (alone boot capacity : ℕ) → box_at (empty_book id zero one limit alone) (fresh id boot capacity) [] 0 ≡ booted boot
 
 abbrev pub BoxFounded : Type 0
-BoxFounded = (zero one : PortBounds) (limit : Option ℕ) (capacity : ℕ) → AreBounds zero → let r = ranges_of (founded_book zero one limit) in
-    box_at (founded_book zero one limit) (fresh Zero 1 capacity) [] 0 ≡ founder (λ p. r.in_ranges p && r.at_start p)
+BoxFounded = (zero one : PortBounds) (limit : Option ℕ) (alone capacity : ℕ) → AreBounds zero → let r = ranges_of (founded_book zero one limit alone) in
+    box_at (founded_book zero one limit alone) (fresh Zero 1 capacity) [] 0 ≡ founder (λ p. r.in_ranges p && r.at_start p)
 
 -- the founding can come about
 abbrev pub Begins : Type 0

@@ -12,4 +12,5 @@ mod Lending
 mod Taking
 mod Runs
 mod Accounting
+mod BySettings
 mod Owning

@@ -9,7 +9,7 @@ use Rattle.nat_types.specs.declared.pairs.Key.{Key}
 use Rattle.nat_types.specs.declared.pairs.Pair.{Pair}
 use Rattle.nat_types.specs.declared.records.Granted.{Granted}
 use Rattle.nat_types.specs.declared.records.Record.{Record}
-use Rattle.nat_types.specs.declared.records.Record.TheVariants.{Install, Accept, Refuse, Ask, Yes, No, Begin, Put, Done, Want, Grant, Owner}
+use Rattle.nat_types.specs.declared.records.Record.TheVariants.{Install, Accept, Refuse, Ask, Yes, No, Begin, Put, Done, Want, Grant, Owner, Tell}
 use Rattle.link.specs.declared.datagrams.Datagram.{Datagram}
 use Rattle.link.specs.Grammar.{IsWellFormed, IsWellFormedGrant, IsWellFormedRecord, gateway_number, status_number, key_bytes, pair_bytes, port_bytes, record_bytes, spelling}
 
@@ -45,6 +45,7 @@ record-short most (Put p) is = omega (arith, pair-short p)
 record-short most Done is = omega arith
 record-short most Want is = omega arith
 record-short most (Grant g) is = omega (arith, ports-short g.ports, most g is)
+record-short most (Tell p) is = omega (arith, pair-short p)
 record-short most (Owner a b) is = omega (arith, length-append (port_bytes a) (port_bytes b), big 2 a.0, big 2 b.0)
 
 records-short : Few → (rs : List Record) → AllByRecursion IsWellFormedRecord rs → length (flat_map record_bytes rs) ≤ 34 * length rs

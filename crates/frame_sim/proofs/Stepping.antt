@@ -30,6 +30,7 @@ use Rattle.frame_sim.specs.Events.{since, stepped}
 use Rattle.frame_sim.specs.Scene.{IsHalf, IsHanded, IsSound, IsThat, box_at, mail_of, ranges_of, scene_of}
 use Rattle.frame_sim.proofs.Laws.{AreRead, OthersStep, StepsAccount, StepsAnywhere, StepsGo, StepsKeep}
 use Rattle.frame_sim.proofs.Accounting.{step-accounted}
+use Rattle.frame_sim.proofs.BySettings.{step-by-settings}
 use Rattle.frame_sim.proofs.Mails.{are-formed, more-mail, since-is}
 
 -- ---- what a scene shows of gateway i
@@ -115,8 +116,10 @@ step-sound go read keep anywhere account others w i g new event told told2 sound
     let there2 = subst (λ (m : List Letter). IsWorld r (with_step s i b2 (ns ++ s.trace) (ms ++ m))) (mail-is w pushed i) there in
     let noted = since-is told.notes goes.notes told2.notes goes.notes_are in
     let trace : reverse (w.trace ++ since told.notes told2.notes) ≡ ns ++ reverse w.trace = ap (λ (xs : List Note). reverse (w.trace ++ xs)) noted ∙ reverse-append w.trace goes.notes in
+    let rests = account (scene g told) event (scene new told2) step bytes book kept in
     let mail = more-mail read (half w i).sent (since told.datagrams told2.datagrams) goes.sent (since-is told.datagrams _ told2.datagrams goes.datagrams_are) (are-formed new.link (serves new) goes.sent link goes.own) in
     record {
+      ranges = record { zero = sound.ranges.zero; one = sound.ranges.one };
       pushed = with_pushed pushed i h2;
       halves = halves-are w pushed i (record (half w i) { gateway = Some new; sent = (half w i).sent ++ since told.datagrams told2.datagrams }) h2 (w.trace ++ since told.notes told2.notes) sound.halves (record {
         id = goes.house.id ∙ that.id;
@@ -126,5 +129,6 @@ step-sound go read keep anywhere account others w i g new event told told2 sound
         pushed = goes.pushed;
       });
       scene = subst (IsWorld r) (scene-is w pushed i new h2 told told2 ns ms trace mail) there2;
-      accounted = step-accounted others w pushed i g new told told2 (account (scene g told) event (scene new told2) step bytes book kept) sound.halves that.id up sound.accounted;
+      accounted = step-accounted others w pushed i g new told told2 rests sound.halves that.id up sound.accounted;
+      by_settings = step-by-settings w i g new told told2 rests up sound.by_settings;
     }

@@ -18,11 +18,12 @@ use Rattle.spec_pair.specs.World.{Can, IsWorld, Scene, after_event, seen_by}
 use Rattle.spec_step.specs.Founding.{begun, bounds_of, founded, link_places}
 use Rattle.spec_step.specs.Machine.{box_of}
 use Rattle.spec_step.specs.Shown.{Shown}
-use Rattle.frame_sim.specs.World.{World, founding, gateway_at, half, is_up, synced_at, with_half}
+use Rattle.frame_sim.specs.World.{HaveSameRanges, World, founding_of, gateway_at, half, is_up, settings_of, synced_at, with_half}
 use Rattle.frame_sim.specs.Events.{may_boot, may_crash, noting}
 use Rattle.frame_sim.specs.Scene.{IsHalf, IsSound, IsThat, box_at, ranges_of, scene_of}
 use Rattle.frame_sim.proofs.Laws.{Begins, BegunAccounts, BoxBooted, BoxFounded, FoundedAccounts, GoesTo, OthersBoot, OthersCrash}
 use Rattle.frame_sim.proofs.Accounting.{boot-accounted, crash-accounted, founding-accounted}
+use Rattle.frame_sim.proofs.BySettings.{boot-by-settings, crash-by-settings, founding-by-settings}
 use Rattle.frame_sim.proofs.Stepping.{halves-are, with_pushed}
 
 -- ---- what a box shows of a gateway that may be down
@@ -84,11 +85,13 @@ pub crash-sound : GoesTo → OthersCrash → (w : World) (i : GatewayId) (moment
 crash-sound goes others w i moment sound may =
     let r = ranges_of w.settings.ports in
     record {
+      ranges = record { zero = sound.ranges.zero; one = sound.ranges.one };
       pushed = with_pushed sound.pushed i [];
       halves = halves-are w sound.pushed i (record (half w i) { gateway = None }) [] (w.trace ++ noting i moment Crashed ∷ []) sound.halves tt;
       scene = subst (IsWorld r) (crashed-is w sound.pushed i moment sound.halves)
           (goes r (scene_of w sound.pushed) (crash i moment) sound.scene (can-crash w sound.pushed i may));
       accounted = crash-accounted others w sound.pushed i moment sound.halves sound.accounted;
+      by_settings = crash-by-settings w i moment sound.by_settings;
     }
 
 -- ---- a boot
@@ -97,7 +100,7 @@ abbrev boot : GatewayId → ℕ → machine.MachineEvent
 boot i n = record { by = i; moment = 0; act = act.Boot n }
 
 abbrev pub booted_world : World → GatewayId → ℕ → World
-booted_world w i n = with_half w i (record (half w i) { gateway = Some (begun w.settings i n); boot = n }) (w.trace ++ noting i 0 (Booted n) ∷ [])
+booted_world w i n = with_half w i (record (half w i) { gateway = Some (begun (settings_of w i) i n); boot = n }) (w.trace ++ noting i 0 (Booted n) ∷ [])
 
 can-boot : (w : World) (pushed : GatewayId → List Record) (i : GatewayId) (n : ℕ) → ((j : GatewayId) → IsHalf w.settings.ports j (half w j).boot (half w j).gateway (pushed j))
     → may_boot w i n ≡ true → Can (ranges_of w.settings.ports) i (seen_by i (scene_of w pushed)) (act.Boot n)
@@ -114,11 +117,16 @@ begun-box : BoxBooted → (settings : Settings) (i : GatewayId) (n : ℕ) → bo
 unfolding begun
 begun-box law settings i n =
     let zero = bounds_of settings.ports.zero in let one = bounds_of settings.ports.one in
-    sym (law i zero one settings.ports.host_limit n (link_places zero one))
+    sym (law i zero one settings.ports.host_limit settings.alone n (link_places zero one))
 
-begun-that : (settings : Settings) (i : GatewayId) (n : ℕ) → IsThat settings.ports i n (begun settings i n) []
+-- a gateway that begins is that of its number, by the ranges of either settings
+begun-that : (settings own : Settings) (i : GatewayId) (n : ℕ) → own.ports.zero ≡ settings.ports.zero → own.ports.one ≡ settings.ports.one → IsThat settings.ports i n (begun own i n) []
 unfolding begun
-begun-that settings i n = record { id = refl; zero = refl; one = refl; boot = refl; pushed = record { counted = omega arith; coming = refl; behind = refl } }
+begun-that settings own i n zero one = record { id = refl; zero = ap bounds_of zero; one = ap bounds_of one; boot = refl; pushed = record { counted = omega arith; coming = refl; behind = refl } }
+
+begun-at : (w : World) (i : GatewayId) (n : ℕ) → HaveSameRanges w.settings w.settings_one → IsThat w.settings.ports i n (begun (settings_of w i) i n) []
+begun-at w Zero n same = begun-that w.settings w.settings Zero n refl refl
+begun-at w One n same = begun-that w.settings w.settings_one One n same.zero same.one
 
 booted-is : BoxBooted → (w : World) (pushed : GatewayId → List Record) (i : GatewayId) (n : ℕ)
     → after_event (ranges_of w.settings.ports) (scene_of w pushed) (boot i n) ≡ scene_of (booted_world w i n) (with_pushed pushed i [])
@@ -128,41 +136,45 @@ booted-is law w pushed Zero n =
     ∙ ap (λ (t : List Note). let x : Scene = record s { mine = box_of (begun w.settings Zero n) []; trace = t } in x) (one-more w.trace (noting Zero 0 (Booted n)))
 booted-is law w pushed One n =
     let s = scene_of w pushed in
-    ap (λ (b : Box). let x : Scene = record s { theirs = b; trace = noting One 0 (Booted n) ∷ reverse w.trace } in x) (begun-box law w.settings One n)
-    ∙ ap (λ (t : List Note). let x : Scene = record s { theirs = box_of (begun w.settings One n) []; trace = t } in x) (one-more w.trace (noting One 0 (Booted n)))
+    ap (λ (b : Box). let x : Scene = record s { theirs = b; trace = noting One 0 (Booted n) ∷ reverse w.trace } in x) (begun-box law w.settings_one One n)
+    ∙ ap (λ (t : List Note). let x : Scene = record s { theirs = box_of (begun w.settings_one One n) []; trace = t } in x) (one-more w.trace (noting One 0 (Booted n)))
 
 pub boot-sound : GoesTo → BoxBooted → OthersBoot → BegunAccounts → (w : World) (i : GatewayId) (n : ℕ) → IsSound w → may_boot w i n ≡ true → IsSound (booted_world w i n)
 boot-sound goes law others begins w i n sound may =
     let r = ranges_of w.settings.ports in
     record {
+      ranges = record { zero = sound.ranges.zero; one = sound.ranges.one };
       pushed = with_pushed sound.pushed i [];
-      halves = halves-are w sound.pushed i (record (half w i) { gateway = Some (begun w.settings i n); boot = n }) [] (w.trace ++ noting i 0 (Booted n) ∷ []) sound.halves (begun-that w.settings i n);
+      halves = halves-are w sound.pushed i (record (half w i) { gateway = Some (begun (settings_of w i) i n); boot = n }) [] (w.trace ++ noting i 0 (Booted n) ∷ []) sound.halves (begun-at w i n sound.ranges);
       scene = subst (IsWorld r) (booted-is law w sound.pushed i n)
           (goes r (scene_of w sound.pushed) (boot i n) sound.scene (can-boot w sound.pushed i n sound.halves may));
       accounted = boot-accounted others begins w sound.pushed i n sound.halves sound.accounted;
+      by_settings = boot-by-settings w i n sound.by_settings;
     }
 
 -- ---- the founding
 
-founded-box : BoxFounded → (settings : Settings) → AreBounds (bounds_of settings.ports.zero) → machine.founding (ranges_of settings.ports) ≡ scene_of (founding settings) (λ i. [])
+founded-box : BoxFounded → (settings settings_one : Settings) → AreBounds (bounds_of settings.ports.zero) → machine.founding (ranges_of settings.ports) ≡ scene_of (founding_of settings settings_one) (λ i. [])
 unfolding founded begun
-founded-box law settings are =
+founded-box law settings settings_one are =
     let zero = bounds_of settings.ports.zero in let one = bounds_of settings.ports.one in
-    ap (λ (b : Box). let x : Scene = record (machine.founding (ranges_of settings.ports)) { mine = b } in x) (sym (law zero one settings.ports.host_limit (link_places zero one) are))
+    ap (λ (b : Box). let x : Scene = record (machine.founding (ranges_of settings.ports)) { mine = b } in x) (sym (law zero one settings.ports.host_limit settings.alone (link_places zero one) are))
 
 founded-that : (settings : Settings) → IsThat settings.ports Zero 1 (founded settings 1) []
 unfolding founded begun
 founded-that settings = record { id = refl; zero = refl; one = refl; boot = refl; pushed = record { counted = omega arith; coming = refl; behind = refl } }
 
-pub founding-sound : Begins → BoxFounded → FoundedAccounts → (settings : Settings) → AreBounds (bounds_of settings.ports.zero) → IsSound (founding settings)
-founding-sound begins law founds settings are = record {
+pub founding-sound : Begins → BoxFounded → FoundedAccounts → (settings settings_one : Settings) → AreBounds (bounds_of settings.ports.zero) → HaveSameRanges settings settings_one → IsSound (founding_of settings settings_one)
+founding-sound begins law founds settings settings_one are same = record {
+  ranges = same;
   pushed = λ i. [];
   halves = halves;
-  scene = subst (IsWorld (ranges_of settings.ports)) (founded-box law settings are) (begins (ranges_of settings.ports));
-  accounted = founding-accounted founds settings;
+  scene = subst (IsWorld (ranges_of settings.ports)) (founded-box law settings settings_one are) (begins (ranges_of settings.ports));
+  accounted = founding-accounted founds settings settings_one;
+  by_settings = founding-by-settings settings settings_one;
 }
   where
-    halves : (i : GatewayId) → IsHalf settings.ports i (half (founding settings) i).boot (half (founding settings) i).gateway []
+    halves : (i : GatewayId) → IsHalf settings.ports i (half (founding_of settings settings_one) i).boot (half (founding_of settings settings_one) i).gateway []
     halves Zero = founded-that settings
     halves One = tt
 

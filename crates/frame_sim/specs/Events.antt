@@ -21,7 +21,7 @@ use Rattle.nat_types.specs.declared.events.WorldEvent.{WorldEvent}
 use Rattle.nat_types.specs.declared.events.WorldEvent.TheVariants.{Frame, Tick, Stop, Deliver, Crash, Boot, PeerOff, Side as Cable}
 use Rattle.frame_sim.specs.declared.events.WorldFault.{WorldFault}
 use Rattle.frame_sim.specs.declared.events.WorldFault.TheVariants.{PremiseBroken, NoSuchDatagram}
-use Rattle.frame_sim.specs.World.{Half, World, gateway_at, half, is_up, moment_of, synced_at, with_half}
+use Rattle.frame_sim.specs.World.{Half, World, gateway_at, half, is_up, moment_of, settings_of, synced_at, with_half}
 
 -- ---- which events are refused
 
@@ -124,6 +124,6 @@ Does w (Deliver i k) = Comes w i (datagram_for w i k)
 Does w (Crash i) = let h = half w i in
     Turns w i (record h { gateway = None }) (noting i (moment_of h.gateway) Crashed)
 Does w (Boot i n) = let h = half w i in
-    Turns w i (record h { gateway = Some (begun w.settings i n); boot = n }) (noting i 0 (Booted n))
+    Turns w i (record h { gateway = Some (begun (settings_of w i) i n); boot = n }) (noting i 0 (Booted n))
 Does w (PeerOff i n) = TakesAt w i (gateway_at w i) (given.PeerOff n)
 Does w (Cable i side up) = TakesAt w i (gateway_at w i) (given.Side side up)

@@ -19,7 +19,7 @@ use Rattle.spec_step.specs.declared.events.Event.TheVariants as given
 use Rattle.spec_step.specs.Rests.{most_notes}
 use Rattle.spec_step.specs.Shown.{Shown}
 use Rattle.gateway.specs.Lacks.{LacksGateway, LacksMemory}
-use Rattle.frame_sim.specs.World.{Half, World, gateway_at, half, moment_of}
+use Rattle.frame_sim.specs.World.{Half, World, gateway_at, half, moment_of, settings_of}
 use Rattle.frame_sim.specs.Events.{kth, noting}
 
 -- There was no memory for what a gateway may send and note in a step: for the longest datagram (2,214 bytes), for its
@@ -88,7 +88,7 @@ Lacks w (Tick i moment) = IsUnstepped (gateway_at w i) (given.Tick moment)
 Lacks w (Stop i) = IsUnstepped (gateway_at w i) given.Stop
 Lacks w (Deliver i k) = IsUnreceived (half w i) (half w (other i)) k
 Lacks w (Crash i) = IsUnnoted (noting i (moment_of (gateway_at w i)) Crashed)
-Lacks w (Boot i n) = WasUnbegun w.settings i n ⊎ IsUnnoted (noting i 0 (Booted n))
+Lacks w (Boot i n) = WasUnbegun (settings_of w i) i n ⊎ IsUnnoted (noting i 0 (Booted n))
 Lacks w (PeerOff i n) = IsUnstepped (gateway_at w i) (given.PeerOff n)
 Lacks w (Cable i side up) = IsUnstepped (gateway_at w i) (given.Side side up)
 

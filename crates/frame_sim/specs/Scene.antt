@@ -9,6 +9,7 @@ use Rattle.nat_types.specs.declared.records.Record.{Record}
 use Rattle.settings.specs.declared.ranges.PortRanges.{PortRanges}
 use Rattle.bindings.specs.Ports.{in_bounds, in_either}
 use Rattle.link.specs.Reading.{reading}
+use Rattle.spec_trace.specs.Plain.{IsPlain}
 use Rattle.spec_trace.specs.Trace.{Idle}
 use Rattle.spec_pair.specs.Box.{Box, Letter, bare}
 use Rattle.spec_pair.specs.Ownership.{Ranges, moving}
@@ -19,7 +20,7 @@ use Rattle.spec_step.specs.declared.events.Event.{Event}
 use Rattle.spec_step.specs.Machine.{HasPushed, box_of, letter_in, letters_in, words_in}
 use Rattle.spec_step.specs.Rests.{AccountsOn}
 use Rattle.spec_step.specs.Shown.{Shown, id_of}
-use Rattle.frame_sim.specs.World.{World, gateway_at, half}
+use Rattle.frame_sim.specs.World.{HaveSameRanges, NeverAlone, World, gateway_at, half, settings_of}
 
 -- the two ranges: gateway 0 is founded with range zero, and ports move
 abbrev pub ranges_of : PortRanges → Ranges
@@ -70,13 +71,26 @@ pub record IsAccounted (w : World) : Type 0 where
   pub idle : Idle w.trace
   pub accounts : (i : GatewayId) → AccountsAt (gateway_at w i) w.trace
 
--- The world is sound: for some lists of pushed records its scene can come about, and the trace is accounted for.
+-- a gateway that is up is apart after as many centiseconds as its settings say
+abbrev pub AloneAfter : ℕ → Option Shown → Type 0
+AloneAfter alone None = Unit {0}
+AloneAfter alone (Some g) = g.ledger.book.alone ≡ alone
+
+-- each gateway goes by its settings, so that no note is Alone where these never make a pair alone
+pub record IsBySettings (w : World) : Type 0 where
+  pub alone : (i : GatewayId) → AloneAfter (settings_of w i).alone (gateway_at w i)
+  pub plain : NeverAlone w → IsPlain (reverse w.trace)
+
+-- The world is sound: for some lists of pushed records its scene can come about, the trace is accounted for, and both
+-- gateways go by their settings, which have the same ranges.
 pub record IsSound (w : World) : Type 0 where
+  pub ranges : HaveSameRanges w.settings w.settings_one
   pub pushed : GatewayId → List Record
   pub halves : (i : GatewayId) →
       IsHalf w.settings.ports i (half w i).boot (half w i).gateway (pushed i)
   pub scene : IsWorld (ranges_of w.settings.ports) (scene_of w pushed)
   pub accounted : IsAccounted w
+  pub by_settings : IsBySettings w
 
 -- gateway i may be given the event: its datagram was sent by the other, and its operator's word about the other is true
 pub record IsHanded (w : World) (i : GatewayId) (event : Event) : Type 0 where

@@ -1,5 +1,5 @@
 -- A world as its contracts speak of it.
-use Rattle.std.specs.Prelude.{◌≡◌, ◌⊎◌, ℕ, Bool, true, false, IsTrue, ◌↔◌, Option, Some, None, List, [], map, if◌then◌else◌}
+use Rattle.std.specs.Prelude.{◌≡◌, ◌⊎◌, ℕ, Bool, true, false, IsTrue, ◌↔◌, Option, Some, None, List, [], map, reverse, if◌then◌else◌}
 use Rattle.std.specs.List.{Contains}
 use Rattle.addresses.specs.declared.transport.Port.{Port}
 use Rattle.nat_types.specs.declared.gateways.GatewayId.{GatewayId}
@@ -15,7 +15,8 @@ use Rattle.bindings.specs.Entries.{HasDistinctKeys, is_pair, pairs_in, translate
 use Rattle.bindings.specs.Ports.{in_either}
 use Rattle.bindings.specs.Runs.{port_at}
 use Rattle.link.specs.Link.{pushed_count}
-use Rattle.spec_trace.specs.Trace.{IsSynced}
+use Rattle.spec_trace.specs.Plain as plain
+use Rattle.spec_trace.specs.Trace.{Fits, IsSynced}
 use Rattle.spec_binding.specs.Books.{is_synced}
 use Rattle.spec_step.specs.Founding.{bounds_of, founded}
 use Rattle.spec_step.specs.Shown.{Shown}
@@ -27,9 +28,10 @@ pub record Half : Type 0 where
   pub boot : ℕ
   pub sent : List (List ℕ)
 
--- the world: the settings of the pair, the two gateways, and all notes, the oldest first
+-- the world: the settings of gateway 0 and those of gateway 1, the two gateways, and all notes, the oldest first
 pub record World : Type 0 where
   pub settings : Settings
+  pub settings_one : Settings
   pub zero : Half
   pub one : Half
   pub trace : List Note
@@ -37,6 +39,10 @@ pub record World : Type 0 where
 -- the half of a gateway
 abbrev pub half : World → GatewayId → Half
 half w i = of_gateway w.zero w.one i
+
+-- the settings of a gateway
+abbrev pub settings_of : World → GatewayId → Settings
+settings_of w i = of_gateway w.settings w.settings_one i
 
 -- the gateway of this number, where it is up
 abbrev pub gateway_at : World → GatewayId → Option Shown
@@ -46,19 +52,31 @@ gateway_at w i = (half w i).gateway
 abbrev pub with_half : World → GatewayId → Half → List Note → World
 with_half w i h trace = record {
   settings = w.settings;
+  settings_one = w.settings_one;
   zero = of_gateway h w.zero i;
   one = of_gateway w.one h i;
   trace = trace;
 }
 
--- the world at the founding: gateway 0 founded with boot 1, gateway 1 down, nothing sent, nothing noted
-abbrev pub founding : Settings → World
-founding settings = record {
+-- the world at the founding of two gateways with these settings: gateway 0 founded with boot 1, gateway 1 down, nothing
+-- sent, nothing noted
+abbrev pub founding_of : Settings → Settings → World
+founding_of settings settings_one = record {
   settings = settings;
+  settings_one = settings_one;
   zero = record { gateway = Some (founded settings 1); boot = 1; sent = [] };
   one = record { gateway = None; boot = 0; sent = [] };
   trace = [];
 }
+
+-- the world at the founding of two gateways with the same settings
+abbrev pub founding : Settings → World
+founding settings = founding_of settings settings
+
+-- both settings have the same ranges
+pub record HaveSameRanges (settings settings_one : Settings) : Type 0 where
+  pub zero : settings_one.ports.zero ≡ settings.ports.zero
+  pub one : settings_one.ports.one ≡ settings.ports.one
 
 -- ---- a gateway that may be down
 
@@ -105,9 +123,20 @@ Holds w i p = Contains (pairs_of is_pair (gateway_at w i)) p
 abbrev pub Translates : World → GatewayId → Pair → Type 0
 Translates w i p = Contains (pairs_of translates (gateway_at w i)) p
 
+-- by the settings of both, no gateway of the world ever makes a pair alone
+pub record NeverAlone (w : World) : Type 0 where
+  pub zero : w.settings.alone ≡ 0
+  pub one : w.settings_one.alone ≡ 0
+
 -- a gateway is synced exactly where the trace says so
 abbrev pub ShowsSynced : World → Type 0
 ShowsSynced w = (i : GatewayId) → IsTrue (synced_at (gateway_at w i)) ↔ IsSynced i w.trace
+
+-- Where no pair was ever alone: the trace fits, and each open pair is in the table of each synced gateway, by the words
+-- as they are without the note Alone.
+pub record IsKeptTogether (w : World) : Type 0 where
+  pub fits : Fits w.trace
+  pub kept : plain.Kept (Holds w) (reverse w.trace)
 
 -- ---- the ports that the two own
 

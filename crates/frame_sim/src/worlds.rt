@@ -1,8 +1,9 @@
 //! The world of a script: two gateways, the events that they take, and the trace of their notes.
-ghost use Rattle.std.specs.Prelude.{◌≡◌, ◌<◌, ◌≤◌, ◌+◌, ◌++◌, ◌∷◌, [], true, length, option_map, vec_len, vec_capacity, IfOk, IsTrue, OnOk, OnErr, if◌then◌else◌};
+ghost use Rattle.std.specs.Prelude.{◌≡◌, ◌<◌, ◌≤◌, ◌+◌, ◌++◌, ◌∷◌, [], true, length, option_map, reverse, vec_len, vec_capacity, IfOk, IsTrue, OnOk, OnErr, if◌then◌else◌};
 ghost use Rattle.bindings.specs.Entries.{is_pair, translates};
 ghost use Rattle.spec_trace.specs.OneBox.{IsOneBox};
-ghost use Rattle.spec_trace.specs.Trace.{Fits, GoesOn, Idle, Kept, Silent};
+ghost use Rattle.spec_trace.specs.Plain.{IsPlain};
+ghost use Rattle.spec_trace.specs.Trace.{AtMostTwo, GoesOn, Idle, Kept, OneEndpoint, OnePort, Silent};
 ghost use Rattle.output.specs.Output.{with_note};
 ghost use Rattle.nat_types.specs.declared.gateways.GatewayId.TheVariants.{Zero};
 ghost use Rattle.spec_step.specs.Founding.{begun, founded};
@@ -12,7 +13,7 @@ ghost use Rattle.frame_sim.specs.Events.{TakesAt, datagram_for, may_be_told, may
 ghost use Rattle.frame_sim.specs.Lacks.{IsUnnoted, IsUnowned, IsUnpaired, IsUnstepped, IsUntranslated, WasUnbegun, WasUnrun, WasUntold, WasUntraced};
 ghost use Rattle.frame_sim.specs.Runs.{Answers, AreSteps, Gives, WasTaken, fault_of};
 ghost use Rattle.frame_sim.specs.Scene.{IsHanded};
-ghost use Rattle.frame_sim.specs.World.{Holds, IsOwned, ShowsSynced, Translates, founding, gateway_at, half, is_up, owned_by, pairs_of, synced_at};
+ghost use Rattle.frame_sim.specs.World.{HaveSameRanges, Holds, IsKeptTogether, IsOwned, NeverAlone, ShowsSynced, Translates, founding, founding_of, gateway_at, half, is_up, owned_by, pairs_of, settings_of, synced_at};
 
 use crate::halves::Half;
 use crate::{Step, WorldEvent, WorldFault};
@@ -24,7 +25,10 @@ use nat_types::{GatewayId, NoMemory, Note, NoteKind, Pair};
 use output::Room;
 use settings::Settings;
 use spec_binding::books_begin;
-use spec_pair::laws::{a_step_keeps, begins, goes_to, promises, promises_in_order, steps_anywhere};
+use spec_pair::laws::{
+    a_step_keeps, begins, goes_to, promises, promises_in_order, promises_without_alone,
+    steps_anywhere,
+};
 use spec_step::{beginnings_account, others_account, steps_account, steps_go};
 use spec_trace::laws::is_one_box;
 use std::alloc::Global;
@@ -37,6 +41,7 @@ use std::slice;
 pub struct World<'a> {
     alloc: Global,
     settings: &'a Settings,
+    settings_one: &'a Settings,
     zero: Half,
     one: Half,
     trace: Vec<Note>,
@@ -50,6 +55,7 @@ impl<'a> Model for World<'a> {
 
     ghost view = { λ w. record {
       settings = w.settings.now;
+      settings_one = w.settings_one.now;
       zero = w.zero;
       one = w.one;
       trace = w.trace.items;
@@ -57,6 +63,7 @@ impl<'a> Model for World<'a> {
 
     ghost invariant = { λ w. IsSound (record {
       settings = w.settings.now;
+      settings_one = w.settings_one.now;
       zero = w.zero;
       one = w.one;
       trace = w.trace.items;
@@ -144,6 +151,20 @@ impl<'a> World<'a> {
         ensures founding { IfOk result (λ w. w ≡ founding settings.now) }
         ensures unbegun { OnErr result (WasUnbegun settings.now Zero 1) }
     {
+        World::of(alloc, settings, settings)
+    }
+
+    /// Returns a world as `new` does, in which each gateway goes by its own settings. These have the same ranges of
+    /// ports; all else may differ, as the time after which a gateway makes pairs alone.
+    pub fn of(
+        alloc: Global,
+        settings: &'a Settings,
+        settings_one: &'a Settings,
+    ) -> Result<World<'a>, NoMemory>
+        requires ranges { HaveSameRanges settings.now settings_one.now }
+        ensures founding { IfOk result (λ w. w ≡ founding_of settings.now settings_one.now) }
+        ensures unbegun { OnErr result (WasUnbegun settings.now Zero 1) }
+    {
         begins();
         books_begin();
         beginnings_account();
@@ -152,6 +173,7 @@ impl<'a> World<'a> {
         Ok(World {
             alloc,
             settings,
+            settings_one,
             zero: Half {
                 gateway: Some(gateway),
                 boot: 1,
@@ -175,11 +197,21 @@ impl<'a> World<'a> {
         }
     }
 
+    fn settings(&self, id: GatewayId) -> &Settings
+        ensures { result.now ≡ settings_of self.now id }
+    {
+        match id {
+            GatewayId::Zero => self.settings,
+            GatewayId::One => self.settings_one,
+        }
+    }
+
     /// Ends the world, and frees its memory. A caller that drops a world by this call only proves nothing of its parts.
     pub fn end(self) {
         let World {
             alloc: _,
             settings: _,
+            settings_one: _,
             zero,
             one,
             trace: _trace,
@@ -190,8 +222,14 @@ impl<'a> World<'a> {
 
     /// Reminds the prover of what each world keeps. The call does nothing when it runs.
     pub fn recall(&self)
-        ensures fits { Fits self.now.trace }
+        ensures one_port { OnePort self.now.trace }
+        ensures one_endpoint { OneEndpoint self.now.trace }
+        ensures at_most_two { AtMostTwo (Holds self.now) self.now.trace }
         ensures kept { Kept (Holds self.now) self.now.trace }
+        // Where no pair was ever alone, the promises are those of two gateways that make no pair without the other.
+        ensures together { IsPlain (reverse self.now.trace) → IsKeptTogether self.now }
+        // By settings that never make a pair alone, no pair was ever alone.
+        ensures plain { NeverAlone self.now → IsPlain (reverse self.now.trace) }
         ensures silent { Silent self.now.trace }
         ensures goes_on { GoesOn (Translates self.now) self.now.trace }
         ensures synced { ShowsSynced self.now }
@@ -200,6 +238,7 @@ impl<'a> World<'a> {
         ensures owned_ports { IsOwned self.now }
     {
         promises_in_order();
+        promises_without_alone();
         promises();
         is_one_box();
         self.zero.recall();
@@ -285,8 +324,12 @@ impl<'a> World<'a> {
     /// Takes the events in order, and returns a step for each. Answers NoMemory, without taking an event, where there
     /// is no memory for the list of steps.
     pub fn run(&mut self, events: &[WorldEvent]) -> Result<Vec<Step>, NoMemory>
-        ensures fits { Fits self.new.trace }
+        ensures one_port { OnePort self.new.trace }
+        ensures one_endpoint { OneEndpoint self.new.trace }
+        ensures at_most_two { AtMostTwo (Holds self.new) self.new.trace }
         ensures kept { Kept (Holds self.new) self.new.trace }
+        ensures together { IsPlain (reverse self.new.trace) → IsKeptTogether self.new }
+        ensures plain { NeverAlone self.new → IsPlain (reverse self.new.trace) }
         ensures silent { Silent self.new.trace }
         ensures goes_on { GoesOn (Translates self.new) self.new.trace }
         ensures synced { ShowsSynced self.new }
@@ -409,7 +452,7 @@ impl<'a> World<'a> {
         if !self.may_boot(id, number) {
             return Err(WorldFault::PremiseBroken);
         }
-        let gateway = begin(self.alloc, self.settings, id, number, false)?;
+        let gateway = begin(self.alloc, self.settings(id), id, number, false)?;
         let note = Note {
             by: id,
             at: 0,

@@ -6,12 +6,12 @@ use Rattle.link.specs.declared.datagrams.Datagram.{Datagram}
 use Rattle.link.specs.declared.datagrams.Taken.{Taken}
 use Rattle.link.specs.declared.faults.LinkFault.{LinkFault}
 use Rattle.link.specs.Hearing as link
-use Rattle.link.specs.Link.{IsTaken, Link, after_take, answered, is_restart, records_taken, refusal, taken_of, taken_with, taking}
+use Rattle.link.specs.Link.{IsTaken, Link, after_take, is_restart, records_taken, refusal, taken_of, taken_unless, taken_with, taking}
 use Rattle.spec_binding.specs.Ledgers.{is_heard}
 use Rattle.spec_step.specs.Parts.{datagram_read, datagram_taken, heard_unless, records_done, reset, with_link}
 use Rattle.spec_step.specs.Shown.{GatewayAndOutput}
 
-unless-is : (s : GatewayAndOutput) (d : Datagram) (o : Option LinkFault) (f : LinkFault) → answered o (taken_of s.shown.link d) ≡ Err f → heard_unless s d o ≡ s
+unless-is : (s : GatewayAndOutput) (d : Datagram) (o : Option LinkFault) (f : LinkFault) → taken_unless o (taken_of s.shown.link d) ≡ Err f → heard_unless s d o ≡ s
 unless-is s d None f is = absurd (cc)
 unless-is s d (Some g) f is = refl
 

@@ -14,9 +14,9 @@ use Rattle.link.specs.Link.{Link, after_take, closed_at, is_due_on_tick, is_rest
 use Rattle.link.specs.Reading.{reading}
 use Rattle.resync.specs.Loading.{Load, loaded}
 use Rattle.spec_binding.specs.Books.{Book, is_lone, is_synced, load_of}
-use Rattle.spec_binding.specs.Ledgers.{alone_ledger, may_ask, restarted_ledger, rests_for, taken_ledger}
+use Rattle.spec_binding.specs.Ledgers.{alone_ledger, may_ask, restarted_ledger, rests_for, sought_keys, taken_ledger}
 use Rattle.spec_binding.specs.Resets.{back_in, restart_link, restart_notes, restarted, retaken}
-use Rattle.spec_binding.specs.Rows.{answered, idle_row, load_taken, row_of, taken_answer, taken_book, taken_ended}
+use Rattle.spec_binding.specs.Rows.{alone_row, answered, idle_row, is_full, load_taken, row_of, taken_answer, taken_book, taken_ended}
 use Rattle.spec_binding.proofs.Offered.{change-leaves}
 use Rattle.waiting.specs.declared.waits.Ended.TheVariants.{One, AllPairs}
 use Rattle.waiting.specs.declared.waits.WaitsFor.TheVariants as wait
@@ -30,12 +30,12 @@ use Rattle.vrrp_states.specs.Table.{Event as RouterEvent, IsMoment}
 use Rattle.vrrp_states.specs.declared.Action.{Action}
 use Rattle.spec_step.specs.declared.events.Event.{Event}
 use Rattle.spec_step.specs.declared.events.Event.TheVariants.{Frame, Datagram as Comes, Tick, Stop, PeerOff, Side as SideIs}
-use Rattle.spec_step.specs.Parts.{acted, all_framed, all_idle_done, answered_by, arp_taken, datagram_read, datagram_taken, framed, frames_of, handed_in, has_synced, heard_by, heard_unless, idle_done, idle_taken, link_answered, link_ticked, old_dropped, record_done, record_shown, records_done, released, reset, side_plugged, wait_ended, with_link, with_routers}
+use Rattle.spec_step.specs.Parts.{acted, all_framed, all_idle_done, all_sought_done, alone_taken, answered_by, arp_taken, datagram_read, datagram_taken, framed, frames_of, gone_alone, handed_in, has_synced, heard_by, heard_unless, idle_done, idle_taken, link_answered, link_ticked, old_dropped, peer_told, record_done, record_shown, records_done, released, reset, side_plugged, sought_done, wait_ended, with_link, with_routers}
 use Rattle.spec_step.specs.declared.turns.Turn.{Turn}
 use Rattle.spec_step.specs.declared.turns.Turn.TheVariants.{Leaves, Returns, Stays as Remains}
 use Rattle.spec_step.specs.GivingWay.{TakesTurn, left, returned, turn_of}
 use Rattle.spec_step.specs.Routers.{BothAct, RouterActs}
-use Rattle.spec_step.specs.Shown.{GatewayAndOutput, Shown, id_of, is_running, is_up, scene, station_on, with_notes, with_station}
+use Rattle.spec_step.specs.Shown.{GatewayAndOutput, Shown, id_of, is_apart, is_running, is_up, scene, station_on, with_notes, with_station}
 use Rattle.spec_step.specs.Steps.{Does, FrameDoes, ended_on, stopped, ticked, word_by, word_refusal}
 use Rattle.spec_step.specs.Verdict.{reading_on}
 use Rattle.gateway.proofs.Staying.{IsAsOn, Stays, answered-capacity, flow-stays, released-stays, row-stays, station-stays, stays-here, stays-then, echo-stays, error-stays, refused-stays}
@@ -46,7 +46,7 @@ stays-as g s s2 e x = subst (λ (y : GatewayAndOutput). Stays g y.shown) (sym e)
 
 -- ---- ARP and the routers
 
-framed-same : (s : GatewayAndOutput) (side : Side) (frames : List (List ℕ)) → (all_framed s side frames).shown ≡ s.shown
+pub framed-same : (s : GatewayAndOutput) (side : Side) (frames : List (List ℕ)) → (all_framed s side frames).shown ≡ s.shown
 framed-same s side [] = refl
 framed-same s side (frame ∷ frames) = framed-same (framed s side frame) side frames
 
@@ -200,7 +200,22 @@ idle-stays : (s : GatewayAndOutput) (keys : List Key) → Stays s.shown (all_idl
 idle-stays s [] = stays-here s.shown
 idle-stays s (k ∷ ks) =
     let next = idle_done s k in
-    stays-then s.shown next.shown (all_idle_done next ks).shown (row-stays s (idle_row s.shown.ledger.book (may_ask s.shown.moment s.shown.link) k)) (idle-stays next ks)
+    stays-then s.shown next.shown (all_idle_done next ks).shown (row-stays s (idle_row s.shown.ledger.book (may_ask s.shown.moment s.shown.ledger.book s.shown.link) k)) (idle-stays next ks)
+
+sought-stays : (apart : Bool) (s : GatewayAndOutput) (keys : List Key) → Stays s.shown (all_sought_done apart s keys).shown
+sought-stays apart s [] = stays-here s.shown
+sought-stays apart s (k ∷ ks) =
+    let next = sought_done apart s k in
+    stays-then s.shown next.shown (all_sought_done apart next ks).shown (row-stays s (alone_row s.shown.ledger.book apart (is_full s.shown.link) k)) (sought-stays apart next ks)
+
+alone-stays : (s : GatewayAndOutput) → Stays s.shown (alone_taken s).shown
+alone-stays s = at (is_apart s.shown)
+  where
+    at : (apart : Bool) → Stays s.shown (let r : GatewayAndOutput = cond apart (gone_alone s) (peer_told s) in r.shown)
+    at true =
+        let marked = all_sought_done true s (sought_keys true s.shown.ledger.book.entries) in
+        stays-then s.shown marked.shown (released marked AllPairs).shown (sought-stays true s (sought_keys true s.shown.ledger.book.entries)) (released-stays marked AllPairs)
+    at false = sought-stays false s (sought_keys false s.shown.ledger.book.entries)
 
 -- ---- a whole step
 
@@ -236,9 +251,12 @@ does-stays s (Tick now) done does =
     let turn = turn-stays (ticked s now) (turn_of (ticked s now).shown) turned does.2 in
     let x = stays-then (ticked s now).shown turned.shown middle.shown turn (both-stay turned table.Tick middle does.3) in
     let y = idle-stays young keys in
-    stays-as (ticked s now).shown (idle_taken young) done does.4
-    (stays-then (ticked s now).shown middle.shown (idle_taken young).shown x
+    let idle = idle_taken young in
+    stays-as (ticked s now).shown (alone_taken idle) done does.4
+    (stays-then (ticked s now).shown idle.shown (alone_taken idle).shown
+    (stays-then (ticked s now).shown middle.shown idle.shown x
     (record { moment = y.moment; capacity = y.capacity; zero = y.zero; one = y.one; networks = y.networks; inside = y.inside; outside = y.outside }))
+    (alone-stays idle))
 does-stays s Stop done does =
     let middle = does.0 in
     let x = both-stay s table.Stop middle does.1 in

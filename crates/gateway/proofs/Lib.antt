@@ -1,3 +1,4 @@
+mod Apart
 mod Beginning
 mod Hearing
 mod Lacking

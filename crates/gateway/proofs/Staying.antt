@@ -38,7 +38,7 @@ use Rattle.spec_step.specs.declared.plans.Reply.TheVariants as reply
 use Rattle.spec_step.specs.declared.plans.Plan.{Plan}
 use Rattle.spec_step.specs.declared.plans.Plan.TheVariants.{Send, Ask, AskAgain, Wait as WaitFor}
 use Rattle.spec_step.specs.Parts.{all_taken, asked_again, by_plan, by_refusal, by_row, by_verdict, carried_all, carried_by, flow_taken, released, retaken_by, taken_again, flags_in, framed, neighbour_asked, renewed_behind, request_by, wanted_by, wanted_for, by_error_plan, by_error_verdict, error_taken, by_reply, by_reply_verdict, complained, complained_to, counted, echo_taken, length_in, refused, sender_in}
-use Rattle.spec_step.specs.Shown.{GatewayAndOutput, Shown, scene, station_on, with_station}
+use Rattle.spec_step.specs.Shown.{GatewayAndOutput, Shown, is_apart, scene, station_on, with_station}
 use Rattle.spec_step.specs.Verdict.{exit_by, hop_by, plan_of, reading_on, error_hop, error_plan, hop_back, next_back, reply_to}
 use Rattle.icmp.specs.declared.packets.ErrorFlow.{ErrorFlow}
 
@@ -76,7 +76,7 @@ row-stays s row =
     record { moment = refl; capacity = answered-capacity s.shown.link row.answer; zero = beside.zero; one = beside.one; networks = refl; inside = refl; outside = refl }
 
 wanted-stays : (s : GatewayAndOutput) (e : Endpoint) → Stays s.shown (wanted_by s e).shown
-wanted-stays s e = row-stays s (wish_of s.shown.ledger.book (is_full s.shown.link) e).row
+wanted-stays s e = row-stays s (wish_of s.shown.ledger.book (is_apart s.shown) (is_full s.shown.link) e).row
 
 carried-stays : (s : GatewayAndOutput) (k : Key) (p : Carried) → Stays s.shown (carried_by s k p).shown
 carried-stays s k p = record { moment = refl; capacity = refl; zero = refl; one = refl; networks = refl; inside = refl; outside = refl }

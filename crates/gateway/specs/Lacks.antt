@@ -25,7 +25,8 @@ use Rattle.spec_step.specs.Verdict.{outcome_read, reading_on}
 use Rattle.forwarder.specs.declared.forwarders.Forwarder.{Forwarder}
 use Rattle.forwarder.specs.Forwarder.{shown_of}
 use Rattle.forwarder.specs.Room.{Needs, an_arp_packet, frames_alone}
-use Rattle.gateway.specs.Rooms.{both_routers, records_need, restart_needs, room_for, tick_needs, waiting_needs}
+use Rattle.gateway.specs.Rooms.{apart_needs, both_routers, records_need, restart_needs, room_for, tick_needs, waiting_needs}
+use Rattle.gateway.specs.Ticks.{is_apart_at}
 
 -- ---- a gateway that begins
 
@@ -85,11 +86,16 @@ abbrev pub LacksForDatagram : Bool → Forwarder → Paged → Type 0
 LacksForDatagram true f page = WasUnlisted f ⊎ LacksRoom (restart_needs f) f page
 LacksForDatagram false f page = LacksRoom (records_need RECORDS_IN_A_DATAGRAM) f page
 
+-- what a tick lacks, by whether the gateway is apart at it
+abbrev pub LacksForTick : Bool → Forwarder → Paged → Type 0
+LacksForTick true f page = WasUnlisted f ⊎ LacksRoom (apart_needs f) f page
+LacksForTick false f page = LacksRoom (tick_needs f) f page
+
 -- what an event lacks, by its kind; an event of a side lacks nothing
 abbrev pub Lacks : Event → Forwarder → Paged → Type 0
 Lacks (Frame side bytes) f page = LacksForFrame side bytes.now (reading_on (shown_of f) side bytes.now) f page
 Lacks (Datagram bytes) f page = LacksForDatagram (may_restart f.link (header_at bytes.now)) f page
-Lacks (Tick now) f page = LacksRoom (tick_needs f) f page
+Lacks (Tick now) f page = LacksForTick (is_apart_at (shown_of f) now) f page
 Lacks Stop f page = LacksRoom both_routers f page
 Lacks (PeerOff boot) f page = WasUnlisted f ⊎ LacksRoom (waiting_needs f) f page
 Lacks (Cable side up) f page = ⊥

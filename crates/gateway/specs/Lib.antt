@@ -3,3 +3,4 @@ pub mod Gateway
 pub mod Rooms
 pub mod Entries
 pub mod Lacks
+pub mod Ticks

@@ -38,13 +38,21 @@ a_router = frames_alone 2
 abbrev pub both_routers : Needs
 both_routers = frames_alone (2 * a_router.frames)
 
--- the need of the idle pairs: a note of each entry, and one more
+-- the need of the idle pairs, and of those that are marked or told of: a note of each entry, and one more
 abbrev pub idle_needs : Forwarder → Needs
 idle_needs f = notes_alone (length f.core.table.entries + 1)
 
 -- the need of a tick: the stop of both routers, and their tick; and the idle pairs
 abbrev pub tick_needs : Forwarder → Needs
 tick_needs f = record (idle_needs f) { frames = 2 * both_routers.frames }
+
+-- the need of a tick at which the gateway is apart: also that of the packets that waited for pairs
+abbrev pub apart_needs : Forwarder → Needs
+apart_needs f = record {
+  frames = (tick_needs f).frames + all_for_pairs.frames;
+  notes = (tick_needs f).notes + all_for_pairs.notes;
+  pairs = all_for_pairs.pairs;
+}
 
 -- the need of so many records: for each a note, a pair, and the packet whose wait it may end
 abbrev pub records_need : ℕ → Needs

@@ -190,7 +190,7 @@ fn begin_unsynced(
     let one = bounds_of(settings.ports.one);
     let parts = parts_of(alloc, settings, id, boot)?;
     let limit = settings.ports.host_limit;
-    let core = Core::unsynced(alloc, id, zero, one, limit, hashers)?;
+    let core = Core::unsynced(alloc, id, zero, one, limit, settings.alone, hashers)?;
     Ok(joined(settings, id, parts, core))
 }
 
@@ -213,7 +213,7 @@ fn begin_founded(
     let one = bounds_of(settings.ports.one);
     let parts = parts_of(alloc, settings, GatewayId::Zero, boot)?;
     let limit = settings.ports.host_limit;
-    let core = Core::founder(alloc, zero, one, limit, hashers)?;
+    let core = Core::founder(alloc, zero, one, limit, settings.alone, hashers)?;
     let mut forwarder = joined(settings, GatewayId::Zero, parts, core);
     start_routers(&mut forwarder);
     Ok(forwarder)

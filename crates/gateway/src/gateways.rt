@@ -2,7 +2,8 @@
 ghost use Rattle.std.specs.Prelude.{◌≡◌, ◌<◌, ◌≤◌, ◌^◌, ◌∷◌, [], Some, IsTrue, IsOk, IfOk, IfSome, IfNone, OnOk, OnErr, length, map, if◌then◌else◌, true, false};
 ghost use Rattle.memory.specs.Memory.{WasRefused};
 ghost use Rattle.nat_types.specs.declared.gateways.GatewayId.TheVariants.{Zero};
-ghost use Rattle.bindings.specs.Entries.{is_pair, pairs_in, slot_of, translates};
+ghost use Rattle.bindings.specs.Entries.{is_alone, is_pair, pairs_in, slot_of, state_count};
+ghost use Rattle.bindings.specs.Entries.{translates};
 ghost use Rattle.bindings.specs.Lists.{after_key};
 ghost use Rattle.bindings.specs.Runs.{port_at};
 ghost use Rattle.spec_binding.specs.Books.{is_synced};
@@ -11,7 +12,7 @@ ghost use Rattle.interfaces.specs.Cables.{is_in};
 ghost use Rattle.interfaces.specs.Stations.{is_active};
 ghost use Rattle.spec_step.specs.Founding.{begun, founded, hashing};
 ghost use Rattle.spec_step.specs.Machine.{HasBytes};
-ghost use Rattle.spec_step.specs.Shown.{scene, station_on};
+ghost use Rattle.spec_step.specs.Shown.{is_apart, scene, station_on};
 ghost use Rattle.spec_step.specs.Steps.{IsStepOn, outcome_on};
 ghost use Rattle.spec_step.specs.Truly.{IsSetUp};
 ghost use Rattle.link.specs.Hearing.{peer_serves};
@@ -134,6 +135,23 @@ impl Gateway {
         ensures { result ≡ self.now.away }
     {
         self.forwarder.away
+    }
+
+    /// Whether the gateway is apart: it is synced and not lone, and for as long as its settings say
+    /// the other gateway hasn't answered.
+    pub fn is_apart(&self) -> bool
+        ensures { result ≡ is_apart self.now }
+    {
+        let forwarder = &self.forwarder;
+        forwarder.core.is_apart(&forwarder.link, forwarder.moment)
+    }
+
+    /// Returns how many pairs were made alone and aren't told of yet. Looks at no entry.
+    pub fn alone_count(&self) -> usize
+        ensures count { result ≡ state_count is_alone self.now.ledger.book.entries }
+    {
+        self.forwarder.core.recall();
+        self.forwarder.core.table().alone_count()
     }
 
     /// Whether the virtual router on a side is Active.

@@ -3,7 +3,8 @@ ghost use Rattle.std.specs.Prelude.{◌≡◌, ◌≤◌, OnErr, OnOk, IfOk, len
 ghost use Rattle.output.specs.Output.{IsWithin};
 ghost use Rattle.forwarder.specs.Forwarder.{scene_on};
 ghost use Rattle.gateway.specs.Lacks.{WasUnlisted, WasUnready};
-ghost use Rattle.gateway.specs.Rooms.{restart_needs, room_for, tick_needs, waiting_needs};
+ghost use Rattle.gateway.specs.Rooms.{apart_needs, restart_needs, room_for, tick_needs};
+ghost use Rattle.gateway.specs.Rooms.{waiting_needs};
 ghost use Rattle.gateway.specs.Rooms.{most_entries, most_on_a_page, most_pairs};
 
 use crate::NoMemory;
@@ -93,7 +94,7 @@ pub(crate) const STOP_ROOM: Room = Room {
 };
 
 /// Returns the capacity for a tick: a stop of both routers and their tick, and the notes of idle
-/// pairs.
+/// pairs, or of those that are marked.
 pub(crate) fn tick_room(forwarder: &Forwarder) -> Room
     ensures { result ≡ room_for (tick_needs forwarder.now) }
 {
@@ -101,6 +102,18 @@ pub(crate) fn tick_room(forwarder: &Forwarder) -> Room
         frames: 2 * ROUTER_FRAMES,
         datagrams: 1,
         notes: entry_count(forwarder) + 1,
+    }
+}
+
+/// Returns the capacity for a tick at which the gateway is apart: that of any tick, and the packets
+/// that waited for pairs.
+pub(crate) fn apart_room(forwarder: &Forwarder) -> Room
+    ensures { result ≡ room_for (apart_needs forwarder.now) }
+{
+    Room {
+        frames: 2 * ROUTER_FRAMES + WAITING_FRAMES,
+        datagrams: 1,
+        notes: entry_count(forwarder) + 1 + WAITING_NOTES,
     }
 }
 

@@ -17,10 +17,11 @@ ghost use Rattle.spec_step.specs.Steps.{outcome_on, outcome_word, word_by, word_
 ghost use Rattle.spec_step.specs.Verdict.{reading_on, verdict};
 ghost use Rattle.forwarder.specs.Forwarder.{scene_on, shown_of};
 ghost use Rattle.gateway.specs.Gateway.{IsGateway};
-ghost use Rattle.gateway.specs.Lacks.{Lacks, LacksForDatagram, LacksForFrame, LacksMemory};
-ghost use Rattle.gateway.specs.Lacks.{LacksRoom, WasUnlisted};
-ghost use Rattle.gateway.specs.Rooms.{both_routers, is_of_side, most_datagrams, records_need};
-ghost use Rattle.gateway.specs.Rooms.{restart_needs, tick_needs, waiting_needs};
+ghost use Rattle.gateway.specs.Lacks.{Lacks, LacksForDatagram, LacksForFrame, LacksForTick};
+ghost use Rattle.gateway.specs.Lacks.{LacksMemory, LacksRoom, WasUnlisted};
+ghost use Rattle.gateway.specs.Rooms.{apart_needs, both_routers, is_of_side, most_datagrams};
+ghost use Rattle.gateway.specs.Rooms.{records_need, restart_needs, tick_needs, waiting_needs};
+ghost use Rattle.gateway.specs.Ticks.{is_apart_at};
 
 use crate::NoMemory;
 use crate::arrivals::take_reading;
@@ -28,9 +29,9 @@ use crate::datagrams::{take_first, take_further};
 use crate::ends::{end_other, end_tick};
 use crate::rooms::{
     END_ROOM, FRAME_ROOM, MOST_PAIRS, OVER_ROOM, RECORD_PAIRS, RECORDS_ROOM, STOP_ROOM, WAITING,
-    list_for, make_ready, restart_room, tick_room, word_room,
+    apart_room, list_for, make_ready, restart_room, tick_room, word_room,
 };
-use crate::ticks::{take_stop, take_tick};
+use crate::ticks::{is_apart_at, take_stop, take_tick};
 use crate::turns::plug;
 use crate::words::take_word;
 use forwarder::Forwarder;
@@ -156,8 +157,61 @@ fn datagram_came(
     }
 }
 
+/// Handles a tick at which the gateway is apart, with memory for the packets that waited for pairs:
+/// these are taken again.
+fn tick_alone(
+    alloc: Global,
+    forwarder: &mut Forwarder,
+    page: &mut OutputBuffer,
+    now: u64,
+) -> Result<(), NoMemory>
+    requires apart { is_apart_at (shown_of forwarder.old) now ≡ true }
+    requires moment { IsMoment forwarder.old.moment }
+    ensures does { OnOk result (Does (scene_on forwarder.old page.old) (TickEvent now)
+        (scene_on forwarder.new page.new)) }
+    ensures datagrams { OnOk result (1 ≤ page.new.room.datagrams) }
+    ensures err { OnErr result (scene_on forwarder.new page.new
+        ≡ scene_on forwarder.old page.old) }
+    ensures lacks { OnErr result (WasUnlisted forwarder.old
+        ⊎ LacksRoom (apart_needs forwarder.old) forwarder.old page.old) }
+{
+    let room = apart_room(forwarder);
+    match list_for(alloc, forwarder) {
+        Ok(list) => {
+            make_ready(forwarder, page, room, WAITING)?;
+            take_tick(forwarder, page, now);
+            forwarder.release_all(page, list);
+            Ok(())
+        }
+        Err(fault) => Err(fault),
+    }
+}
+
+/// Handles any other tick, after which no packet is taken again.
+fn tick_together(
+    forwarder: &mut Forwarder,
+    page: &mut OutputBuffer,
+    now: u64,
+) -> Result<(), NoMemory>
+    requires together { is_apart_at (shown_of forwarder.old) now ≡ false }
+    requires moment { IsMoment forwarder.old.moment }
+    ensures does { OnOk result (Does (scene_on forwarder.old page.old) (TickEvent now)
+        (scene_on forwarder.new page.new)) }
+    ensures datagrams { OnOk result (1 ≤ page.new.room.datagrams) }
+    ensures err { OnErr result (scene_on forwarder.new page.new
+        ≡ scene_on forwarder.old page.old) }
+    ensures lacks { OnErr result
+        (LacksRoom (tick_needs forwarder.old) forwarder.old page.old) }
+{
+    let room = tick_room(forwarder);
+    make_ready(forwarder, page, room, 0)?;
+    take_tick(forwarder, page, now);
+    Ok(())
+}
+
 #[cold]
 fn clock_ticked(
+    alloc: Global,
     forwarder: &mut Forwarder,
     page: &mut OutputBuffer,
     now: u64,
@@ -170,11 +224,13 @@ fn clock_ticked(
     ensures err { OnErr result (scene_on forwarder.new page.new
         ≡ scene_on forwarder.old page.old) }
     ensures lacks { OnErr result
-        (LacksRoom (tick_needs forwarder.old) forwarder.old page.old) }
+        (LacksForTick (is_apart_at (shown_of forwarder.old) now) forwarder.old page.old) }
 {
-    let room = tick_room(forwarder);
-    make_ready(forwarder, page, room, 0)?;
-    take_tick(forwarder, page, now);
+    if is_apart_at(forwarder, now) {
+        tick_alone(alloc, forwarder, page, now)?;
+    } else {
+        tick_together(forwarder, page, now)?;
+    }
     Ok(Outcome::Done)
 }
 
@@ -244,7 +300,7 @@ fn take_event(
     match event {
         Event::Frame(side, bytes) => frame_came(alloc, forwarder, page, side, bytes),
         Event::Datagram(bytes) => datagram_came(alloc, forwarder, page, bytes),
-        Event::Tick(now) => clock_ticked(forwarder, page, now),
+        Event::Tick(now) => clock_ticked(alloc, forwarder, page, now),
         Event::Stop => stop_came(forwarder, page),
         Event::PeerOff(boot) => word_came(alloc, forwarder, page, boot),
         Event::Side(side, up) => {

@@ -21,6 +21,7 @@ impl Display for JsonText<'_> {
         write_side(f, "inside", &sides.inside, gateway.uptime)?;
         write_side(f, "outside", &sides.outside, gateway.uptime)?;
         write_peer(f, &gateway.peer)?;
+        write_apart(f, report)?;
         write_pairs(f, &gateway.pairs)?;
         write_ports(f, gateway)?;
         write_traffic(f, counters)?;
@@ -78,6 +79,22 @@ fn write_peer<W: fmt::Write>(f: &mut Formatter<W>, peer: &PeerReport) -> fmt::Re
     write!(f, ",\"serves\":{serves}}}")
 }
 
+/// Writes whether the box is apart, the time since when and in all, and how many pairs are private and were made alone.
+fn write_apart<W: fmt::Write>(f: &mut Formatter<W>, report: &Report) -> fmt::Result {
+    let (apart, now) = (&report.apart, report.gateway.uptime);
+    let (is_apart, since) = (apart.is_apart, Seconds(now.saturating_sub(apart.since)));
+    let total = Seconds(apart.total(now));
+    let (private, made) = (report.gateway.pairs.private(), apart.made);
+    write!(
+        f,
+        ",\"apart\":{{\"now\":{is_apart},\"since_seconds\":{since}"
+    )?;
+    write!(
+        f,
+        ",\"total_seconds\":{total},\"private\":{private},\"made\":{made}}}"
+    )
+}
+
 fn write_pairs<W: fmt::Write>(f: &mut Formatter<W>, counts: &PairCounts) -> fmt::Result {
     let mut before = ",\"pairs\":{";
     for protocol in PROTOCOLS {
@@ -99,16 +116,20 @@ fn write_states<W: fmt::Write>(
         Protocol::Tcp => "tcp",
         Protocol::Udp => "udp",
     };
+    let of = |state| counts.of(protocol, state);
     write_numbers(
         f,
         before,
         name,
         &[
-            ("pending", counts.of(protocol, EntryState::Pending)),
-            ("doomed", counts.of(protocol, EntryState::Doomed)),
-            ("live", counts.of(protocol, EntryState::Live)),
-            ("closing", counts.of(protocol, EntryState::Closing)),
-            ("held", counts.of(protocol, EntryState::Held)),
+            ("pending", of(EntryState::Pending { marked: false })),
+            ("doomed", of(EntryState::Doomed)),
+            ("live", of(EntryState::Live)),
+            ("closing", of(EntryState::Closing { marked: false })),
+            ("held", of(EntryState::Held)),
+            ("alone", of(EntryState::Alone)),
+            ("pending_marked", of(EntryState::Pending { marked: true })),
+            ("closing_marked", of(EntryState::Closing { marked: true })),
         ],
     )
 }

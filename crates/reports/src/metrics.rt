@@ -21,6 +21,7 @@ impl Display for MetricsText<'_> {
         write_box(f, report)?;
         write_sides(f, &report.sides, gateway.uptime)?;
         write_peer(f, &gateway.peer)?;
+        write_apart(f, report)?;
         write_pairs(f, &gateway.pairs)?;
         write_ports(f, gateway)?;
         write_traffic(f, &report.counters)?;
@@ -65,11 +66,11 @@ fn write_gauge<W: fmt::Write, V: Display>(
 }
 
 /// Writes a family whose values only rise, from 0 at the box's start.
-fn write_counter<W: fmt::Write>(
+fn write_counter<W: fmt::Write, V: Display>(
     f: &mut Formatter<W>,
     name: &str,
     help: &str,
-    samples: &[(&str, u64)],
+    samples: &[(&str, V)],
 ) -> fmt::Result {
     write_head(f, "counter", name, help)?;
     write_samples(f, name, samples)
@@ -158,6 +159,26 @@ fn write_peer<W: fmt::Write>(f: &mut Formatter<W>, peer: &PeerReport) -> fmt::Re
     let serves = u64::from(peer.serves);
     let help = "Whether the other box serves.";
     write_gauge(f, "natpair_peer_serves", help, &[("", serves)])
+}
+
+/// Writes whether the box is apart and for how long it was, and how many pairs are private and were made alone.
+fn write_apart<W: fmt::Write>(f: &mut Formatter<W>, report: &Report) -> fmt::Result {
+    let apart = &report.apart;
+    let total = Seconds(apart.total(report.gateway.uptime));
+    let (is_apart, private) = (u64::from(apart.is_apart), report.gateway.pairs.private());
+    let help = "Whether the box makes pairs alone, since the other one doesn't answer.";
+    write_gauge(f, "natpair_apart", help, &[("", is_apart)])?;
+    let help = "Time for which the box was apart.";
+    write_counter(f, "natpair_apart_seconds_total", help, &[("", total)])?;
+    let help = "Pairs with which the box goes on without the other one's answer.";
+    write_gauge(f, "natpair_pairs_private", help, &[("", private)])?;
+    let help = "Pairs made, or gone on with, without the other box's answer.";
+    write_counter(
+        f,
+        "natpair_pairs_made_alone_total",
+        help,
+        &[("", apart.made)],
+    )
 }
 
 fn write_pairs<W: fmt::Write>(f: &mut Formatter<W>, counts: &PairCounts) -> fmt::Result {

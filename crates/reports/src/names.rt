@@ -10,12 +10,15 @@ use packet_rules::Reason;
 pub(crate) const PROTOCOLS: [Protocol; 3] = [Protocol::Icmp, Protocol::Tcp, Protocol::Udp];
 
 /// All states of entries, in the order of texts.
-pub(crate) const STATES: [EntryState; 5] = [
-    EntryState::Pending,
+pub(crate) const STATES: [EntryState; 8] = [
+    EntryState::Pending { marked: false },
     EntryState::Doomed,
     EntryState::Live,
-    EntryState::Closing,
+    EntryState::Closing { marked: false },
     EntryState::Held,
+    EntryState::Alone,
+    EntryState::Pending { marked: true },
+    EntryState::Closing { marked: true },
 ];
 
 pub(crate) fn origin_name(origin: Origin) -> &'static str {
@@ -29,11 +32,14 @@ pub(crate) fn origin_name(origin: Origin) -> &'static str {
 
 pub(crate) fn state_name(state: EntryState) -> &'static str {
     match state {
-        EntryState::Pending => "pending",
+        EntryState::Pending { marked: false } => "pending",
         EntryState::Doomed => "doomed",
         EntryState::Live => "live",
-        EntryState::Closing => "closing",
+        EntryState::Closing { marked: false } => "closing",
         EntryState::Held => "held",
+        EntryState::Alone => "alone",
+        EntryState::Pending { marked: true } => "pending_marked",
+        EntryState::Closing { marked: true } => "closing_marked",
     }
 }
 

@@ -20,6 +20,7 @@ impl Display for PlainText<'_> {
         write_side(f, "inside   ", &sides.inside, gateway.uptime)?;
         write_side(f, "outside  ", &sides.outside, gateway.uptime)?;
         write_peer(f, &gateway.peer)?;
+        write_apart(f, report)?;
         write_pairs(f, gateway)?;
         write_ports(f, gateway)?;
         write_traffic(f, &report.counters)?;
@@ -75,7 +76,27 @@ fn write_peer<W: fmt::Write>(f: &mut Formatter<W>, peer: &PeerReport) -> fmt::Re
     })
 }
 
-/// Writes how many entries of each protocol have each state, and how many ports are free.
+/// Writes whether the box is apart and since when, and how many pairs are private.
+fn write_apart<W: fmt::Write>(f: &mut Formatter<W>, report: &Report) -> fmt::Result {
+    let (apart, now) = (&report.apart, report.gateway.uptime);
+    f.write_str("apart    ")?;
+    if apart.is_apart {
+        write!(f, "for {}, ", Span(now.saturating_sub(apart.since)))?;
+    } else {
+        f.write_str("no, ")?;
+    }
+    let (total, private) = (
+        Span(apart.total(now)),
+        Grouped(report.gateway.pairs.private()),
+    );
+    let made = Grouped(apart.made);
+    writeln!(
+        f,
+        "{total} in all, {private} pairs private, {made} made alone"
+    )
+}
+
+/// Writes how many entries of each protocol have each state, but for private ones, and how many ports are free.
 fn write_pairs<W: fmt::Write>(f: &mut Formatter<W>, gateway: &GatewayReport) -> fmt::Result {
     write_protocol(f, "icmp     ", Protocol::Icmp, gateway)?;
     write_protocol(f, "tcp      ", Protocol::Tcp, gateway)?;
@@ -89,8 +110,14 @@ fn write_protocol<W: fmt::Write>(
     gateway: &GatewayReport,
 ) -> fmt::Result {
     let of = |state| Grouped(gateway.pairs.of(protocol, state));
-    let (pending, doomed) = (of(EntryState::Pending), of(EntryState::Doomed));
-    let (live, closing) = (of(EntryState::Live), of(EntryState::Closing));
+    let (pending, doomed) = (
+        of(EntryState::Pending { marked: false }),
+        of(EntryState::Doomed),
+    );
+    let (live, closing) = (
+        of(EntryState::Live),
+        of(EntryState::Closing { marked: false }),
+    );
     let (held, free) = (of(EntryState::Held), Grouped(gateway.ports.free(protocol)));
     write!(f, "{name}pending {pending}, doomed {doomed}, ")?;
     write!(f, "live {live}, closing {closing}, ")?;

@@ -4,12 +4,12 @@ use Rattle.std.specs.List.{filter, AllByRecursion}
 use Rattle.std.proofs.lemmas.List.{length-map}
 use Rattle.addresses.specs.declared.transport.Port.{Port}
 use Rattle.nat_types.specs.declared.pairs.Pair.{Pair}
-use Rattle.nat_types.specs.declared.records.Record.TheVariants.{Put, Done, Owner}
+use Rattle.nat_types.specs.declared.records.Record.TheVariants.{Done, Owner}
 use Rattle.bindings.specs.declared.entries.Entry.{Entry}
 use Rattle.bindings.specs.Entries.{pairs_in, HasDistinctKeys}
 use Rattle.bindings.specs.Runs.{runs_of, first_of}
 use Rattle.bindings.specs.Table.{Table}
-use Rattle.resync.specs.Batch.{is_settled, owners_of, puts_of, batch_of, HasNoPending}
+use Rattle.resync.specs.Batch.{is_settled, owners_of, record_for, puts_of, batch_of, HasNoPending}
 use Rattle.resync.specs.Cursor.{runs_from, coming}
 use Rattle.resync.specs.declared.cursor.Cursor.TheVariants as at
 use Rattle.resync.proofs.Behind.{behind-none}
@@ -19,7 +19,7 @@ use Rattle.resync.proofs.Slotted.{all-slots}
 pub no-owners : (from : Option Port) (t : Table) → runs_from from t.owned ≡ [] → coming (at.Owners from) t ≡ coming (at.Puts None) t
 no-owners from t h =
     ap (λ rs. owners_of rs ++ (puts_of t.entries ++ Done ∷ [])) h
-    ∙ ap (λ (ps : List Pair). map (λ p. Put p) ps ++ Done ∷ []) (sym (behind-none (pairs_in is_settled t.entries)))
+    ∙ ap (λ (ps : List Pair). map (record_for (pairs_in is_settled t.entries)) ps ++ Done ∷ []) (sym (behind-none (pairs_in is_settled t.entries)))
 
 -- ---- lists drawn one by one
 
@@ -74,7 +74,7 @@ all-settled (e ∷ es) h = ap (λ b. length (map (λ (x : Entry). x.pair) (cond 
 pub batch-length : (owned : List ℕ) (es : List Entry) → HasDistinctKeys es → HasNoPending es → length (batch_of owned es) ≡ length (runs_of owned) + length es + 2
 batch-length owned es keys settled =
     let pairs : length (pairs_in is_settled es) ≡ length es = all-settled es (all-slots (λ e. is_settled e.state ≡ true) es keys settled) in
-    let puts : length (puts_of es) ≡ length (pairs_in is_settled es) = length-map (pairs_in is_settled es) (λ p. Put p) in
+    let puts : length (puts_of es) ≡ length (pairs_in is_settled es) = length-map (pairs_in is_settled es) (record_for (pairs_in is_settled es)) in
     let owners : length (owners_of (runs_of owned)) ≡ length (runs_of owned) = length-map (runs_of owned) (λ run. Owner run.lowest run.highest) in
     let inner : length (puts_of es ++ Done ∷ []) ≡ length (puts_of es) + 1 = length-append (puts_of es) (Done ∷ []) in
     let outer : length (owners_of (runs_of owned) ++ (puts_of es ++ Done ∷ [])) ≡ length (owners_of (runs_of owned)) + length (puts_of es ++ Done ∷ []) = length-append (owners_of (runs_of owned)) (puts_of es ++ Done ∷ []) in

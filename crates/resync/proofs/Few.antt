@@ -6,7 +6,7 @@ use Rattle.std.proofs.lemmas.List.{length-map}
 use Rattle.addresses.specs.declared.transport.Protocol.TheVariants.{Tcp}
 use Rattle.nat_types.specs.declared.pairs.Key.{Key}
 use Rattle.nat_types.specs.declared.pairs.Pair.{Pair}
-use Rattle.nat_types.specs.declared.records.Record.TheVariants.{Put, Done, Owner}
+use Rattle.nat_types.specs.declared.records.Record.TheVariants.{Done, Owner}
 use Rattle.nat_types.proofs.Offered.{key-eq}
 use Rattle.bindings.specs.declared.entries.Entry.{Entry}
 use Rattle.bindings.specs.Entries.{has_key, slot_of, entry_in, pairs_in, HasDistinctKeys}
@@ -15,7 +15,7 @@ use Rattle.bindings.specs.Runs.{run_of, runs_on, runs_of}
 use Rattle.bindings.specs.Table.{Table, IsTable}
 use Rattle.bindings.proofs.Offered.{find-some, any_entry, length-keep, not-below, few}
 use Rattle.port_range.specs.Ports.{is_listed, RiseAbove}
-use Rattle.resync.specs.Batch.{is_settled, owners_of, puts_of, batch_of}
+use Rattle.resync.specs.Batch.{is_settled, owners_of, record_for, puts_of, batch_of}
 
 -- ---- no more runs than ports
 
@@ -67,7 +67,7 @@ pub few-of : (t : Table) (es : List Entry) → IsTable t → length es ≤ t.cap
 few-of t es is within =
     let pairs : length (pairs_in is_settled es) ≡ length (filter (λ (e : Entry). is_settled e.state) es) = length-map (filter (λ (e : Entry). is_settled e.state) es) (λ (e : Entry). e.pair) in
     let kept : length (filter (λ (e : Entry). is_settled e.state) es) ≤ length es = length-keep (λ (e : Entry). is_settled e.state) es in
-    let puts : length (puts_of es) ≡ length (pairs_in is_settled es) = length-map (pairs_in is_settled es) (λ p. Put p) in
+    let puts : length (puts_of es) ≡ length (pairs_in is_settled es) = length-map (pairs_in is_settled es) (record_for (pairs_in is_settled es)) in
     let owners : length (owners_of (runs_of t.owned)) ≡ length (runs_of t.owned) = length-map (runs_of t.owned) (λ run. Owner run.lowest run.highest) in
     let inner : length (puts_of es ++ Done ∷ []) ≡ length (puts_of es) + 1 = length-append (puts_of es) (Done ∷ []) in
     let outer : length (owners_of (runs_of t.owned) ++ (puts_of es ++ Done ∷ [])) ≡ length (owners_of (runs_of t.owned)) + length (puts_of es ++ Done ∷ []) = length-append (owners_of (runs_of t.owned)) (puts_of es ++ Done ∷ []) in

@@ -1,17 +1,20 @@
 -- Ports that are given up, one by one, and whether a run lies in the ranges.
-use Rattle.std.proofs.Common.{◌≡◌, ℕ, suc, ◌+◌, ◌<◌, ◌==◌, nat_le, Bool, true, false, cond, not, ◌&&◌, ◌||◌, Option, Some, None, inl, inr, List, [], ◌∷◌, length, refl, sym, ap, ◌∙◌, arith}
-use Rattle.std.proofs.lemmas.Bool.{or_parts, and_from, and_left, eq-eqb, ne_eqb, lt-leb, le-leb, cases_lt, cases_eq}
+use Rattle.std.proofs.Common.{◌≡◌, ℕ, suc, ◌+◌, ◌<◌, ◌==◌, nat_le, Bool, true, false, cond, not, ◌&&◌, ◌||◌, is_some, Option, Some, None, inl, inr, List, [], ◌∷◌, length, refl, sym, ap, ◌∙◌, arith}
+use Rattle.std.proofs.lemmas.Bool.{cond-false, or_parts, and_from, and_left, eq-eqb, ne_eqb, lt-leb, le-leb, cases_lt, cases_eq}
 use Rattle.std.proofs.lemmas.List.Elements.{filter_agree}
 use Rattle.nat_types.specs.declared.pairs.EntryState.{EntryState}
+use Rattle.nat_types.specs.declared.pairs.Endpoint.{Endpoint}
 use Rattle.nat_types.specs.declared.pairs.Key.{Key}
 use Rattle.nat_types.specs.declared.pairs.Pair.{Pair}
 use Rattle.nat_types.specs.Same.{same_key}
 use Rattle.nat_types.proofs.Offered.{key-eq}
 use Rattle.bindings.specs.declared.entries.Entry.{Entry}
 use Rattle.bindings.specs.declared.entries.TableFault.{TableFault}
-use Rattle.bindings.specs.Entries.{slot_of, entry_of, set_at, entry_in, refusal_of}
+use Rattle.bindings.specs.declared.entries.TableFault.TheVariants.{Full, PortTaken, EndpointTaken}
+use Rattle.slots.specs.declared.ranks.Rank.{Rank}
+use Rattle.bindings.specs.Entries.{slot_of, entry_of, set_at, entry_in, refusal_of, rank_of, is_taken}
 use Rattle.bindings.specs.Table.{Table, IsTable, AreInRanges}
-use Rattle.bindings.proofs.Offered.{refusal-none, has-room}
+use Rattle.bindings.proofs.Offered.{has-room, none-ranked}
 use Rattle.bindings.specs.declared.entries.PortBounds.{PortBounds}
 use Rattle.bindings.specs.Ports.{in_either}
 use Rattle.bindings.specs.Runs.{without_port}
@@ -106,10 +109,21 @@ run-more t u v owned same h =
 clash : {X : Type 0} (o : Option X) (x : X) → o ≡ None → o ≡ Some x → ⊥
 clash o x a b = cc
 
-pub never-refused : (t : Table) (p : Pair) (s : EntryState) (fault : TableFault) → IsTable t → AreInRanges t → in_either t.zero t.one p.key.port.0 ≡ true → slot_of t.entries p.key ≡ None → entry_of t.entries p.endpoint ≡ None → refusal_of t.capacity t.entries (entry_in s p) ≡ Some fault → ⊥
-never-refused t p s fault is within inside key endpoint refused =
+pub never-refused : (t : Table) (p : Pair) (s : EntryState) (fault : TableFault) → IsTable t → AreInRanges t → in_either t.zero t.one p.key.port.0 ≡ true → slot_of t.entries p.key ≡ None → is_taken (rank_of s) t.entries p.endpoint ≡ false
+    → refusal_of t.capacity t.entries (entry_in s p) ≡ Some fault → ⊥
+never-refused t p s fault is within inside key free refused =
     clash (refusal_of t.capacity t.entries (entry_in s p)) fault
-    (refusal-none t.capacity t.entries (entry_in s p) (has-room t is within p.key inside key) key (λ h. endpoint)) refused
+    (cond-false (nat_le t.capacity (length t.entries)) (Some Full) _ (lt-leb t.capacity (length t.entries) (has-room t is within p.key inside key))
+    ∙ cond-false (is_some (slot_of t.entries p.key)) (Some PortTaken) _ (ap is_some key)
+    ∙ cond-false (is_taken (rank_of s) t.entries p.endpoint) (Some EndpointTaken) None free) refused
+
+-- an endpoint without a pair has none in either state
+pub free-both : (es : List Entry) (s : EntryState) (x : Endpoint) → entry_of es x ≡ None → is_taken (rank_of s) es x ≡ false
+free-both es s x none = at (rank_of s)
+  where
+    at : (o : Option Rank) → is_taken o es x ≡ false
+    at None = refl
+    at (Some rank) = ap is_some (none-ranked es x none rank)
 
 pub within-put : (t u : Table) (e : Entry) → AreInRanges t → in_either t.zero t.one e.pair.key.port.0 ≡ true → ((q : Key) → slot_of u.entries q ≡ set_at (slot_of t.entries) e.pair.key (Some e) q) → u.zero ≡ t.zero → u.one ≡ t.one → AreInRanges u
 within-put t u e within inside slots zero_same one_same q x h =

@@ -12,15 +12,17 @@ use Rattle.nat_types.specs.declared.records.Record.{Record}
 use Rattle.nat_types.specs.declared.records.Record.TheVariants.{Done}
 use Rattle.bindings.specs.declared.entries.Entry.{Entry}
 use Rattle.bindings.specs.declared.entries.PortBounds.{PortBounds}
-use Rattle.bindings.specs.Entries.{slot_of, entry_in, pairs_in}
+use Rattle.slots.specs.declared.ranks.Rank.TheVariants.{Second}
+use Rattle.bindings.specs.Entries.{is_of_rank, slot_of, entry_in, pairs_in}
 use Rattle.bindings.specs.Ports.{in_either}
 use Rattle.bindings.specs.Runs.{runs_of, all_ports}
 use Rattle.bindings.specs.Table.{Table, IsTable, AreInRanges}
 use Rattle.bindings.proofs.Offered.{listed-filter, listed-all, slot-key}
 use Rattle.port_range.specs.Ports.{is_listed, is_within, RiseAbove}
-use Rattle.resync.specs.Batch.{is_settled, owners_of, puts_of, batch_of, HasNoDoomed}
+use Rattle.resync.specs.Batch.{is_settled, owners_of, puts_of, batch_of, HasNoDoomed, AreHeldElsewhere, CanBeSent}
 use Rattle.resync.specs.Loading.{Load, begun, none_yet}
 use Rattle.resync.specs.Whole.{Ended, drawn, undrawn, until_done, last_of, ports_left, entry_loaded, entries_loaded, load_of_table}
+use Rattle.resync.proofs.Behind.{table-strict}
 use Rattle.resync.proofs.Naming.{runs-load, within-one}
 use Rattle.resync.proofs.Putting.{IsListed, entry_at, puts-load, are-apart, all-inside, none-before}
 use Rattle.resync.proofs.Slotted.{all-slots}
@@ -62,6 +64,10 @@ owners-load l (p ∷ ps) tail begun none rises there =
 
 -- ---- the pairs
 
+and-true : (b : Bool) → (b && true) ≡ b
+and-true true = refl
+and-true false = refl
+
 pub left-ports : (z o : PortBounds) (owned : List ℕ) (q : ℕ) → is_listed q (ports_left z o owned) ≡ (not (is_listed q owned) && in_either z o q)
 left-ports z o owned q = listed-filter (λ p. not (is_listed p owned)) (all_ports z o) q ∙ ap (λ b. not (is_listed q owned) && b) (listed-all z o q)
 
@@ -86,34 +92,43 @@ whole_of z o owned es = record { zero = z; one = o; begun = false; named = last_
 joined : (a b c d : List Record) → (a ++ (b ++ c)) ++ d ≡ a ++ (b ++ (c ++ d))
 joined a b c d = append_assoc a (b ++ c) d ∙ ap (λ rs. a ++ rs) (append_assoc b c d)
 
-batch-loads : (t : Table) (l : Load) (later : List Record) → IsTable t → HasNoDoomed t.entries
+batch-loads : (t : Table) (l : Load) (later : List Record) → IsTable t → HasNoDoomed t.entries → AreHeldElsewhere t.owned t.entries → CanBeSent t
     → ((q : ℕ) → is_listed q t.owned ≡ true → in_either l.zero l.one q ≡ true)
     → ((k : Key) (x : Entry) → slot_of t.entries k ≡ Some x → in_either l.zero l.one k.port.0 ≡ true)
     → until_done l (batch_of t.owned t.entries ++ later) ≡ Some (record { load = whole_of l.zero l.one t.owned t.entries; behind = later })
-batch-loads t l later is whole owned within =
+batch-loads t l later is whole elsewhere sent owned within =
     ap (λ (rs : List Record). until_done (begun l) rs) (joined (owners_of (runs_of t.owned)) (puts_of t.entries) (Done ∷ []) later)
     ∙ owners-load (begun l) t.owned (puts_of t.entries ++ Done ∷ later) refl refl is.rising owned
-    ∙ puts-load (after_owners (begun l) t.owned) [] (pairs_in is_settled t.entries) later refl refl (none-before (pairs_in is_settled t.entries))
-    (are-apart l.zero l.one 0 t.entries is.order is.keys is.endpoints listed) inside
+    ∙ puts-load (after_owners (begun l) t.owned) (pairs_in is_settled t.entries) [] (pairs_in is_settled t.entries) later refl refl refl (none-before (ports_left l.zero l.one t.owned) (pairs_in is_settled t.entries))
+    (are-apart l.zero l.one (ports_left l.zero l.one t.owned) 0 t.entries (table-strict t is sent) is.keys is.endpoints listed) inside
     ∙ ap (λ (es : List Entry). let m : Load = record { zero = l.zero; one = l.one; begun = false; named = last_of 0 t.owned; entries = es; owned = ports_left l.zero l.one t.owned } in Some (let e : Ended = record { load = m; behind = later } in e))
     (states-loaded l.zero l.one t.owned (pairs_in is_settled t.entries) inside)
   where
-    one : (k : Key) (x : Entry) → slot_of t.entries k ≡ Some x → IsListed l.zero l.one x
-    one k x h = record { pair = whole k x h; inside = ap (λ (q : Key). in_either l.zero l.one q.port.0) (slot-key t.entries k x h) ∙ within k x h }
+    held : (k : Key) (x : Entry) → slot_of t.entries k ≡ Some x → is_of_rank Second x.state ≡ is_listed k.port.0 (ports_left l.zero l.one t.owned)
+    held k x h =
+        elsewhere k x h
+        ∙ sym (left-ports l.zero l.one t.owned k.port.0 ∙ ap (λ (b : Bool). not (is_listed k.port.0 t.owned) && b) (within k x h) ∙ and-true (not (is_listed k.port.0 t.owned)))
 
-    listed : AllByRecursion (IsListed l.zero l.one) t.entries
-    listed = all-slots (IsListed l.zero l.one) t.entries is.keys one
+    one : (k : Key) (x : Entry) → slot_of t.entries k ≡ Some x → IsListed l.zero l.one (ports_left l.zero l.one t.owned) x
+    one k x h = record {
+      pair = whole k x h;
+      inside = ap (λ (q : Key). in_either l.zero l.one q.port.0) (slot-key t.entries k x h) ∙ within k x h;
+      held = held k x h ∙ ap (λ (q : Key). is_listed q.port.0 (ports_left l.zero l.one t.owned)) (sym (slot-key t.entries k x h));
+    }
+
+    listed : AllByRecursion (IsListed l.zero l.one (ports_left l.zero l.one t.owned)) t.entries
+    listed = all-slots (IsListed l.zero l.one (ports_left l.zero l.one t.owned)) t.entries is.keys one
 
     inside : AllByRecursion (λ (p : Pair). in_either l.zero l.one p.key.port.0 ≡ true) (pairs_in is_settled t.entries)
-    inside = all-inside l.zero l.one t.entries listed
+    inside = all-inside l.zero l.one (ports_left l.zero l.one t.owned) t.entries listed
 
 -- a batch drawn in any parts loads its table, at any load of the same two ranges
-pub table-loads : (t : Table) → IsTable t → AreInRanges t → HasNoDoomed t.entries → (l : Load) → l.zero ≡ t.zero → l.one ≡ t.one → (sizes : List ℕ) (later : List Record)
+pub table-loads : (t : Table) → IsTable t → AreInRanges t → HasNoDoomed t.entries → AreHeldElsewhere t.owned t.entries → CanBeSent t → (l : Load) → l.zero ≡ t.zero → l.one ≡ t.one → (sizes : List ℕ) (later : List Record)
     → undrawn sizes (batch_of t.owned t.entries) ≡ []
     → until_done l (drawn sizes (batch_of t.owned t.entries) ++ later) ≡ Some (record { load = load_of_table t; behind = later })
-table-loads t is within whole l zero_same one_same sizes later none =
+table-loads t is within whole elsewhere sent l zero_same one_same sizes later none =
     ap (λ (rs : List Record). until_done l (rs ++ later)) (draws-all sizes (batch_of t.owned t.entries) none)
-    ∙ batch-loads t l later is whole (λ q h. here q ∙ is.owned q h) (λ k x h. here k.port.0 ∙ within k x h)
+    ∙ batch-loads t l later is whole elsewhere sent (λ q h. here q ∙ is.owned q h) (λ k x h. here k.port.0 ∙ within k x h)
     ∙ ap (λ (z : PortBounds). Some (let e : Ended = record { load = whole_of z l.one t.owned t.entries; behind = later } in e)) zero_same
     ∙ ap (λ (o : PortBounds). Some (let e : Ended = record { load = whole_of t.zero o t.owned t.entries; behind = later } in e)) one_same
   where

@@ -7,5 +7,6 @@ mod Drawing
 mod Giving
 mod Holding
 mod Steady
+mod Seconds
 mod Few
 pub mod Offered

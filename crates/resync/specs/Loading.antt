@@ -5,10 +5,11 @@ use Rattle.nat_types.specs.declared.pairs.EntryState.{EntryState}
 use Rattle.nat_types.specs.declared.pairs.EntryState.TheVariants.{Live, Held}
 use Rattle.nat_types.specs.declared.pairs.Pair.{Pair}
 use Rattle.nat_types.specs.declared.records.Record.{Record}
-use Rattle.nat_types.specs.declared.records.Record.TheVariants.{Install, Accept, Refuse, Ask, Yes, No, Begin, Put, Done, Want, Grant, Owner}
+use Rattle.nat_types.specs.declared.records.Record.TheVariants.{Install, Accept, Refuse, Ask, Yes, No, Begin, Put, Done, Want, Grant, Owner, Tell}
 use Rattle.bindings.specs.declared.entries.Entry.{Entry}
 use Rattle.bindings.specs.declared.entries.PortBounds.{PortBounds}
-use Rattle.bindings.specs.Entries.{slot_of, entry_of, entry_in}
+use Rattle.slots.specs.declared.ranks.Rank.TheVariants.{First}
+use Rattle.bindings.specs.Entries.{slot_of, entry_of, entry_in, rank_of, is_of_rank, is_taken}
 use Rattle.bindings.specs.Lists.{place_in, put_in}
 use Rattle.bindings.specs.Lives.{KeepsOthers}
 use Rattle.bindings.specs.Ports.{in_either}
@@ -70,6 +71,16 @@ is_new l p = in_either l.zero l.one p.key.port.0
 abbrev pub loaded_state : List ℕ → ℕ → EntryState
 loaded_state owned port = (if is_listed port owned then Live else Held)
 
+-- whether there is an entry of an own pair
+abbrev pub is_own_entry : Option Entry → Bool
+is_own_entry None = false
+is_own_entry (Some e) = is_of_rank First e.state
+
+-- whether a pair is a Tell's in its place: on a port of the ranges, new in key, and its endpoint has no pair on a port of the same gateway
+abbrev pub is_beside : Load → Pair → Bool
+is_beside l p = in_either l.zero l.one p.key.port.0
+    && (is_none (slot_of l.entries p.key) && not (is_taken (rank_of (loaded_state l.owned p.key.port.0)) l.entries p.endpoint))
+
 -- Begin empties the table, and all ports are to be owned until an Owner names them
 abbrev pub begun : Load → Load
 begun l = record l { begun = true; named = 0; entries = []; owned = all_ports l.zero l.one }
@@ -98,24 +109,27 @@ loaded l Done = where_ l.begun (record l { begun = false })
 loaded l Want = None
 loaded l (Grant g) = None
 loaded l (Owner first last) = where_ (l.begun && (none_yet l.entries && names_run l first.0 last.0)) (with_run l first.0 last.0)
+loaded l (Tell p) = where_ (l.begun && is_beside l p) (with_pair l p)
 
 -- ---- what else is said of a record in its place
 
-abbrev pub is_put : Record → Bool
-is_put (Install p) = false
-is_put (Accept k) = false
-is_put (Refuse k) = false
-is_put (Ask k) = false
-is_put (Yes k) = false
-is_put (No k) = false
-is_put Begin = false
-is_put (Put p) = true
-is_put Done = false
-is_put Want = false
-is_put (Grant g) = false
-is_put (Owner first last) = false
+-- whether the record adds its pair
+abbrev pub adds_pair : Record → Bool
+adds_pair (Install p) = false
+adds_pair (Accept k) = false
+adds_pair (Refuse k) = false
+adds_pair (Ask k) = false
+adds_pair (Yes k) = false
+adds_pair (No k) = false
+adds_pair Begin = false
+adds_pair (Put p) = true
+adds_pair Done = false
+adds_pair Want = false
+adds_pair (Grant g) = false
+adds_pair (Owner first last) = false
+adds_pair (Tell p) = true
 
--- the effect of the record: it put its pair, ended the loading, or prepared the table
+-- the effect of the record: it added its pair, ended the loading, or prepared the table
 abbrev pub what_of : Record → Loaded
 what_of (Install p) = Prepared
 what_of (Accept k) = Prepared
@@ -129,10 +143,11 @@ what_of Done = Whole
 what_of Want = Prepared
 what_of (Grant g) = Prepared
 what_of (Owner first last) = Prepared
+what_of (Tell p) = Paired
 
 -- a pair takes one of the places that were made ready
 abbrev pub ready_after : Record → ℕ → ℕ
-ready_after r ready = (if is_put r then ready - 1 else ready)
+ready_after r ready = (if adds_pair r then ready - 1 else ready)
 
 -- a pair's life begins now, not by Install; Begin leaves none
 abbrev pub lives_taken : ℕ → Record → List Entry → List Activity → List Activity
@@ -148,6 +163,7 @@ lives_taken now Done es ls = ls
 lives_taken now Want es ls = ls
 lives_taken now (Grant g) es ls = ls
 lives_taken now (Owner first last) es ls = ls
+lives_taken now (Tell p) es ls = insert ls (place_in p es) (life_begun false now)
 
 -- the clause on lives, of any past: a pair's life begins now, not by Install, and other lives go on; Begin leaves none
 abbrev pub LivesGoOn : ℕ → Record → Table → Table → Type 0
@@ -163,3 +179,4 @@ LivesGoOn now Done old new = new.lives ≡ old.lives
 LivesGoOn now Want old new = new.lives ≡ old.lives
 LivesGoOn now (Grant g) old new = new.lives ≡ old.lives
 LivesGoOn now (Owner first last) old new = new.lives ≡ old.lives
+LivesGoOn now (Tell p) old new = IsPast new p.key (came false now) × KeepsOthers p.key old.entries old.lives new.entries new.lives

@@ -4,7 +4,7 @@ use Rattle.std.specs.List.{filter}
 use Rattle.nat_types.specs.declared.pairs.EntryState.TheVariants.{Live, Held}
 use Rattle.nat_types.specs.declared.pairs.Pair.{Pair}
 use Rattle.nat_types.specs.declared.records.Record.{Record}
-use Rattle.nat_types.specs.declared.records.Record.TheVariants.{Install, Accept, Refuse, Ask, Yes, No, Begin, Put, Done, Want, Grant, Owner}
+use Rattle.nat_types.specs.declared.records.Record.TheVariants.{Install, Accept, Refuse, Ask, Yes, No, Begin, Put, Done, Want, Grant, Owner, Tell}
 use Rattle.bindings.specs.declared.entries.Entry.{Entry}
 use Rattle.bindings.specs.declared.entries.PortBounds.{PortBounds}
 use Rattle.bindings.specs.Entries.{pairs_in, entry_in}
@@ -41,6 +41,7 @@ is_done Done = true
 is_done Want = false
 is_done (Grant g) = false
 is_done (Owner first last) = false
+is_done (Tell p) = false
 
 abbrev pub or_as_before : Load → Option Load → Load
 or_as_before l None = l

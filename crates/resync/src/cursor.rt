@@ -1,19 +1,23 @@
-//! A table's batch (Begin, Owners, Puts, Done), drawn record by record.
+//! A table's batch (Begin, Owners, Puts and Tells, Done), drawn record by record.
 ghost use Rattle.std.specs.Prelude.{◌≡◌, ◌+◌, ◌<◌, ◌≤◌, ◌==◌, ◌++◌, ◌∷◌, ℕ, List, [], length, take, drop};
 ghost use Rattle.std.specs.Prelude.{IfSome, IfNone, Some};
 ghost use Rattle.std.specs.List.{AllByRecursion};
 ghost use Rattle.arrayvec.specs.ArrayVec.{array_vec_len};
 ghost use Rattle.bindings.specs.declared.entries.Entry.{Entry as Row};
+ghost use Rattle.bindings.specs.Entries.{pairs_in};
+ghost use Rattle.bindings.specs.Lists.{key_place};
 ghost use Rattle.bindings.specs.Runs.{first_of, runs_of};
 ghost use Rattle.link.specs.Grammar.{IsWellFormedRun, IsWellFormedPair, IsWellFormedRecord};
-ghost use Rattle.resync.specs.Batch.{is_settled, batch_of, CanBeSent, HasNoPending};
+ghost use Rattle.resync.specs.Batch.{is_settled, is_second as comes_second, batch_of, CanBeSent};
+ghost use Rattle.resync.specs.Batch.{record_for as record_said, HasNoPending};
 ghost use Rattle.resync.specs.Cursor.{runs_from, pairs_behind, to_come, coming, ports_ahead};
+ghost use Rattle.resync.specs.Cursor.{is_settled_below as settled_below};
 ghost use Rattle.resync.specs.declared.cursor.Cursor.TheVariants as at;
 
 use addresses::Port;
 use arrayvec::ArrayVec;
 use bindings::{Entry, PortBounds, Table};
-use nat_types::{EntryState, Key, Pair, Record};
+use nat_types::{Endpoint, EntryState, Key, Pair, Record};
 
 /// The place in a table's batch up to which its records are drawn. A cursor copies nothing of the
 /// table, which may get proposals and close pairs between two draws.
@@ -24,7 +28,7 @@ pub enum Cursor {
     /// Begin is drawn, and an Owner for each run below this port; `None` where no port is above the
     /// last run.
     Owners(Option<Port>),
-    /// All Owners are drawn, and a Put for each pair up to this key.
+    /// All Owners are drawn, and a Put or a Tell for each pair up to this key.
     Puts(Option<Key>),
     /// All records are drawn.
     Over,
@@ -34,8 +38,8 @@ fn is_settled_state(state: EntryState) -> bool
     ensures { result ≡ is_settled state }
 {
     match state {
-        EntryState::Pending | EntryState::Doomed => false,
-        EntryState::Live | EntryState::Closing | EntryState::Held => true,
+        EntryState::Pending { .. } | EntryState::Doomed | EntryState::Alone => false,
+        EntryState::Live | EntryState::Closing { .. } | EntryState::Held => true,
     }
 }
 
@@ -107,8 +111,53 @@ fn key_of(entry: Entry) -> Key
     entry.pair.key
 }
 
-/// Returns the first settled pair (neither Pending nor Doomed) after a key, or the first of all
-/// where there is no key.
+fn endpoint_of(pair: Pair) -> Endpoint
+    ensures { result ≡ pair.endpoint }
+{
+    pair.endpoint
+}
+
+/// Returns a key's place in the order by protocol (icmp first) and port.
+fn place_of(key: Key) -> u32
+    ensures { result ≡ key_place key }
+{
+    65536 * u32::from(key.protocol.number()) + u32::from(key.port.0)
+}
+
+/// Whether there is an entry, it is settled, and it is before this key.
+fn is_settled_below(key: Key, entry: Option<Entry>) -> bool
+    ensures { result ≡ settled_below key entry }
+{
+    match entry {
+        Some(entry) => is_settled_state(entry.state) && place_of(key_of(entry)) < place_of(key),
+        None => false,
+    }
+}
+
+/// Whether the endpoint of a pair has a settled pair before it.
+fn is_second(table: &Table, pair: Pair) -> bool
+    ensures { result ≡ comes_second (pairs_in is_settled table.now.entries) pair }
+{
+    table.recall();
+    let endpoint = endpoint_of(pair);
+    let first = is_settled_below(pair.key, table.port_of(endpoint));
+    first || is_settled_below(pair.key, table.held_of(endpoint))
+}
+
+/// Returns the record of a settled pair: a Tell where its endpoint has a settled pair before it,
+/// else a Put.
+fn record_for(table: &Table, pair: Pair) -> Record
+    ensures { result ≡ record_said (pairs_in is_settled table.now.entries) pair }
+{
+    if is_second(table, pair) {
+        Record::Tell(pair)
+    } else {
+        Record::Put(pair)
+    }
+}
+
+/// Returns the first settled pair (Live, Closing or Held) after a key, or the first of all where
+/// there is no key.
 fn next_pair(table: &Table, last: Option<Key>) -> Option<Pair>
     requires { CanBeSent table.now }
     ensures some { IfSome result (λ p. pairs_behind last table.now.entries
@@ -157,7 +206,7 @@ impl Cursor {
         match next_pair(table, last) {
             Some(pair) => {
                 *self = Cursor::Puts(Some(pair.key));
-                Some(Record::Put(pair))
+                Some(record_for(table, pair))
             }
             None => {
                 *self = Cursor::Over;

@@ -1,22 +1,23 @@
 //! The loading of a table from the peer's batch.
-ghost use Rattle.std.specs.Prelude.{◌≡◌, ◌+◌, ◌-◌, ◌<◌, ◌≤◌, ◌&&◌, ℕ, Bool, true, false, List, []};
+ghost use Rattle.std.specs.Prelude.{◌≡◌, ◌+◌, ◌-◌, ◌<◌, ◌≤◌, ◌&&◌, ℕ, Bool, true, false, not, List, []};
 ghost use Rattle.std.specs.Prelude.{OnOk, OnErr, IfOk, Some, None, if◌then◌else◌};
 ghost use Rattle.addresses.specs.declared.transport.Port.{Port as PortNumber};
 ghost use Rattle.nat_types.specs.declared.pairs.EntryState.TheVariants.{Live, Held};
 ghost use Rattle.nat_types.specs.declared.records.Record.TheVariants as record_of;
 ghost use Rattle.activity.specs.Lives.{came};
-ghost use Rattle.bindings.specs.Entries.{slot_of, entry_of, entry_in};
+ghost use Rattle.bindings.specs.Entries.{slot_of, entry_in, rank_of, is_taken};
 ghost use Rattle.bindings.specs.Lists.{put_in};
 ghost use Rattle.bindings.specs.Lives.{KeepsOthers};
 ghost use Rattle.bindings.specs.Ports.{in_either};
 ghost use Rattle.bindings.specs.Runs.{all_ports, without_port};
 ghost use Rattle.bindings.specs.Table.{IsPast, AreInRanges};
-ghost use Rattle.resync.specs.Loading.{loaded, loaded_state, all_in, unnamed, is_new, names_run};
-ghost use Rattle.resync.specs.Loading.{none_yet, begun, load_of, what_of, is_put, ready_after};
+ghost use Rattle.resync.specs.Loading.{loaded, loaded_state, all_in, unnamed, is_new, is_beside};
+ghost use Rattle.resync.specs.Loading.{names_run, none_yet, begun, load_of, what_of, adds_pair};
+ghost use Rattle.resync.specs.Loading.{ready_after, is_own_entry};
 ghost use Rattle.resync.specs.Loading.{lives_taken, LivesGoOn};
 
 use addresses::Port;
-use bindings::{PortBounds, Table};
+use bindings::{Entry, PortBounds, Table};
 use nat_types::{Endpoint, EntryState, Key, Pair, Record};
 use std::marker::Model;
 use thiserror::Error;
@@ -127,13 +128,43 @@ fn state_on(table: &Table, port: Port) -> EntryState
     }
 }
 
-/// Adds a pair that is new, on a port of the ranges.
+/// Whether there is an entry of an own pair.
+fn is_own(entry: Option<Entry>) -> bool
+    ensures { result ≡ is_own_entry entry }
+{
+    match entry {
+        Some(entry) => match entry.state {
+            EntryState::Doomed | EntryState::Held => false,
+            EntryState::Pending { .. }
+            | EntryState::Live
+            | EntryState::Closing { .. }
+            | EntryState::Alone => true,
+        },
+        None => false,
+    }
+}
+
+/// Whether an endpoint has a pair that is loaded in the same state as one on this port would be.
+fn has_pair_on(table: &Table, port: Port, endpoint: Endpoint) -> bool
+    ensures { result ≡ is_taken (rank_of (loaded_state table.now.owned port.0)) table.now.entries
+        endpoint }
+{
+    if table.owns(port) {
+        is_own(table.port_of(endpoint))
+    } else {
+        table.held_of(endpoint).is_some()
+    }
+}
+
+/// Adds a pair on a port of the ranges. Its key is new, and its endpoint has no pair on a port of the
+/// same gateway.
 fn put(table: &mut Table, pair: Pair, now: u64)
     requires ready { 0 < table.old.ready }
     requires within { AreInRanges table.old }
     requires inside { in_either table.old.zero table.old.one pair.key.port.0 ≡ true }
     requires key { slot_of table.old.entries pair.key ≡ None }
-    requires endpoint { entry_of table.old.entries pair.endpoint ≡ None }
+    requires endpoint { is_taken (rank_of (loaded_state table.old.owned pair.key.port.0))
+        table.old.entries pair.endpoint ≡ false }
     ensures entries { table.new.entries
         ≡ put_in (entry_in (loaded_state table.old.owned pair.key.port.0) pair) table.old.entries }
     ensures lives { table.new.lives
@@ -185,6 +216,7 @@ impl Loading {
             && lie_in_ranges(self.zero, self.one, first, last)
     }
 
+    /// Whether a pair is a Put's in its place.
     fn is_new(&self, table: &Table, pair: Pair) -> bool
         requires zero { self.now.zero ≡ table.now.zero }
         requires one { self.now.one ≡ table.now.one }
@@ -195,6 +227,19 @@ impl Loading {
             && lies_in_ranges(self.zero, self.one, key.port.0)
             && table.pair_of_port(key).is_none()
             && table.port_of(endpoint_of(pair)).is_none()
+    }
+
+    /// Whether a pair is a Tell's in its place.
+    fn is_beside(&self, table: &Table, pair: Pair) -> bool
+        requires zero { self.now.zero ≡ table.now.zero }
+        requires one { self.now.one ≡ table.now.one }
+        ensures { result ≡ (self.now.begun && is_beside (load_of self.now table.now) pair) }
+    {
+        let key = key_of(pair);
+        self.begun
+            && lies_in_ranges(self.zero, self.one, key.port.0)
+            && table.pair_of_port(key).is_none()
+            && !has_pair_on(table, key.port, endpoint_of(pair))
     }
 
     fn begin(&mut self, table: &mut Table)
@@ -232,7 +277,7 @@ impl Loading {
         Ok(Loaded::Prepared)
     }
 
-    fn take_pair(&mut self, table: &mut Table, pair: Pair, now: u64) -> Result<Loaded, OutOfPlace>
+    fn take_put(&mut self, table: &mut Table, pair: Pair, now: u64) -> Result<Loaded, OutOfPlace>
         requires zero { self.old.zero ≡ table.old.zero }
         requires one { self.old.one ≡ table.old.one }
         requires within { AreInRanges table.old }
@@ -261,6 +306,35 @@ impl Loading {
         Ok(Loaded::Paired)
     }
 
+    fn take_tell(&mut self, table: &mut Table, pair: Pair, now: u64) -> Result<Loaded, OutOfPlace>
+        requires zero { self.old.zero ≡ table.old.zero }
+        requires one { self.old.one ≡ table.old.one }
+        requires within { AreInRanges table.old }
+        requires ready { 0 < table.old.ready }
+        ensures ok { OnOk result (loaded (load_of self.old table.old) (record_of.Tell pair)
+            ≡ Some (load_of self.new table.new)) }
+        ensures what { IfOk result (λ w. w ≡ what_of (record_of.Tell pair)) }
+        ensures refused { OnErr result (loaded (load_of self.old table.old) (record_of.Tell pair)
+            ≡ None) }
+        ensures kept { self.new ≡ self.old }
+        ensures err { OnErr result (table.new ≡ table.old) }
+        ensures lives { OnOk result (table.new.lives
+            ≡ lives_taken now (record_of.Tell pair) table.old.entries table.old.lives) }
+        ensures pasts { OnOk result (LivesGoOn now (record_of.Tell pair) table.old table.new) }
+        ensures same { OnOk result (table.new ≡ record table.old {
+          entries = table.new.entries;
+          lives = table.new.lives;
+          ready = table.old.ready - 1;
+        }) }
+        ensures within { AreInRanges table.new }
+    {
+        if !self.is_beside(table, pair) {
+            return Err(OutOfPlace);
+        }
+        put(table, pair, now);
+        Ok(Loaded::Paired)
+    }
+
     fn take_end(&mut self) -> Result<Loaded, OutOfPlace>
         ensures ok { OnOk result (self.old.begun ≡ true) }
         ensures ended { OnOk result (self.new ≡ record self.old { begun = false }) }
@@ -276,14 +350,14 @@ impl Loading {
     }
 
     /// Takes a record of the peer's batch. Begin empties the table, which is then to own all ports
-    /// of both ranges. An Owner removes its run from them. A Put adds its pair, whose life begins
-    /// now (centiseconds). Done ends the loading. A record out of its place is refused and changes
-    /// nothing. Before a Put, the table must be ready for one more pair.
+    /// of both ranges. An Owner removes its run from them. A Put or a Tell adds its pair, whose life
+    /// begins now (centiseconds). Done ends the loading. A record out of its place is refused and
+    /// changes nothing. Before a Put or a Tell, the table must be ready for one more pair.
     pub fn take(&mut self, table: &mut Table, item: Record, now: u64) -> Result<Loaded, OutOfPlace>
         requires zero { self.old.zero ≡ table.old.zero }
         requires one { self.old.one ≡ table.old.one }
         requires within { AreInRanges table.old }
-        requires ready { is_put item ≡ true → 0 < table.old.ready }
+        requires ready { adds_pair item ≡ true → 0 < table.old.ready }
         ensures ok { OnOk result (loaded (load_of self.old table.old) item
             ≡ Some (load_of self.new table.new)) }
         ensures what { IfOk result (λ w. w ≡ what_of item) }
@@ -311,7 +385,8 @@ impl Loading {
                 Ok(Loaded::Prepared)
             }
             Record::Owner { first, last } => self.take_run(table, first, last),
-            Record::Put(pair) => self.take_pair(table, pair, now),
+            Record::Put(pair) => self.take_put(table, pair, now),
+            Record::Tell(pair) => self.take_tell(table, pair, now),
             Record::Done => self.take_end(),
             Record::Install(_)
             | Record::Accept(_)

@@ -52,6 +52,9 @@ pub(crate) fn log_step<L: Journal>(
     }
     let heard = (before.heard, after.heard);
     log_change(log, now, heard, Entry::PeerHeard, Entry::PeerSilent);
+    let apart = (before.apart, after.apart);
+    let untold = Entry::NotApart(after.untold);
+    log_change(log, now, apart, Entry::Apart, untold);
     if has_stopped {
         log.write(now, Entry::Stopped);
     }

@@ -95,6 +95,7 @@ fn report_of<W: Wire, L: Journal>(
         sides: state.sides,
         counters: with_losses(state.counters, wire),
         lines_left_out: log.lines_left_out(),
+        apart: state.apart,
     })
 }
 

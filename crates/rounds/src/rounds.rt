@@ -11,7 +11,7 @@ use gateway::{Event, Gateway, Out};
 use journal::{EventLog, Journal};
 use nat_types::GatewayId;
 use platform::CentisecondClock;
-use reports::{Counters, Sides};
+use reports::{ApartReport, Counters, Sides};
 use sockets::{MAX_DATAGRAM, Wire, WireFault};
 use std::alloc::Global;
 use std::time::Duration;
@@ -88,6 +88,7 @@ pub(crate) struct RoundState {
     pub(crate) out: Out,
     pub(crate) counters: Counters,
     pub(crate) sides: Sides,
+    pub(crate) apart: ApartReport,
     outages: Outages,
     missing_table: MissingTable,
     /// The request that is answered at the round's end.
@@ -102,6 +103,7 @@ impl RoundState {
             out: Out::new(alloc),
             counters: Counters::new(),
             sides: sides_of(gateway),
+            apart: ApartReport::new(),
             outages: Outages::none(),
             missing_table: MissingTable::new(),
             request: None,
@@ -198,6 +200,7 @@ fn round<W: Wire, C: CentisecondClock, L: Journal>(
     take_what_comes(gateway, wire, buffer, state, log, options.track);
     take_event(gateway, Event::Tick(clock.now()), wire, state, log);
     update_sides(&mut state.sides, gateway);
+    state.apart.update(gateway.is_apart(), gateway.moment());
     answer_request(gateway, wire, options.identity, buffer, state, log);
     let now = gateway.moment();
     state.outages.log(wire, now, log);

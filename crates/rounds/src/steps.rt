@@ -73,6 +73,7 @@ pub(crate) fn take_event<W: Wire, L: Journal>(
     }
     log_step(log, &event, cause, &before, &View::of(gateway));
     log.write_mappings(state.out.notes());
+    state.apart.count(state.out.notes());
     outcome.is_ok()
 }
 

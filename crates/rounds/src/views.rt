@@ -14,6 +14,10 @@ pub(crate) struct View {
     pub(crate) outside: bool,
     /// Whether the gateway gave way to the other one.
     pub(crate) away: bool,
+    /// Whether the gateway makes pairs alone, since the other one doesn't answer.
+    pub(crate) apart: bool,
+    /// How many pairs the gateway has made alone and not told of yet.
+    pub(crate) untold: u64,
     /// Whether the gateway's table is loaded.
     pub(crate) synced: bool,
     /// The known boot of the other gateway, or 0.
@@ -30,6 +34,8 @@ impl View {
             inside: gateway.is_active(Side::Inside),
             outside: gateway.is_active(Side::Outside),
             away: gateway.is_away(),
+            apart: gateway.is_apart(),
+            untold: gateway.alone_count() as u64,
             synced: gateway.synced(),
             peer: gateway.known_peer(),
             heard: gateway.hears_peer(),

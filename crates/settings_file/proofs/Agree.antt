@@ -132,6 +132,7 @@ holds t v s a h = record {
   zero_ports = rw h.zero_ports a.zero_ports;
   one_ports = rw h.one_ports a.one_ports;
   limit_is = rw h.host_limit a.limit_is;
+  alone_is = rw h.alone a.alone_is;
   inside_is = rw h.inside a.inside_is;
   outside_is = rw h.outside a.outside_is;
   router_is = rw h.router a.router_is;

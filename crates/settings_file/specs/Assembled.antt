@@ -9,7 +9,7 @@ use Rattle.settings_file.specs.declared.keys.Section.TheVariants.{Inside, Outsid
 use Rattle.settings_file.specs.declared.keys.Name.TheVariants.{Zero, One, Router}
 use Rattle.settings_file.specs.Document.{address_at}
 use Rattle.settings_file.specs.Neighbours.{neighbours_of, neighbour_in}
-use Rattle.settings_file.specs.Values.{IsRange, IsLimit, IsInterface, IsIcmp, IsGateway}
+use Rattle.settings_file.specs.Values.{IsRange, IsLimit, IsAlone, IsInterface, IsIcmp, IsGateway}
 use Rattle.settings_file.specs.Settings.{overlap}
 use Rattle.settings_file.specs.Ids.{same_ids}
 
@@ -18,6 +18,7 @@ pub record AreValues (t : Members) (v : Values) : Type 0 where
   pub zero_ports : IsRange t Zero v.zero_ports
   pub one_ports : IsRange t One v.one_ports
   pub limit_is : IsLimit t v.host_limit
+  pub alone_is : IsAlone t v.alone
   pub inside_is : IsInterface t Inside v.inside
   pub outside_is : IsInterface t Outside v.outside
   pub router_is : address_at t Outside Router ≡ Some v.router.0
@@ -39,6 +40,7 @@ pub record IsAssembled (v : Values) (s : Settings) : Type 0 where
   pub zero_ports : s.ports.zero ≡ v.zero_ports
   pub one_ports : s.ports.one ≡ v.one_ports
   pub host_limit : s.ports.host_limit ≡ v.host_limit
+  pub alone : s.alone ≡ v.alone
   pub inside : s.inside ≡ v.inside
   pub outside : s.outside ≡ v.outside
   pub router : s.router ≡ v.router

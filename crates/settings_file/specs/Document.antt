@@ -1,5 +1,6 @@
 -- The values at the keys of a document, each read as its type and within its limits.
 use Rattle.std.specs.Prelude.{ℕ, pos, ◌-◌, ◌/◌, ◌^◌, ◌==◌, ◌&&◌, nat_le, min, not, Bool, false, true, if◌then◌else◌, List, [], ◌∷◌, Option, Some, None, is_some, option_map, option_and_then}
+use Rattle.std.specs.Option.{option_or}
 use Rattle.addresses.specs.Address.{IsIn}
 use Rattle.addresses.specs.declared.internet.Prefix.{Prefix}
 use Rattle.toml.specs.Data.{Data, integer, Items, no_items, item, Members, get_member, as_str, as_bool, as_table, as_array}
@@ -29,6 +30,10 @@ abbrev pub number_in : ℕ → ℕ → Data → Option ℕ
 number_in low high (integer (pos n)) = if nat_le low n && nat_le n high then Some n else None
 number_in low high _ = None
 
+-- a whole number in limits, or else 0
+abbrev pub zero_or_in : ℕ → ℕ → Data → Option ℕ
+zero_or_in low high d = option_or (number_in low high d) (number_in 0 0 d)
+
 -- what a value is read as, or the default where there is none
 abbrev pub or_default : {X : Type 0} → X → (Data → Option X) → Option Data → Option X
 or_default default read None = Some default
@@ -40,6 +45,10 @@ number_at low high t section name = option_and_then (number_in low high) (value_
 
 unfoldable pub number_or : ℕ → ℕ → ℕ → Members → Section → Name → Option ℕ
 number_or default low high t section name = or_default default (number_in low high) (value_of t section name)
+
+-- the number at a key that may be 0 too, and is 0 where it is left out
+unfoldable pub zero_or : ℕ → ℕ → Members → Section → Name → Option ℕ
+zero_or low high t section name = or_default 0 (zero_or_in low high) (value_of t section name)
 
 -- the number at a key that may be left out: `None` where it is
 unfoldable pub optional_at : ℕ → ℕ → Members → Section → Name → Option (Option ℕ)

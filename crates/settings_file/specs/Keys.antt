@@ -3,7 +3,7 @@ use Rattle.std.specs.Prelude.{ℕ, List, codes, Some, None}
 use Rattle.settings_file.specs.declared.keys.Section.{Section}
 use Rattle.settings_file.specs.declared.keys.Section.TheVariants.{Ports, Inside, Outside, Icmp, GatewayZero, GatewayOne, Neighbour}
 use Rattle.settings_file.specs.declared.keys.Name.{Name}
-use Rattle.settings_file.specs.declared.keys.Name.TheVariants.{Zero, One, HostLimit, Virtual, Prefix, Vrid, Wire, Router, Mtu, Echo, Errors}
+use Rattle.settings_file.specs.declared.keys.Name.TheVariants.{Zero, One, HostLimit, Alone, Virtual, Prefix, Vrid, Wire, Router, Mtu, Echo, Errors}
 use Rattle.settings_file.specs.declared.keys.Name.TheVariants.{InsideIp, InsideMac, OutsideIp, OutsideMac, Priority, Interval, Preempt, BootFile, Link, InsidePort, OutsidePort}
 use Rattle.settings_file.specs.declared.keys.Name.TheVariants.{Side, Ip, Mac}
 use Rattle.settings_file.specs.declared.keys.Key.{Key}
@@ -23,6 +23,7 @@ abbrev pub name_text : Name → List ℕ
 name_text Zero = codes "zero"
 name_text One = codes "one"
 name_text HostLimit = codes "host_limit"
+name_text Alone = codes "alone"
 name_text Virtual = codes "virtual"
 name_text Prefix = codes "prefix"
 name_text Vrid = codes "vrid"

@@ -8,9 +8,9 @@ use Rattle.settings.specs.declared.gateway_settings.GatewaySettings.{GatewaySett
 use Rattle.settings_file.specs.declared.keys.Section.{Section}
 use Rattle.settings_file.specs.declared.keys.Name.{Name}
 use Rattle.settings_file.specs.declared.keys.Section.TheVariants.{Ports, Icmp}
-use Rattle.settings_file.specs.declared.keys.Name.TheVariants.{HostLimit, Virtual, Prefix, Vrid, Wire, Mtu, Echo, Errors}
+use Rattle.settings_file.specs.declared.keys.Name.TheVariants.{HostLimit, Alone, Virtual, Prefix, Vrid, Wire, Mtu, Echo, Errors}
 use Rattle.settings_file.specs.declared.keys.Name.TheVariants.{InsideIp, InsideMac, OutsideIp, OutsideMac, Priority, Interval, Preempt, BootFile, Link, InsidePort, OutsidePort}
-use Rattle.settings_file.specs.Document.{number_at, number_or, optional_at, flag_or, text_at, address_at, mac_at, range_at}
+use Rattle.settings_file.specs.Document.{number_at, number_or, zero_or, optional_at, flag_or, text_at, address_at, mac_at, range_at}
 
 -- a range of ports
 abbrev pub IsRange : Members → Name → PortRange → Type 0
@@ -19,6 +19,10 @@ IsRange t name range = range_at t Ports name ≡ Some (range.lowest.0, range.hig
 -- the most pairs of an inside address: none where it is left out
 abbrev pub IsLimit : Members → Option ℕ → Type 0
 IsLimit t limit = optional_at 1 65535 t Ports HostLimit ≡ Some limit
+
+-- after how many centiseconds without an answer a gateway makes pairs alone: 0, never, where it is left out
+abbrev pub IsAlone : Members → ℕ → Type 0
+IsAlone t alone = zero_or 50 65535 t Ports Alone ≡ Some alone
 
 -- a network: where they are left out, mtu is 1500 and wire is none
 pub record IsInterface (t : Members) (s : Section) (interface : InterfaceSettings) : Type 0 where

@@ -56,7 +56,7 @@ fn bad_in_sections(
     document: &Table,
     inside: Option<Prefix>,
     outside: Option<Prefix>,
-) -> [Option<Key>; 17] {
+) -> [Option<Key>; 18] {
     let (ports, inner, outer, icmp) = (
         Section::Ports,
         Section::Inside,
@@ -68,6 +68,7 @@ fn bad_in_sections(
         fields::required_range(document, ports, Name::Zero).err(),
         fields::required_range(document, ports, Name::One).err(),
         limits::host_limit(document).err(),
+        limits::alone(document).err(),
         fields::required_address(document, inner, Name::Virtual).err(),
         limits::prefix_length(document, inner).err(),
         limits::virtual_router(document, inner).err(),

@@ -2,8 +2,8 @@
 
 use crate::bad_values::network_of;
 use crate::explanations::Source;
-use crate::fields::{Limits, address_at, entry, is_port, list, value_at};
-use crate::limits::{limits_of, prefix_length};
+use crate::fields::{address_at, entry, is_port, list, value_at};
+use crate::limits::{Numbers, numbers_of, prefix_length};
 use crate::neighbour_cursor::{NeighbourCheck, NeighbourCursor};
 use crate::neighbours::{self, MAX_NEIGHBOURS, field_of, ip_of};
 use crate::shown::Shown;
@@ -100,10 +100,10 @@ fn explain_neighbour(
 /// What the value at a key has to be.
 #[derive(Clone, Copy)]
 enum Wanted {
-    /// A number within limits, where the value is a number.
-    Within(Limits),
-    /// A number within limits, where the value is something else.
-    Number(Limits),
+    /// One of some numbers, where the value is a number.
+    Within(Numbers),
+    /// One of some numbers, where the value is something else.
+    Number(Numbers),
     Range,
     /// A range, where the value is two ports in the wrong order.
     Order,
@@ -118,8 +118,8 @@ enum Wanted {
 impl Display for Wanted {
     fn fmt<W: fmt::Write>(&self, f: &mut Formatter<W>) -> fmt::Result {
         match self {
-            Wanted::Within(Limits { low, high }) => write!(f, "{low} to {high}"),
-            Wanted::Number(Limits { low, high }) => write!(f, "a whole number, {low} to {high}"),
+            Wanted::Within(numbers) => f.write(numbers),
+            Wanted::Number(numbers) => write!(f, "a whole number, {numbers}"),
             Wanted::Range => f.write_str("two ports from 1024 to 65535, as [20000, 39999]"),
             Wanted::Order => f.write_str("the lower port first"),
             Wanted::Address => f.write_str("an IPv4 address, as \"192.0.2.1\""),
@@ -154,9 +154,9 @@ fn wanted_at(document: &Table, section: Section, name: Name, value: &Value) -> W
         Name::InsideIp => wanted_host(document, section, name, Section::Inside),
         Name::InsideMac | Name::OutsideMac => Wanted::Mac,
         Name::Preempt | Name::Echo | Name::Errors => Wanted::Flag,
-        _ => match limits_of(name) {
-            Some(limits) if value.is_integer() => Wanted::Within(limits),
-            Some(limits) => Wanted::Number(limits),
+        _ => match numbers_of(name) {
+            Some(numbers) if value.is_integer() => Wanted::Within(numbers),
+            Some(numbers) => Wanted::Number(numbers),
             None => Wanted::Text,
         },
     }

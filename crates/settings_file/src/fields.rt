@@ -1,11 +1,11 @@
 //! The values at the keys of a document, by their types and limits.
-ghost use Rattle.std.specs.Prelude.{◌≡◌, ◌↔◌, IsTrue, ◌≤◌, true, false, Some, map, option_map, IfOk, IfErr, IfSome, OnOk};
+ghost use Rattle.std.specs.Prelude.{◌≡◌, ◌↔◌, IsTrue, ◌<◌, ◌≤◌, true, false, Some, map, option_map, IfOk, IfErr, IfSome, OnOk};
 ghost use Rattle.std.specs.Option.{ForSome};
 ghost use Rattle.toml.specs.Data.{get_member, as_str, as_bool};
 ghost use Rattle.toml.specs.View.{table_view, view};
 ghost use Rattle.addresses.specs.Address.{IsIn};
 ghost use Rattle.settings_file.specs.Keys.{key};
-ghost use Rattle.settings_file.specs.Document.{value_of, number_in, number_at, number_or, optional_at, flag_or, text_at, address_at, mac_at};
+ghost use Rattle.settings_file.specs.Document.{value_of, number_in, number_at, number_or, zero_or_in, zero_or, optional_at, flag_or, text_at, address_at, mac_at};
 ghost use Rattle.settings_file.specs.Document.{in_order, range_of, range_items, range_at, list_in, is_in, is_host};
 ghost use Rattle.settings_file.specs.Faults.{IsBadAt};
 
@@ -58,6 +58,20 @@ fn number_in(value: &Value, limits: Limits) -> Option<u16>
     match u16::try_from(value.as_integer()?) {
         Ok(number) if limits.low <= number && number <= limits.high => Some(number),
         _ => None,
+    }
+}
+
+/// The limits of 0 alone.
+const ZERO: Limits = Limits { low: 0, high: 0 };
+
+/// Returns the number that a value is, or None where the value is neither a whole number within the limits nor 0.
+fn zero_or_in(value: &Value, limits: Limits) -> Option<u16>
+    ensures value { result ≡ zero_or_in limits.low limits.high (view value.now) }
+    ensures low { IfSome result (λ n. n < limits.low → n ≡ 0) }
+{
+    match number_in(value, limits) {
+        Some(number) => Some(number),
+        None => number_in(value, ZERO),
     }
 }
 
@@ -116,6 +130,30 @@ pub(crate) fn number_or(
     match value_at(document, section, name) {
         Some(value) => number_in(value, limits).ok_or(Key::new(section, name)),
         None => Ok(default),
+    }
+}
+
+/// Returns the number at a key that may be 0 too; 0 where the key is left out.
+///
+/// # Errors
+///
+/// The key, where its value is neither a whole number within the limits nor 0.
+#[tactic(auto, unfolding(crate::specs::Document::zero_or))]
+pub(crate) fn zero_or(
+    document: &Table,
+    section: Section,
+    name: Name,
+    limits: Limits,
+) -> Result<u16, Key>
+    ensures ok { IfOk result
+        (λ n. zero_or limits.low limits.high (table_view document.now) section name ≡ Some n) }
+    ensures low { IfOk result (λ n. n < limits.low → n ≡ 0) }
+    ensures err { IfErr result (IsBadAt section name
+        (zero_or limits.low limits.high (table_view document.now) section name)) }
+{
+    match value_at(document, section, name) {
+        Some(value) => zero_or_in(value, limits).ok_or(Key::new(section, name)),
+        None => Ok(0),
     }
 }
 

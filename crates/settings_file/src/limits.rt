@@ -1,19 +1,27 @@
 //! The numbers of the settings, each with its limits. The errors are the keys whose values are bad.
-ghost use Rattle.std.specs.Prelude.{◌≡◌, ◌≤◌, Some, IfErr, IfOk};
+ghost use Rattle.std.specs.Prelude.{◌≡◌, ◌<◌, ◌≤◌, Some, IfErr, IfOk};
 ghost use Rattle.std.specs.Option.{ForSome};
 ghost use Rattle.toml.specs.View.{table_view};
 ghost use Rattle.settings_file.specs.declared.keys.Section.TheVariants.{Ports};
-ghost use Rattle.settings_file.specs.declared.keys.Name.TheVariants.{HostLimit, Prefix, Vrid, Mtu, Priority, Interval};
-ghost use Rattle.settings_file.specs.Document.{number_at, number_or, optional_at};
+ghost use Rattle.settings_file.specs.declared.keys.Name.TheVariants.{HostLimit, Alone, Prefix, Vrid, Mtu, Priority, Interval};
+ghost use Rattle.settings_file.specs.Document.{number_at, number_or, zero_or, optional_at};
 ghost use Rattle.settings_file.specs.Faults.{IsBadAt};
 
-use crate::fields::{Limits, number_or, optional_number, required_number};
+use crate::fields::{Limits, number_or, optional_number, required_number, zero_or};
 use crate::{Key, Name, Section};
+use std::fmt::{self, Display, Formatter};
 use toml::Table;
 
 /// The limits of a host's pairs.
 const HOST_LIMITS: Limits = Limits {
     low: 1,
+    high: 65535,
+};
+
+/// The limits of the centiseconds without an answer after which pairs are made alone, where it isn't 0. Datagrams go
+/// out each 10 cs, so that a few lost ones don't part the boxes.
+const ALONE: Limits = Limits {
+    low: 50,
     high: 65535,
 };
 
@@ -47,16 +55,36 @@ const INTERVALS: Limits = Limits { low: 1, high: 4095 };
 /// The advertisement interval where the key is left out, in centiseconds: a second.
 const DEFAULT_INTERVAL: u16 = 100;
 
-/// Returns the limits of a key's number, or None where the key has no number.
-pub(crate) fn limits_of(name: Name) -> Option<Limits> {
+/// The numbers that a key may have.
+#[derive(Clone, Copy)]
+pub(crate) enum Numbers {
+    Within(Limits),
+    /// 0, or a number within limits.
+    ZeroOr(Limits),
+}
+
+impl Display for Numbers {
+    fn fmt<W: fmt::Write>(&self, f: &mut Formatter<W>) -> fmt::Result {
+        match self {
+            Numbers::Within(Limits { low, high }) => write!(f, "{low} to {high}"),
+            Numbers::ZeroOr(Limits { low, high }) => write!(f, "0, or {low} to {high}"),
+        }
+    }
+}
+
+/// Returns the numbers that a key may have, or None where the key has no number.
+pub(crate) fn numbers_of(name: Name) -> Option<Numbers> {
     match name {
-        Name::HostLimit => Some(HOST_LIMITS),
-        Name::Prefix => Some(PREFIX_LENGTHS),
-        Name::Vrid => Some(VIRTUAL_ROUTERS),
-        Name::Mtu => Some(MTUS),
-        Name::Priority => Some(PRIORITIES),
-        Name::Interval => Some(INTERVALS),
-        Name::Wire | Name::Link | Name::InsidePort | Name::OutsidePort => Some(LOOPBACK_PORTS),
+        Name::HostLimit => Some(Numbers::Within(HOST_LIMITS)),
+        Name::Alone => Some(Numbers::ZeroOr(ALONE)),
+        Name::Prefix => Some(Numbers::Within(PREFIX_LENGTHS)),
+        Name::Vrid => Some(Numbers::Within(VIRTUAL_ROUTERS)),
+        Name::Mtu => Some(Numbers::Within(MTUS)),
+        Name::Priority => Some(Numbers::Within(PRIORITIES)),
+        Name::Interval => Some(Numbers::Within(INTERVALS)),
+        Name::Wire | Name::Link | Name::InsidePort | Name::OutsidePort => {
+            Some(Numbers::Within(LOOPBACK_PORTS))
+        }
         _ => None,
     }
 }
@@ -70,6 +98,18 @@ pub(crate) fn host_limit(document: &Table) -> Result<Option<u16>, Key>
         (optional_at 1 65535 (table_view document.now) Ports HostLimit)) }
 {
     optional_number(document, Section::Ports, Name::HostLimit, HOST_LIMITS)
+}
+
+/// Returns after how many centiseconds without an answer a gateway makes pairs alone: 50 to 65535, or 0 where it never
+/// does; the default is 0.
+pub(crate) fn alone(document: &Table) -> Result<u16, Key>
+    ensures ok { IfOk result
+        (λ n. zero_or 50 65535 (table_view document.now) Ports Alone ≡ Some n) }
+    ensures low { IfOk result (λ n. n < 50 → n ≡ 0) }
+    ensures err { IfErr result
+        (IsBadAt Ports Alone (zero_or 50 65535 (table_view document.now) Ports Alone)) }
+{
+    zero_or(document, Section::Ports, Name::Alone, ALONE)
 }
 
 /// Returns the number of first bits that the addresses of a network share: 8 to 30.

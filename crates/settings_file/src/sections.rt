@@ -8,26 +8,30 @@ ghost use Rattle.settings_file.specs.declared.keys.Name.TheVariants.{Zero, One, 
 ghost use Rattle.settings_file.specs.Document.{address_at, is_apart, is_section, IsApart};
 ghost use Rattle.settings_file.specs.Faults.{FindsBad};
 ghost use Rattle.settings_file.specs.Rows.{bad_ports, bad_inside, bad_outside, bad_icmp, network_at};
-ghost use Rattle.settings_file.specs.Values.{IsRange, IsLimit, IsInterface, IsIcmp};
+ghost use Rattle.settings_file.specs.Values.{IsRange, IsLimit, IsAlone, IsInterface, IsIcmp};
 
 use crate::{Key, Name, Section, fields, limits};
 use addresses::{Ip, Prefix};
 use settings::{IcmpSettings, InterfaceSettings, PortRange};
 use toml::Table;
 
-/// Returns the port ranges of gateway 0 and of gateway 1, and the limit of each inside host, where there is one.
+/// Returns the port ranges of gateway 0 and of gateway 1, the limit of each inside host, where there is one, and after
+/// how many centiseconds without an answer a gateway makes pairs alone.
 #[tactic(auto, unfolding(crate::specs::Rows::bad_ports))]
-pub(crate) fn ports(document: &Table) -> Result<(PortRange, PortRange, Option<u16>), Key>
+pub(crate) fn ports(document: &Table) -> Result<(PortRange, PortRange, Option<u16>, u16), Key>
     ensures zero { IfOk result (λ r. IsRange (table_view document.now) Zero r.0) }
     ensures one { IfOk result (λ r. IsRange (table_view document.now) One r.1) }
     ensures limit { IfOk result (λ r. IsLimit (table_view document.now) r.2) }
     ensures limited { IfOk result (λ r. ForSome r.2 (λ most. 0 < most)) }
+    ensures alone { IfOk result (λ r. IsAlone (table_view document.now) r.3) }
+    ensures late { IfOk result (λ r. r.3 < 50 → r.3 ≡ 0) }
     ensures bad { FindsBad (bad_ports (table_view document.now)) result }
 {
     let zero = fields::required_range(document, Section::Ports, Name::Zero)?;
     let one = fields::required_range(document, Section::Ports, Name::One)?;
     let limit = limits::host_limit(document)?;
-    Ok((zero, one, limit))
+    let alone = limits::alone(document)?;
+    Ok((zero, one, limit, alone))
 }
 
 /// Returns the settings of the inside network.

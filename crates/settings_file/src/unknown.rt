@@ -12,7 +12,7 @@ use std::alloc::{AllocError, Global};
 use toml::{Table, Value};
 
 /// The keys of `[ports]`.
-const PORTS_KEYS: [Name; 3] = [Name::Zero, Name::One, Name::HostLimit];
+const PORTS_KEYS: [Name; 4] = [Name::Zero, Name::One, Name::HostLimit, Name::Alone];
 
 /// The keys of `[inside]`.
 const INSIDE_KEYS: [Name; 5] = [

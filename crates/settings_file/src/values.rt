@@ -1,5 +1,5 @@
 //! The values of a document, from which settings are made.
-ghost use Rattle.std.specs.Prelude.{◌<◌, ◌≤◌, vec_len};
+ghost use Rattle.std.specs.Prelude.{◌≡◌, ◌<◌, ◌≤◌, vec_len};
 ghost use Rattle.std.specs.Option.{ForSome};
 ghost use Rattle.settings.specs.Placed.{AreApart, LiesIn};
 
@@ -20,6 +20,7 @@ pub(crate) struct Values {
     pub(crate) zero_ports: PortRange,
     pub(crate) one_ports: PortRange,
     pub(crate) host_limit: Option<u16>,
+    pub(crate) alone: u16,
     pub(crate) inside: InterfaceSettings,
     pub(crate) outside: InterfaceSettings,
     pub(crate) router: Ip,
@@ -28,6 +29,7 @@ pub(crate) struct Values {
     pub(crate) one: GatewaySettings,
     pub(crate) neighbours: Vec<Neighbour>,
     ghost limited: { ForSome host_limit (λ most. 0 < most) },
+    ghost alone_late: { alone < 50 → alone ≡ 0 },
     ghost few_neighbours: { vec_len neighbours ≤ 64 },
     ghost apart: { AreApart inside outside },
     ghost zero_inside: { LiesIn zero.inside_ip.0 inside },
@@ -53,7 +55,7 @@ impl Values {
         ensures ok { IfOk result (AreValues (table_view document.now)) }
         ensures bad { FindsBadValue (first_bad_value (table_view document.now)) result }
     {
-        let (zero_ports, one_ports, host_limit) = sections::ports(document)?;
+        let (zero_ports, one_ports, host_limit, alone) = sections::ports(document)?;
         let inside = sections::inside(document)?;
         let (outside, router) = sections::outside(document, inside.network())?;
         let icmp = sections::icmp(document)?;
@@ -66,6 +68,7 @@ impl Values {
             zero_ports,
             one_ports,
             host_limit,
+            alone,
             inside,
             outside,
             router,
@@ -101,6 +104,7 @@ impl Values {
         };
         Ok(Settings {
             ports,
+            alone: self.alone,
             inside: self.inside,
             outside: self.outside,
             router: self.router,

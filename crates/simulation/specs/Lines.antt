@@ -60,6 +60,7 @@ abbrev pub kind_text : NoteKind → List ℕ
 kind_text (notes.Used p) = codes "Used " ++ pair_text p
 kind_text (notes.Released p) = codes "Released " ++ pair_text p
 kind_text (notes.Retaken p) = codes "Retaken " ++ pair_text p
+kind_text (notes.Alone p) = codes "Alone " ++ pair_text p
 kind_text notes.Synced = codes "Synced"
 kind_text notes.Crashed = codes "Crashed"
 kind_text (notes.Booted number) = codes "Booted " ++ decimal number

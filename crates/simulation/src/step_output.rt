@@ -123,6 +123,10 @@ fn print_note<W: Write>(output: &mut W, note: &Note) -> io::Result<()>
             let pair = PairText(pair);
             writeln!(output, "note {id} Retaken {pair}")
         }
+        NoteKind::Alone(pair) => {
+            let pair = PairText(pair);
+            writeln!(output, "note {id} Alone {pair}")
+        }
         NoteKind::Synced => writeln!(output, "note {id} Synced"),
         NoteKind::Crashed => writeln!(output, "note {id} Crashed"),
         NoteKind::Booted(number) => writeln!(output, "note {id} Booted {number}"),

@@ -4,6 +4,7 @@ mod Rows
 mod Edits
 mod Stored
 mod LookUps
+mod Summed
 mod Counted
 mod Held
 mod Due

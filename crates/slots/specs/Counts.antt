@@ -1,9 +1,9 @@
--- How many endpoints of each inside address have a slot.
+-- How many slots the endpoints of each inside address have.
 use Rattle.std.specs.Prelude.{ℕ, Bool, ◌==◌, ◌<◌, List, All, unwrap_or, if◌then◌else◌}
 use Rattle.std.specs.Map.{lookup}
 use Rattle.addresses.specs.declared.internet.Ip.{Ip}
 
--- the addresses that have endpoints, each with its count, and how many more addresses fit without more memory
+-- the addresses whose endpoints have slots, each with its count, and how many more addresses fit without more memory
 pub record AddressCounts : Type 0 where
   pub entries : List (Ip × ℕ)
   pub spare : ℕ
@@ -15,7 +15,7 @@ is_address a b = a.0 == b.0
 abbrev pub count_at : List (Ip × ℕ) → Ip → ℕ
 count_at counts address = unwrap_or (lookup (is_address address) counts) 0
 
--- each address that is listed has an endpoint
+-- each address that is listed has a slot
 abbrev pub AreHeld : List (Ip × ℕ) → Type 0
 AreHeld counts = All (λ e. 0 < e.1) counts
 

@@ -1,6 +1,7 @@
 pub mod Rows
 pub mod Cells
 pub mod Counts
+pub mod Ranks
 pub mod Endpoints
 pub mod Lends
 pub mod Draws

@@ -24,7 +24,7 @@ LacksPlaces room = HasTooMany room ⊎ (WasRefused room ⊎ LacksCells 196608 76
 abbrev pub LacksDues : ℕ → Type 0
 LacksDues count = WasRefused count ⊎ LacksTimers count
 
--- there is no capacity for so many more endpoints: there would be more than a count of 32 bits holds, or there is no
--- memory
+-- there is no capacity for so many more slots of endpoints: there would be more than a count of 32 bits holds, or there
+-- is no memory
 abbrev pub LacksEndpoints : ℕ → ℕ → Type 0
 LacksEndpoints more held = (4294967295 < held + more) ⊎ WasRefused more

@@ -1,4 +1,4 @@
-//! How many endpoints of each inside address have a slot.
+//! How many slots the endpoints of each inside address have.
 ghost use Rattle.std.specs.Prelude.{◌≡◌, ◌+◌, ◌-◌, ◌<◌, ◌≤◌, IsOk, OnErr, OnOk, if◌then◌else◌};
 ghost use Rattle.indexmap.specs.IndexMap.{spare};
 ghost use Rattle.memory.specs.Memory.{WasRefused};
@@ -12,7 +12,7 @@ use std::alloc::{AllocError, Global};
 use std::hash::BuildHasher;
 use std::marker::Model;
 
-/// The count of endpoints of each address. An address that has none takes no memory.
+/// The count of each address. An address that has none takes no memory.
 #[derive(Drop)]
 pub(crate) struct AddressCounts<S: BuildHasher + Drop> {
     counts: IndexMap<Ip, u32, S>,
@@ -46,7 +46,7 @@ fn rewrite<S: BuildHasher>(counts: &mut IndexMap<Ip, u32, S>, address: Ip, count
 }
 
 impl<S: BuildHasher + Drop> AddressCounts<S> {
-    /// Makes counts of no endpoints, with the caller's hasher.
+    /// Makes counts of 0 for each address, with the caller's hasher.
     pub(crate) fn new(alloc: Global, hasher: S) -> AddressCounts<S>
         ensures { (a : Address) → count_at result.entries a ≡ 0 }
     {
@@ -73,7 +73,7 @@ impl<S: BuildHasher + Drop> AddressCounts<S> {
         self.counts.get(&address).copied().unwrap_or(0)
     }
 
-    /// Counts one more endpoint of an address.
+    /// Counts one more slot of an address.
     pub(crate) fn add_one(&mut self, address: Ip)
         requires room { 0 < self.old.spare }
         requires small { count_at self.old.entries address < 4294967295 }
@@ -88,7 +88,7 @@ impl<S: BuildHasher + Drop> AddressCounts<S> {
         }
     }
 
-    /// Counts one endpoint fewer of an address. An address that has none changes nothing.
+    /// Counts one slot fewer of an address. An address that has none changes nothing.
     pub(crate) fn take_one(&mut self, address: Ip)
         ensures counts { (a : Address) → count_at self.new.entries a
             ≡ count_at self.old.entries a - one_at address a }

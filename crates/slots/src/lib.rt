@@ -11,6 +11,7 @@ mod keyed_hasher;
 mod maps;
 mod numbers;
 mod port_slots;
+mod ranks;
 mod small_numbers;
 
 pub use draws::{Draws, SystemDraws};
@@ -20,3 +21,4 @@ pub use hashers::Hashers;
 pub use keyed_hasher::{KeyedHasher, Keys, collisions_are_rare};
 pub use numbers::SlotNumber;
 pub use port_slots::PortSlots;
+pub use ranks::Rank;

@@ -158,6 +158,13 @@ impl<T> PortSlots<T> {
         let _ = &self.room;
     }
 
+    /// Reminds the prover that there are few items. The call does nothing at run time.
+    pub fn recall_few(&self)
+        ensures { length self.now.rows ≤ 2147483647 }
+    {
+        let _ = self.slots.capacity();
+    }
+
     /// Returns a limit above the numbers of all slots that there are or may be. The limit never changes.
     pub fn limit(&self) -> usize
         ensures { result ≡ self.now.limit }
@@ -220,6 +227,7 @@ impl<T> PortSlots<T> {
           rows = put_in (record { key = key; number = result; item = item }) self.old.rows;
         } }
         ensures fresh { (q : OutsidePort) → number_of self.old.rows q ≡ Some result → ⊥ }
+        ensures small { result.0 < 2147483647 }
     {
         let number = SlotNumber(self.slots.insert_reserved(item));
         self.cells.fill(cell_of_key(key), number);

@@ -1,10 +1,10 @@
 -- A book stays a book after each change, row and reset.
-use Rattle.std.proofs.Common.{◌≡◌, ℕ, zero, suc, ◌+◌, ◌-◌, ◌<◌, ◌≤◌, ◌==◌, Bool, true, false, cond, ◌&&◌, ◌||◌, nat_le, nat_lt, IsTrue, Option, Some, None, inl, inr, List, [], ◌∷◌, ◌++◌, map, refl, sym, ap, subst, ◌∙◌, arith}
+use Rattle.std.proofs.Common.{◌≡◌, ℕ, zero, suc, ◌+◌, ◌-◌, ◌<◌, ◌≤◌, ◌==◌, Bool, true, false, cond, not, is_some, ◌&&◌, ◌||◌, nat_le, nat_lt, IsTrue, Option, Some, None, inl, inr, List, [], ◌∷◌, ◌++◌, map, refl, sym, ap, subst, ◌∙◌, arith}
 use Rattle.std.specs.List.{filter, AllByRecursion, range_with_len}
 use Rattle.std.proofs.lemmas.Bool.{and_parts, and_from, both_ways, cases_Bool, cond-true, cond-false, eqb-true, false_from_ne_true, le-leb, leb-true, or_cases}
 use Rattle.nat_types.specs.Same.{same_key}
-use Rattle.nat_types.proofs.Offered.{key-eq, key-true}
-use Rattle.nat_types.specs.Granted.{IsPort}
+use Rattle.nat_types.proofs.Offered.{key-eq}
+use Rattle.nat_types.specs.Granted.{Granted, IsPort}
 use Rattle.nat_types.specs.declared.gateways.GatewayId.{GatewayId}
 use Rattle.nat_types.specs.declared.gateways.GatewayId.TheVariants.{Zero}
 use Rattle.nat_types.specs.declared.pairs.EntryState.{EntryState}
@@ -15,41 +15,43 @@ use Rattle.nat_types.specs.declared.pairs.Pair.{Pair}
 use Rattle.nat_types.specs.declared.records.Record.{Record}
 use Rattle.nat_types.specs.declared.records.Record.TheVariants as rec
 use Rattle.addresses.specs.declared.transport.Port.{Port}
+use Rattle.slots.specs.declared.ranks.Rank.{Rank}
+use Rattle.slots.specs.declared.ranks.Rank.TheVariants.{First, Second}
 use Rattle.bindings.specs.declared.entries.Entry.{Entry}
 use Rattle.bindings.specs.declared.entries.PortBounds.{PortBounds}
-use Rattle.bindings.specs.Entries.{slot_of, entry_of, entry_in, is_pair, pairs_in, place_of, set_at, HasDistinctKeys}
+use Rattle.bindings.specs.Entries.{slot_of, entry_of, entry_on, held_entry_of, entry_in, is_of_rank, is_pair, is_taken, pairs_in, place_of, rank_of, set_at, HasDistinctKeys}
 use Rattle.bindings.specs.Lists.{put_in, with_state, without, Rises, AreInOrder, IsOneToOne}
-use Rattle.bindings.specs.Ports.{AreBounds, in_bounds, in_either, lowest_of, highest_of}
+use Rattle.bindings.specs.Ports.{AreBounds, in_bounds, in_either, is_vacant, lowest_of, highest_of}
 use Rattle.bindings.specs.Revivals.{revived_entries, woken_entry}
 use Rattle.bindings.specs.Runs.{runs_of}
-use Rattle.bindings.proofs.Offered.{slot-without, slot-with_state, order-put, order-turn, order-drop, slot-put, keys-put, keys-filter, keys-turn, listed-all, listed-filter, listed-range, rise-filter, rise-range}
+use Rattle.bindings.proofs.Offered.{found-slot, is-rank, none-ranked, one-rank, ranked-serves, slot-without, slot-with_state, order-put, order-turn, order-drop, slot-put, keys-put, keys-filter, keys-turn, listed-all, listed-filter, listed-range, rise-filter, rise-range}
 use Rattle.port_range.specs.Ports.{is_listed, AreRising}
 use Rattle.link.specs.Grammar.{IsWellFormedPair, IsWellFormedRecord}
 use Rattle.link.specs.Link.{fresh}
-use Rattle.resync.specs.Batch.{is_settled, owners_of, puts_of}
-use Rattle.resync.specs.Loading.{Load, is_new, loaded_state, names_run, none_yet, with_pair, with_run}
+use Rattle.resync.specs.Batch.{AreHeldElsewhere, is_second, is_settled, owners_of, puts_of, record_for}
+use Rattle.resync.specs.Loading.{Load, is_beside, is_new, loaded_state, names_run, none_yet, with_pair, with_run}
 use Rattle.spec_pair.specs.Box.{In, founder}
 use Rattle.spec_pair.specs.Ownership.{AreRising as RunsRise}
 use Rattle.spec_pair.proofs.Offered.{same_boxes}
 use Rattle.spec_binding.specs.declared.setups.Stage.{Stage}
-use Rattle.spec_binding.specs.declared.setups.Stage.TheVariants.{Paired, Lone}
+use Rattle.spec_binding.specs.declared.setups.Stage.TheVariants.{Unsynced, Paired, Lone}
 use Rattle.spec_binding.specs.declared.changes.Change.{Change}
 use Rattle.spec_binding.specs.declared.changes.Change.TheVariants.{Keep, Add, Turn, Renew, Drop, Yield, Want, Give, Gain}
 use Rattle.spec_binding.specs.declared.changes.Transition.{Transition}
 use Rattle.spec_binding.specs.declared.changes.PortRequest.{PortRequest}
 use Rattle.spec_binding.specs.declared.changes.Want.TheVariants as want
-use Rattle.spec_binding.specs.Books.{Book, IsBook, empty_book, founded_book, in_ranges, is_any, is_lone, is_synced, load_of, owns, ports_of}
-use Rattle.spec_binding.specs.WellFormed.{Fits, GivesWay, IsWellFormedEndpoint}
+use Rattle.spec_binding.specs.Books.{Book, IsBook, empty_book, founded_book, in_ranges, is_any, is_lone, is_paired, is_synced, load_of, owns, ports_of}
+use Rattle.spec_binding.specs.WellFormed.{Fits, GivesWay, IsWellFormedEndpoint, MayGive}
 use Rattle.spec_binding.specs.Machine.{box_at}
 use Rattle.spec_binding.specs.Resets.{begun_anew, put_alone, restart_batch, restarted, revived}
-use Rattle.spec_binding.specs.Rows.{after, carry_row, changed, idle_row, load_taken, numbers_of, quiet, release_row, row_of, taken_book, unsynced_after, use_row, wish, wish_by, wish_of, with_gained, without_ports}
-use Rattle.spec_binding.proofs.Fitting.{carry-sound, idle-sound, row-sound, wish-sound}
-use Rattle.spec_binding.proofs.Loads.{is-fresh}
-use Rattle.spec_binding.proofs.Members.{gained-is, gained-within, rise-gained}
+use Rattle.spec_binding.specs.Rows.{after, alone_row, sought_row, carry_row, changed, idle_row, load_taken, numbers_of, quiet, release_row, row_of, taken_book, unsynced_after, use_row, wish, wish_by, wish_of, with_gained, without_ports}
+use Rattle.spec_binding.proofs.Fitting.{alone-sound, carry-sound, idle-sound, row-sound, wish-sound}
+use Rattle.spec_binding.proofs.Loads.{is-apart, is-fresh}
+use Rattle.spec_binding.proofs.Members.{gained-is, gained-within, owns-gained, rise-gained, slot-free, vacant-is}
 use Rattle.spec_binding.proofs.Moves.{ranges-port}
 use Rattle.spec_binding.proofs.Pairs.{listed-at, settled-pairs, woken-pair, woken-settled}
-use Rattle.spec_binding.proofs.Slots.{keys-revived, one-revived, one-set, was-there}
-use Rattle.spec_binding.proofs.Taking.{fails, serves-of}
+use Rattle.spec_binding.proofs.Slots.{keys-revived, one-revived, one-set, slots-at, was-there, woken-rank}
+use Rattle.spec_binding.proofs.Taking.{unranked}
 use Rattle.spec_binding.proofs.Unbroken.{machine_runs, runs-rising}
 
 -- ---- records that are well-formed
@@ -73,15 +75,22 @@ owners-formed b (r ∷ rs) low tail is rise all = (
   owners-formed b rs r.highest.0 tail is rise.1 all,
 )
 
-puts-formed : (ps : List Pair) → ((p : Pair) → In p ps → IsWellFormedPair p) → AllByRecursion IsWellFormedRecord (map (λ p. rec.Put p) ps ++ rec.Done ∷ [])
-puts-formed [] each = (tt, tt)
-puts-formed (p ∷ ps) each = (each p (inl refl), puts-formed ps (λ q i. each q (inr i)))
+record-formed : (pairs : List Pair) (p : Pair) → IsWellFormedPair p → IsWellFormedRecord (record_for pairs p)
+record-formed pairs p formed = at (is_second pairs p)
+  where
+    at : (t : Bool) → IsWellFormedRecord (let r : Record = cond t (rec.Tell p) (rec.Put p) in r)
+    at true = formed
+    at false = formed
+
+puts-formed : (pairs ps : List Pair) → ((p : Pair) → In p ps → IsWellFormedPair p) → AllByRecursion IsWellFormedRecord (map (record_for pairs) ps ++ rec.Done ∷ [])
+puts-formed pairs [] each = (tt, tt)
+puts-formed pairs (p ∷ ps) each = (record-formed pairs p (each p (inl refl)), puts-formed pairs ps (λ q i. each q (inr i)))
 
 pub batch-formed : (b : Book) → IsBook b → AllByRecursion IsWellFormedRecord (restart_batch b)
 batch-formed b is =
-    let puts : AllByRecursion IsWellFormedRecord (map (λ p. rec.Put p) (pairs_in is_settled (revived_entries b.entries)) ++ rec.Done ∷ []) =
-    subst (λ (ps : List Pair). AllByRecursion IsWellFormedRecord (map (λ p. rec.Put p) ps ++ rec.Done ∷ [])) (sym (settled-pairs b.entries))
-    (puts-formed (pairs_in is_pair b.entries) (λ p i. let at = listed-at is_pair b.entries p is.keys i in subst IsWellFormedPair at.pair (is.formed p.key at.entry at.found))) in
+    let puts : AllByRecursion IsWellFormedRecord (puts_of (revived_entries b.entries) ++ rec.Done ∷ []) =
+    subst (λ (ps : List Pair). AllByRecursion IsWellFormedRecord (map (record_for ps) ps ++ rec.Done ∷ [])) (sym (settled-pairs b.entries))
+    (puts-formed (pairs_in is_pair b.entries) (pairs_in is_pair b.entries) (λ p i. let at = listed-at is_pair b.entries p is.keys i in subst IsWellFormedPair at.pair (is.formed p.key at.entry at.found))) in
     (tt, owners-formed b (runs_of b.owned) 0 (puts_of (revived_entries b.entries) ++ rec.Done ∷ []) is (runs-rising (λ p. in_ranges b p) b.owned is.rising is.owned) puts)
 
 pub fed-formed : (b : Book) (records rest : List Record) → IsBook b → b.coming ≡ records ++ rest → AllByRecursion IsWellFormedRecord records
@@ -93,8 +102,8 @@ fed-formed b records rest is comes = all-first records rest (subst (AllByRecursi
 abbrev pub IsPlaced : Book → Key → Entry → Type 0
 IsPlaced c k x = IsTrue (in_ranges c k.port.0) × IsWellFormedPair x.pair
 
-with-entries : (c : Book) (es : List Entry) → IsBook c → (is_synced c.stage ≡ false → c.begun ≡ false → ⊥) → AreInOrder es → HasDistinctKeys es → IsOneToOne es → ((k : Key) (x : Entry) → slot_of es k ≡ Some x → IsPlaced c k x) → IsBook (record c { entries = es })
-with-entries c es is full order keys ends placed = record {
+with-entries : (c : Book) (es : List Entry) → IsBook c → (is_synced c.stage ≡ false → c.begun ≡ false → ⊥) → AreInOrder es → HasDistinctKeys es → IsOneToOne es → AreHeldElsewhere c.owned es → ((k : Key) (x : Entry) → slot_of es k ≡ Some x → IsPlaced c k x) → IsBook (record c { entries = es })
+with-entries c es is full order keys ends sides placed = record {
   zero = is.zero;
   one = is.one;
   highest = is.highest;
@@ -106,6 +115,7 @@ with-entries c es is full order keys ends placed = record {
   coming = is.coming;
   rising = is.rising;
   owned = is.owned;
+  sides = sides;
   loaded = is.loaded;
   bare = λ a b. absurd (full a b);
   closed = is.closed;
@@ -120,30 +130,71 @@ set-placed c is es k o slots new q x h =
       | inr s ↦ (let old : slot_of c.entries q ≡ Some x = sym (slots q ∙ cond-false (same_key k q) o (slot_of c.entries q) s) ∙ h in (is.within q x old, is.formed q x old))
     ]
 
--- no pair of the table serves the endpoint
-abbrev pub IsUnserved : Book → Endpoint → Type 0
-IsUnserved c e = (q : Key) (y : Entry) → slot_of c.entries q ≡ Some y → is_pair y.state ≡ true → y.pair.endpoint ≡ e → ⊥
+-- where one key's entry changes, and is on its side, each entry is
+set-sides : (c : Book) → IsBook c → (es : List Entry) (k : Key) (o : Option Entry) → ((q : Key) → slot_of es q ≡ set_at (slot_of c.entries) k o q) → ((x : Entry) → o ≡ Some x → is_of_rank Second x.state ≡ not (owns c k.port.0)) → AreHeldElsewhere c.owned es
+set-sides c is es k o slots new q x h =
+    elim (cases_Bool (same_key k q)) [
+      | inl s ↦ subst (λ (z : Key). is_of_rank Second x.state ≡ not (owns c z.port.0)) (key-eq k q s) (new x (sym (slots q ∙ cond-true (same_key k q) o (slot_of c.entries q) s) ∙ h))
+      | inr s ↦ is.sides q x (sym (slots q ∙ cond-false (same_key k q) o (slot_of c.entries q) s) ∙ h)
+    ]
 
-pub unserved : (c : Book) (e : Endpoint) → entry_of c.entries e ≡ None → IsUnserved c e
-unserved c e none q y found pair same = both_ways _ (fails _ _ c.entries y none found) (serves-of e y pair same)
+none-some : (o : Option Entry) → is_some o ≡ false → o ≡ None
+none-some None h = refl
+none-some (Some x) h = cc
 
-keeps-add : (c : Book) (s : EntryState) (p : Pair) → IsBook c → (is_synced c.stage ≡ false → c.begun ≡ false → ⊥) → slot_of c.entries p.key ≡ None → IsUnserved c p.endpoint → IsTrue (in_ranges c p.key.port.0) → IsWellFormedPair p → IsBook (record c { entries = put_in (entry_in s p) c.entries })
-keeps-add c s p is full free new inside formed =
+-- where no pair of an entry's rank has an endpoint, no pair of any rank that the entry is of has
+untaken : (es : List Entry) (s : EntryState) (e : Endpoint) (rank : Rank) → is_taken (rank_of s) es e ≡ false → is_of_rank rank s ≡ true → entry_on rank es e ≡ None
+untaken es s e rank h is = none-some (entry_on rank es e) (sym (ap (λ (r : Option Rank). is_taken r es e) (is-rank s rank is)) ∙ h)
+
+keeps-add : (c : Book) (s : EntryState) (p : Pair) → IsBook c → (is_synced c.stage ≡ false → c.begun ≡ false → ⊥) → slot_of c.entries p.key ≡ None → is_taken (rank_of s) c.entries p.endpoint ≡ false → is_of_rank Second s ≡ not (owns c p.key.port.0) → IsTrue (in_ranges c p.key.port.0) → IsWellFormedPair p → IsBook (record c { entries = put_in (entry_in s p) c.entries })
+keeps-add c s p is full free new side inside formed =
     with-entries c (put_in (entry_in s p) c.entries) is full
     (order-put (entry_in s p) c.entries is.order)
     (keys-put (entry_in s p) c.entries is.keys free)
     (one-set c.entries (put_in (entry_in s p) c.entries) p.key (Some (entry_in s p)) is.endpoints (λ q. slot-put (entry_in s p) c.entries q free)
-    (λ x y q some px hy py same. let e : entry_in s p ≡ x = cc in absurd (new q y hy py (sym same ∙ ap (λ (z : Entry). z.pair.endpoint) (sym e)))))
+    (λ x y q rank some px hy py same.
+    let e : entry_in s p ≡ x = cc in
+    let own : is_of_rank rank s ≡ true = ap (λ (z : Entry). is_of_rank rank z.state) e ∙ px in
+    absurd (unranked c.entries rank p.endpoint q y (untaken c.entries s p.endpoint rank new own) hy py (sym same ∙ ap (λ (z : Entry). z.pair.endpoint) (sym e)))))
+    (set-sides c is (put_in (entry_in s p) c.entries) p.key (Some (entry_in s p)) (λ q. slot-put (entry_in s p) c.entries q free)
+    (λ x some. let e : entry_in s p ≡ x = cc in ap (λ (z : Entry). is_of_rank Second z.state) (sym e) ∙ side))
     (set-placed c is (put_in (entry_in s p) c.entries) p.key (Some (entry_in s p)) (λ q. slot-put (entry_in s p) c.entries q free)
     (λ x some. let e : entry_in s p ≡ x = cc in (inside, subst IsWellFormedPair (ap (λ (z : Entry). z.pair) e) formed)))
 
-keeps-turn : (c : Book) (k : Key) (s : EntryState) (x : Entry) → IsBook c → is_synced c.stage ≡ true → slot_of c.entries k ≡ Some x → is_pair x.state ≡ true → IsBook (record c { entries = with_state k s c.entries })
-keeps-turn c k s x is synced found pair =
+-- an entry stays on its side in another state
+record StaysOn (s t : EntryState) : Type 0 where
+  ranks : (rank : Rank) → is_of_rank rank t ≡ true → is_of_rank rank s ≡ true
+  side : is_of_rank Second t ≡ is_of_rank Second s
+
+not-second : (s : EntryState) → is_of_rank First s ≡ true → is_of_rank Second s ≡ false
+not-second (state.Pending m) h = refl
+not-second state.Doomed h = refl
+not-second state.Live h = refl
+not-second (state.Closing m) h = refl
+not-second state.Alone h = refl
+not-second state.Held h = cc
+
+own-stays : (s t : EntryState) → is_of_rank First s ≡ true → is_of_rank First t ≡ true → StaysOn s t
+own-stays s t own own2 = record {
+  ranks = λ rank h. subst (λ (r : Rank). is_of_rank r s ≡ true) (one-rank t First rank own2 h) own;
+  side = not-second t own2 ∙ sym (not-second s own);
+}
+
+own-doomed : (s : EntryState) → is_of_rank First s ≡ true → StaysOn s state.Doomed
+own-doomed s own = record { ranks = λ rank h. absurd (cc); side = sym (not-second s own) }
+
+keeps-turn : (c : Book) (k : Key) (s : EntryState) (x : Entry) → IsBook c → is_synced c.stage ≡ true → slot_of c.entries k ≡ Some x → StaysOn x.state s → IsBook (record c { entries = with_state k s c.entries })
+keeps-turn c k s x is synced found on =
     with-entries c (with_state k s c.entries) is (λ a b. both_ways (is_synced c.stage) a synced)
     (order-turn k s c.entries is.order)
     (keys-turn k s c.entries is.keys)
     (one-set c.entries (with_state k s c.entries) k (Some (entry_in s x.pair)) is.endpoints (λ q. slot-with_state k s c.entries x q found)
-    (λ z y q some pz hy py same. let e : entry_in s x.pair ≡ z = cc in is.endpoints k q x y found hy pair py (ap (λ (w : Entry). w.pair.endpoint) e ∙ same)))
+    (λ z y q rank some pz hy py same.
+    let e : entry_in s x.pair ≡ z = cc in
+    let old : is_of_rank rank x.state ≡ true = on.ranks rank (ap (λ (w : Entry). is_of_rank rank w.state) e ∙ pz) in
+    is.endpoints k q x y rank found hy old py (ap (λ (w : Entry). w.pair.endpoint) e ∙ same)))
+    (set-sides c is (with_state k s c.entries) k (Some (entry_in s x.pair)) (λ q. slot-with_state k s c.entries x q found)
+    (λ z some. let e : entry_in s x.pair ≡ z = cc in ap (λ (w : Entry). is_of_rank Second w.state) (sym e) ∙ on.side ∙ is.sides k x found))
     (set-placed c is (with_state k s c.entries) k (Some (entry_in s x.pair)) (λ q. slot-with_state k s c.entries x q found)
     (λ z some. let e : entry_in s x.pair ≡ z = cc in (is.within k x found, subst IsWellFormedPair (ap (λ (w : Entry). w.pair) e) (is.formed k x found))))
 
@@ -152,14 +203,15 @@ keeps-drop c k is synced =
     with-entries c (without k c.entries) is (λ a b. both_ways (is_synced c.stage) a synced)
     (order-drop k c.entries is.order)
     (keys-filter _ c.entries is.keys)
-    (one-set c.entries (without k c.entries) k None is.endpoints (λ q. slot-without k c.entries q) (λ x y q some. absurd (cc)))
+    (one-set c.entries (without k c.entries) k None is.endpoints (λ q. slot-without k c.entries q) (λ x y q rank some. absurd (cc)))
+    (set-sides c is (without k c.entries) k None (λ q. slot-without k c.entries q) (λ x some. absurd (cc)))
     (set-placed c is (without k c.entries) k None (λ q. slot-without k c.entries q) (λ x some. absurd (cc)))
 
 -- after a Yield, the peer's pair for the endpoint is the only one that serves it
 keeps-yield : (c : Book) (q : Key) (p : Pair) → IsBook c → is_synced c.stage ≡ true → GivesWay c q p → IsBook (changed (Yield q p) c)
 keeps-yield c q p is synced g =
     let c2 : Book = record c { entries = with_state q state.Doomed c.entries } in
-    keeps-add c2 state.Held p (keeps-turn c q state.Doomed g.entry is synced g.found g.pair) (λ a b. both_ways (is_synced c.stage) a synced) free new g.within g.formed
+    keeps-add c2 state.Held p (keeps-turn c q state.Doomed g.entry is synced g.found (own-doomed g.entry.state g.own)) (λ a b. both_ways (is_synced c.stage) a synced) free (ap is_some none) (sym (ap not g.side)) g.within g.formed
   where
     slots : (k : Key) → slot_of (with_state q state.Doomed c.entries) k ≡ set_at (slot_of c.entries) q (Some (entry_in state.Doomed g.entry.pair)) k
     slots k = slot-with_state q state.Doomed c.entries g.entry k g.found
@@ -170,23 +222,30 @@ keeps-yield c q p is synced g =
       | inr s ↦ cond-false (same_key q p.key) (Some (entry_in state.Doomed g.entry.pair)) (slot_of c.entries p.key) s ∙ g.key
     ]
 
-    new : (k : Key) (y : Entry) → slot_of (with_state q state.Doomed c.entries) k ≡ Some y → is_pair y.state ≡ true → y.pair.endpoint ≡ p.endpoint → ⊥
-    new k y h py same = elim (cases_Bool (same_key q k)) [
-      | inl s ↦
-          (let there : Some (entry_in state.Doomed g.entry.pair) ≡ Some y = sym (slots k ∙ cond-true (same_key q k) (Some (entry_in state.Doomed g.entry.pair)) (slot_of c.entries k) s) ∙ h in
-          let e : entry_in state.Doomed g.entry.pair ≡ y = cc in
-          let gone : is_pair y.state ≡ false = ap (λ (z : Entry). is_pair z.state) (sym e) in
-          both_ways (is_pair y.state) gone py)
-      | inr s ↦
-          (let there : slot_of c.entries k ≡ Some y = sym (slots k ∙ cond-false (same_key q k) (Some (entry_in state.Doomed g.entry.pair)) (slot_of c.entries k) s) ∙ h in
-          let one : q ≡ k = is.endpoints q k g.entry y g.found there g.pair py (g.endpoint ∙ sym same) in
-          both_ways (same_key q k) s (key-true q k one))
-    ]
+    -- no Held entry of the endpoint was there before, and the turned one is none
+    none : held_entry_of (with_state q state.Doomed c.entries) p.endpoint ≡ None
+    none = at (held_entry_of (with_state q state.Doomed c.entries) p.endpoint) refl
+      where
+        at : (o : Option Entry) → held_entry_of (with_state q state.Doomed c.entries) p.endpoint ≡ o → o ≡ None
+        at None h = refl
+        at (Some y) h =
+            let parts = ranked-serves Second (with_state q state.Doomed c.entries) p.endpoint y h in
+            let there = found-slot _ (with_state q state.Doomed c.entries) y (keys-turn q state.Doomed c.entries is.keys) h in
+            absurd (elim (cases_Bool (same_key q y.pair.key)) [
+              | inl s ↦
+                  (let both : Some (entry_in state.Doomed g.entry.pair) ≡ Some y = sym (slots y.pair.key ∙ cond-true (same_key q y.pair.key) (Some (entry_in state.Doomed g.entry.pair)) (slot_of c.entries y.pair.key) s) ∙ there in
+                  let e : entry_in state.Doomed g.entry.pair ≡ y = cc in
+                  let gone : is_of_rank Second y.state ≡ false = ap (λ (z : Entry). is_of_rank Second z.state) (sym e) in
+                  both_ways (is_of_rank Second y.state) gone parts.0)
+              | inr s ↦
+                  (let old : slot_of c.entries y.pair.key ≡ Some y = sym (slots y.pair.key ∙ cond-false (same_key q y.pair.key) (Some (entry_in state.Doomed g.entry.pair)) (slot_of c.entries y.pair.key) s) ∙ there in
+                  unranked c.entries Second p.endpoint y.pair.key y g.held old parts.0 parts.1)
+            ])
 
 -- ---- other ports
 
-with-owned : (c : Book) (owned : List ℕ) (wants : Bool) → IsBook c → is_synced c.stage ≡ true → AreRising owned → ((p : ℕ) → is_listed p owned ≡ true → IsTrue (in_ranges c p)) → (wants ≡ true → c.stage ≡ Paired) → IsBook (record c { owned = owned; wants = wants })
-with-owned c owned wants is synced rises within paired = record {
+with-owned : (c : Book) (owned : List ℕ) (wants : Bool) → IsBook c → is_synced c.stage ≡ true → AreRising owned → ((p : ℕ) → is_listed p owned ≡ true → IsTrue (in_ranges c p)) → AreHeldElsewhere owned c.entries → (wants ≡ true → c.stage ≡ Paired) → IsBook (record c { owned = owned; wants = wants })
+with-owned c owned wants is synced rises within sides paired = record {
   zero = is.zero;
   one = is.one;
   highest = is.highest;
@@ -198,6 +257,7 @@ with-owned c owned wants is synced rises within paired = record {
   coming = is.coming;
   rising = rises;
   owned = within;
+  sides = sides;
   loaded = is.loaded;
   bare = λ a b. absurd (both_ways (is_synced c.stage) a synced);
   closed = paired;
@@ -205,29 +265,58 @@ with-owned c owned wants is synced rises within paired = record {
   unnamed = is.unnamed;
 }
 
+-- a port with an entry isn't vacant
+unvacant : (c : Book) (k : Key) (x : Entry) → slot_of c.entries k ≡ Some x → is_vacant c.entries k.port.0 ≡ true → ⊥
+unvacant c k x found vacant = slot-free x.state x.pair.endpoint (sym (slots-at c.entries k x found) ∙ vacant-is c.entries k.port.0 vacant k refl)
+
+-- granted ports have no entry, so each entry stays on its side
+give-sides : (b : Book) (g : Granted) → IsBook b → MayGive b g → AreHeldElsewhere (without_ports (numbers_of g) b.owned) b.entries
+give-sides b g is may k x found =
+    is.sides k x found ∙ ap not (sym (listed-filter (λ p. not (is_listed p (numbers_of g))) b.owned k.port.0 ∙ ap (λ (t : Bool). t && owns b k.port.0) kept))
+  where
+    kept : not (is_listed k.port.0 (numbers_of g)) ≡ true
+    kept = ap not (false_from_ne_true (is_listed k.port.0 (numbers_of g)) (λ given. unvacant b k x found (and_parts (owns b k.port.0) (is_vacant b.entries k.port.0) (may.spare k.port.0 given)).1))
+
+not-gained : (o g i v : Bool) → v ≡ false → (o || (g && (i && v))) ≡ o
+not-gained true g i v h = refl
+not-gained false true true v h = h
+not-gained false true false v h = refl
+not-gained false false i v h = refl
+
+gain-sides : (b : Book) (gs : List ℕ) → IsBook b → AreHeldElsewhere (with_gained b gs).owned b.entries
+gain-sides b gs is k x found =
+    is.sides k x found ∙ ap not (sym (owns-gained k.port.0 b gs ∙ not-gained (owns b k.port.0) (is_listed k.port.0 gs) (in_ranges b k.port.0) (is_vacant b.entries k.port.0)
+    (false_from_ne_true (is_vacant b.entries k.port.0) (unvacant b k x found))))
+
 pub change-keeps : (b : Book) (ch : Change) → IsBook b → is_synced b.stage ≡ true → Fits b ch → IsBook (changed ch b)
 change-keeps b Keep is synced fits = is
-change-keeps b (Add e) is synced fits = keeps-add b e.state e.pair is (λ a n. both_ways (is_synced b.stage) a synced) fits.key (unserved b e.pair.endpoint fits.endpoint) fits.within fits.formed
-change-keeps b (Turn k s) is synced fits = keeps-turn b k s fits.entry is synced fits.found fits.pair
-change-keeps b (Renew k) is synced fits = keeps-turn b k state.Live fits.entry is synced fits.found fits.pair
+change-keeps b (Add e) is synced fits = keeps-add b e.state e.pair is (λ a n. both_ways (is_synced b.stage) a synced) fits.key fits.endpoint fits.side fits.within fits.formed
+change-keeps b (Turn k s) is synced fits = keeps-turn b k s fits.0.entry is synced fits.0.found (own-stays fits.0.entry.state s fits.0.own fits.1)
+change-keeps b (Renew k) is synced fits = keeps-turn b k state.Live fits.entry is synced fits.found (own-stays fits.entry.state state.Live fits.own refl)
 change-keeps b (Drop k) is synced fits = keeps-drop b k is synced
 change-keeps b (Yield q p) is synced fits = keeps-yield b q p is synced fits
-change-keeps b Want is synced fits = with-owned b b.owned true is synced is.rising is.owned (λ w. fits)
+change-keeps b Want is synced fits = with-owned b b.owned true is synced is.rising is.owned is.sides (λ w. fits)
 change-keeps b (Give g) is synced fits =
     with-owned b (without_ports (numbers_of g) b.owned) b.wants is synced (rise-filter 0 _ b.owned is.rising)
     (λ p h. is.owned p (and_parts _ (owns b p) (sym (listed-filter _ b.owned p) ∙ h)).1)
+    (give-sides b g is fits)
     is.closed
 change-keeps b (Gain g) is synced fits =
     subst IsBook (sym (ap (λ (x : Book). record x { wants = false }) (gained-is b (numbers_of g))))
-    (with-owned b (with_gained b (numbers_of g)).owned false is synced (rise-gained b (numbers_of g) is.zero is.one is.rising) (gained-within b (numbers_of g) is.owned) (λ w. cc))
+    (with-owned b (with_gained b (numbers_of g)).owned false is synced (rise-gained b (numbers_of g) is.zero is.one is.rising) (gained-within b (numbers_of g) is.owned) (gain-sides b (numbers_of g) is) (λ w. cc))
 
 -- ---- rows
 
-pub wish-keeps : (b : Book) (full : Bool) (e : Endpoint) → IsBook b → IsWellFormedEndpoint e → IsBook (after b (wish_of b full e).row)
-wish-keeps b full e is formed = at (is_synced b.stage) refl (wish-sound b full e is formed).fits
+pub unpaired : (s : Stage) → is_synced s ≡ false → is_paired s ≡ false
+unpaired Unsynced h = refl
+unpaired Paired h = cc
+unpaired Lone h = refl
+
+pub wish-keeps : (b : Book) (apart full : Bool) (e : Endpoint) → IsBook b → IsWellFormedEndpoint e → IsBook (after b (wish_of b apart full e).row)
+wish-keeps b apart full e is formed = at (is_synced b.stage) refl (wish-sound b apart full e is formed).fits
   where
-    at : (t : Bool) → is_synced b.stage ≡ t → Fits b (let w : PortRequest = cond t (wish_by b full e (entry_of b.entries e)) (wish want.NotNow quiet) in w).row.change → IsBook (changed (let w : PortRequest = cond t (wish_by b full e (entry_of b.entries e)) (wish want.NotNow quiet) in w).row.change b)
-    at true synced fits = change-keeps b (wish_by b full e (entry_of b.entries e)).row.change is synced fits
+    at : (t : Bool) → is_synced b.stage ≡ t → Fits b (let w : PortRequest = cond t (wish_by b apart full e (entry_of b.entries e)) (wish want.NotNow quiet) in w).row.change → IsBook (changed (let w : PortRequest = cond t (wish_by b apart full e (entry_of b.entries e)) (wish want.NotNow quiet) in w).row.change b)
+    at true synced fits = change-keeps b (wish_by b apart full e (entry_of b.entries e)).row.change is synced fits
     at false unsynced fits = is
 
 pub idle-keeps : (b : Book) (ask : Bool) (k : Key) → IsBook b → IsBook (after b (idle_row b ask k))
@@ -236,6 +325,15 @@ idle-keeps b ask k is = at (is_synced b.stage) refl (idle-sound b ask k is).fits
     at : (t : Bool) → is_synced b.stage ≡ t → Fits b (let r : Transition = cond t (release_row (is_lone b.stage) ask (slot_of b.entries k)) quiet in r).change → IsBook (changed (let r : Transition = cond t (release_row (is_lone b.stage) ask (slot_of b.entries k)) quiet in r).change b)
     at true synced fits = change-keeps b (release_row (is_lone b.stage) ask (slot_of b.entries k)).change is synced fits
     at false unsynced fits = is
+
+pub alone-row-keeps : (b : Book) (apart full : Bool) (k : Key) → IsBook b → IsBook (after b (alone_row b apart full k))
+alone-row-keeps b apart full k is = at (is_synced b.stage) refl (alone-sound b apart full k is).fits
+  where
+    at : (t : Bool) → is_synced b.stage ≡ t → Fits b (alone_row b apart full k).change → IsBook (after b (alone_row b apart full k))
+    at true synced fits = change-keeps b (alone_row b apart full k).change is synced fits
+    at false loads fits =
+        let still : alone_row b apart full k ≡ quiet = cond-false (is_paired b.stage) (sought_row apart full (slot_of b.entries k)) quiet (unpaired b.stage loads) in
+        subst (λ (r : Transition). IsBook (changed r.change b)) (sym still) is
 
 pub carry-keeps : (b : Book) (k : Key) → IsBook b → IsBook (after b (carry_row b k))
 carry-keeps b k is = at (is_synced b.stage) refl (carry-sound b k).fits
@@ -246,6 +344,27 @@ carry-keeps b k is = at (is_synced b.stage) refl (carry-sound b k).fits
 
 -- ---- loading
 
+-- where an endpoint has no pair, it has none of the rank of a state
+fresh-taken : (b : Book) (s : EntryState) (e : Endpoint) → entry_of b.entries e ≡ None → is_taken (rank_of s) b.entries e ≡ false
+fresh-taken b s e none = at (rank_of s)
+  where
+    at : (r : Option Rank) → is_taken r b.entries e ≡ false
+    at None = refl
+    at (Some rank) = ap is_some (none-ranked b.entries e none rank)
+
+-- a loaded pair is on its side
+loaded-side : (owned : List ℕ) (port : ℕ) → is_of_rank Second (loaded_state owned port) ≡ not (is_listed port owned)
+loaded-side owned port = at (is_listed port owned)
+  where
+    at : (t : Bool) → is_of_rank Second (let s : EntryState = cond t state.Live state.Held in s) ≡ not t
+    at true = refl
+    at false = refl
+
+-- a table without a pair has no entry on a wrong side
+none-sides : (owned : List ℕ) (es : List Entry) → none_yet es ≡ true → AreHeldElsewhere owned es
+none-sides owned [] none k x h = absurd (cc)
+none-sides owned (y ∷ ys) none k x h = cc
+
 module _ (b : Book) (is : IsBook b) (unsynced : is_synced b.stage ≡ false) where
   begin-keeps : IsBook (unsynced_after b rec.Begin)
   begin-keeps = record {
@@ -254,7 +373,8 @@ module _ (b : Book) (is : IsBook b) (unsynced : is_synced b.stage ≡ false) whe
     highest = is.highest;
     order = tt;
     keys = tt;
-    endpoints = λ k q x y h. absurd (cc);
+    endpoints = λ k q x y rank h. absurd (cc);
+    sides = λ k x h. absurd (cc);
     within = λ k x h. absurd (cc);
     formed = λ k x h. absurd (cc);
     coming = is.coming;
@@ -275,6 +395,16 @@ module _ (b : Book) (is : IsBook b) (unsynced : is_synced b.stage ≡ false) whe
           at true one two = omega (arith, one)
           at false one two = omega (arith, two)
 
+  tell-keeps : (p : Pair) → IsWellFormedPair p → IsBook (unsynced_after b (rec.Tell p))
+  tell-keeps p formed = at (b.begun && is_beside (load_of b) p) refl
+    where
+      at : (t : Bool) → (b.begun && is_beside (load_of b) p) ≡ t → IsBook (load_taken b (rec.Tell p) (let o : Option Load = cond t (Some (with_pair (load_of b) p)) None in o))
+      at true there =
+          let parts = and_parts b.begun (is_beside (load_of b) p) there in
+          let f = is-apart (load_of b) p parts.1 in
+          keeps-add b (loaded_state b.owned p.key.port.0) p is (λ a n. both_ways b.begun n parts.0) f.key f.endpoint (loaded-side b.owned p.key.port.0) f.inside formed
+      at false stale = is
+
   put-keeps : (p : Pair) → IsWellFormedPair p → IsBook (unsynced_after b (rec.Put p))
   put-keeps p formed = at (b.begun && is_new (load_of b) p) refl
     where
@@ -282,7 +412,7 @@ module _ (b : Book) (is : IsBook b) (unsynced : is_synced b.stage ≡ false) whe
       at true there =
           let parts = and_parts b.begun (is_new (load_of b) p) there in
           let f = is-fresh (load_of b) p parts.1 in
-          keeps-add b (loaded_state b.owned p.key.port.0) p is (λ a n. both_ways b.begun n parts.0) f.key (unserved b p.endpoint f.endpoint) f.inside formed
+          keeps-add b (loaded_state b.owned p.key.port.0) p is (λ a n. both_ways b.begun n parts.0) f.key (fresh-taken b (loaded_state b.owned p.key.port.0) p.endpoint f.endpoint) (loaded-side b.owned p.key.port.0) f.inside formed
       at false stale = is
 
   done-keeps : IsBook (unsynced_after b rec.Done)
@@ -301,6 +431,7 @@ module _ (b : Book) (is : IsBook b) (unsynced : is_synced b.stage ≡ false) whe
         coming = is.coming;
         rising = is.rising;
         owned = is.owned;
+        sides = is.sides;
         loaded = λ s. refl;
         bare = λ a n. absurd (cc);
         closed = λ w. refl;
@@ -327,6 +458,7 @@ module _ (b : Book) (is : IsBook b) (unsynced : is_synced b.stage ≡ false) whe
             coming = is.coming;
             rising = rise-filter 0 _ b.owned is.rising;
             owned = λ p h. is.owned p (and_parts _ (owns b p) (sym (listed-filter _ b.owned p) ∙ h)).1;
+            sides = none-sides _ b.entries (and_parts (none_yet b.entries) (names_run (load_of b) first.0 last.0) parts.1).0;
             loaded = is.loaded;
             bare = λ a n. absurd (both_ways b.begun n parts.0);
             closed = is.closed;
@@ -348,6 +480,7 @@ module _ (b : Book) (is : IsBook b) (unsynced : is_synced b.stage ≡ false) whe
   load-keeps rec.Want formed = is
   load-keeps (rec.Grant g) formed = is
   load-keeps (rec.Owner first last) formed = owner-keeps first last
+  load-keeps (rec.Tell p) formed = tell-keeps p formed
 
 pub taken-keeps : (b : Book) (rests : Bool) (r : Record) → IsBook b → IsWellFormedRecord r → IsBook (taken_book b rests r)
 taken-keeps b rests r is formed = at (is_synced b.stage) refl
@@ -394,6 +527,7 @@ revived-keeps b s rs is synced after_it formed paired = record {
   coming = formed;
   rising = is.rising;
   owned = is.owned;
+  sides = λ k x h. let w = was-there b.entries k x is.keys h in ap (is_of_rank Second) w.state ∙ woken-rank Second w.entry.state w.pair ∙ is.sides k w.entry w.found;
   loaded = λ t. is.loaded synced;
   bare = λ a n. absurd (both_ways (is_synced s) a after_it);
   closed = λ w. absurd (cc);
@@ -401,14 +535,15 @@ revived-keeps b s rs is synced after_it formed paired = record {
   unnamed = λ a n. absurd (both_ways (is_synced s) a after_it);
 }
 
-pub empty-keeps : (id : GatewayId) (zero one : PortBounds) (limit : Option ℕ) → AreBounds zero → AreBounds one → IsPort zero.highest.0 → IsPort one.highest.0 → IsBook (empty_book id zero one limit)
-empty-keeps id z o limit az ao hz ho = record {
+pub empty-keeps : (id : GatewayId) (zero one : PortBounds) (limit : Option ℕ) (alone : ℕ) → AreBounds zero → AreBounds one → IsPort zero.highest.0 → IsPort one.highest.0 → IsBook (empty_book id zero one limit alone)
+empty-keeps id z o limit alone az ao hz ho = record {
   zero = az;
   one = ao;
   highest = (hz, ho);
   order = tt;
   keys = tt;
-  endpoints = λ k q x y h. absurd (cc);
+  endpoints = λ k q x y rank h. absurd (cc);
+  sides = λ k x h. absurd (cc);
   within = λ k x h. absurd (cc);
   formed = λ k x h. absurd (cc);
   coming = tt;
@@ -424,15 +559,15 @@ empty-keeps id z o limit az ao hz ho = record {
 pub restart-keeps : (b : Book) → IsBook b → IsBook (restarted b)
 restart-keeps b is = at (is_synced b.stage) refl
   where
-    at : (t : Bool) → is_synced b.stage ≡ t → IsBook (let b2 : Book = cond t (begun_anew b) (empty_book b.id b.zero b.one b.limit) in b2)
+    at : (t : Bool) → is_synced b.stage ≡ t → IsBook (let b2 : Book = cond t (begun_anew b) (empty_book b.id b.zero b.one b.limit b.alone) in b2)
     at true synced = revived-keeps b Paired (restart_batch b) is synced refl (batch-formed b is) (λ w. refl)
-    at false unsynced = empty-keeps b.id b.zero b.one b.limit is.zero is.one is.highest.0 is.highest.1
+    at false unsynced = empty-keeps b.id b.zero b.one b.limit b.alone is.zero is.one is.highest.0 is.highest.1
 
 -- after a greater boot was heard, each entry is an agreed pair
 pub restart-agrees : (b : Book) → IsBook b → (k : Key) (x : Entry) → slot_of (restarted b).entries k ≡ Some x → (is_settled x.state ≡ true) × (is_pair x.state ≡ true)
 restart-agrees b is k x = at (is_synced b.stage)
   where
-    at : (t : Bool) → slot_of (let b2 : Book = cond t (begun_anew b) (empty_book b.id b.zero b.one b.limit) in b2).entries k ≡ Some x → (is_settled x.state ≡ true) × (is_pair x.state ≡ true)
+    at : (t : Bool) → slot_of (let b2 : Book = cond t (begun_anew b) (empty_book b.id b.zero b.one b.limit b.alone) in b2).entries k ≡ Some x → (is_settled x.state ≡ true) × (is_pair x.state ≡ true)
     at true h = let w = was-there b.entries k x is.keys h in (ap is_settled w.state ∙ woken-settled w.entry.state w.pair, ap is_pair w.state ∙ woken-pair w.entry.state w.pair)
     at false h = absurd (cc)
 
@@ -456,6 +591,7 @@ fed-keeps b records rest is comes = record {
   coming = all-rest records rest (subst (AllByRecursion IsWellFormedRecord) comes is.coming);
   rising = is.rising;
   owned = is.owned;
+  sides = is.sides;
   loaded = is.loaded;
   bare = is.bare;
   closed = is.closed;
@@ -496,14 +632,15 @@ founded-owns z o p are = range-is z p are ∙ at (in_bounds z p) (in_bounds o p)
     at false true = refl
     at false false = refl
 
-pub founded-keeps : (zero one : PortBounds) (limit : Option ℕ) → AreBounds zero → AreBounds one → IsPort zero.highest.0 → IsPort one.highest.0 → IsBook (founded_book zero one limit)
-founded-keeps z o limit az ao hz ho = record {
+pub founded-keeps : (zero one : PortBounds) (limit : Option ℕ) (alone : ℕ) → AreBounds zero → AreBounds one → IsPort zero.highest.0 → IsPort one.highest.0 → IsBook (founded_book zero one limit alone)
+founded-keeps z o limit alone az ao hz ho = record {
   zero = az;
   one = ao;
   highest = (hz, ho);
   order = tt;
   keys = tt;
-  endpoints = λ k q x y h. absurd (cc);
+  endpoints = λ k q x y rank h. absurd (cc);
+  sides = λ k x h. absurd (cc);
   within = λ k x h. absurd (cc);
   formed = λ k x h. absurd (cc);
   coming = tt;
@@ -516,6 +653,6 @@ founded-keeps z o limit az ao hz ho = record {
   unnamed = λ a n. absurd (cc);
 }
 
-pub founded-box : (zero one : PortBounds) (limit : Option ℕ) (capacity : ℕ) → AreBounds zero → box_at (founded_book zero one limit) (fresh Zero 1 capacity) [] 0 ≡ founder (λ p. in_either zero one p && in_bounds zero p)
-founded-box z o limit capacity az = same_boxes (box_at (founded_book z o limit) (fresh Zero 1 capacity) [] 0) (founder (λ p. in_either z o p && in_bounds z p))
+pub founded-box : (zero one : PortBounds) (limit : Option ℕ) (alone capacity : ℕ) → AreBounds zero → box_at (founded_book zero one limit alone) (fresh Zero 1 capacity) [] 0 ≡ founder (λ p. in_either zero one p && in_bounds zero p)
+founded-box z o limit alone capacity az = same_boxes (box_at (founded_book z o limit alone) (fresh Zero 1 capacity) [] 0) (founder (λ p. in_either z o p && in_bounds z p))
     (record { up = refl; boot = refl; synced = refl; lone = refl; peer = refl; table = λ k. refl; sent = refl; taken = refl; loading = refl; owned = λ p. founded-owns z o p az; wants = refl; named = refl; promised = refl })

@@ -245,6 +245,27 @@ know-renew now es ls u k x found rested w =
         let a = w.known k x found in
         (renewed now a.0, (life_renewed now a.1.0, life-here (life_renewed now) k es ls a.1.0 a.1.1, agrees-renewed k.protocol a.0 a.1.0 now a.1.2), accounts-renewed k.protocol a.0 now (u x.pair) rested)
 
+-- a life may begin anew at a pair that may be in use
+pub know-again : (now : ℕ) (es : List Entry) (ls : List Activity) (u : Pair → List ℕ) (k : Key) (x : Entry) → slot_of es k ≡ Some x
+    → KnowUses now es ls u → KnowUses now es (lives_with (life_renewed now) k es ls) u
+know-again now es ls u k x found w =
+    know-then now es es ls (lives_with (life_renewed now) k es ls) u (length-with (life_renewed now) k es ls w.alike)
+    (λ q y h. elim (cases_Bool (same_key k q)) [
+      | inl here ↦
+          (let both : Some x ≡ Some y = sym found ∙ ap (slot_of es) (key-eq k q here) ∙ h in
+          let one : x ≡ y = cc in
+          subst (λ (z : Key). Knows now es (lives_with (life_renewed now) k es ls) z (u y.pair)) (key-eq k q here)
+          (subst (λ (z : Entry). Knows now es (lives_with (life_renewed now) k es ls) k (u z.pair)) one anew))
+      | inr other ↦ (let a = w.known q y h in (a.0, (a.1.0, life-beside (life_renewed now) k es ls q other ∙ a.1.1, a.1.2), a.2))
+    ])
+    (λ p t no_. absurd (no_ t))
+    w
+  where
+    anew : Knows now es (lives_with (life_renewed now) k es ls) k (u x.pair)
+    anew =
+        let a = w.known k x found in
+        (renewed now a.0, (life_renewed now a.1.0, life-here (life_renewed now) k es ls a.1.0 a.1.1, agrees-renewed k.protocol a.0 a.1.0 now a.1.2), accounts-anew k.protocol a.0 now (u x.pair) a.2)
+
 -- where each life is changed, the life of each key is
 life-each : (f : Activity → Activity) (es : List Entry) (ls : List Activity) (k : Key) (life : Activity) → life_in es ls k ≡ Some life → life_in es (map f ls) k ≡ Some (f life)
 life-each f [] ls k life h = cc
@@ -298,11 +319,14 @@ know-carry since es ls u v k x p found live le more others w = record {
         subst (λ (z : List ℕ). Knows p.at es (lives_with (life_carried k.protocol p) k es ls) k z) (sym more)
         (with_packet p a.0, (life_carried k.protocol p a.1.0, life-here (life_carried k.protocol p) k es ls a.1.0 a.1.1, agrees-carried k.protocol a.0 a.1.0 p a.1.2), accounts-more k.protocol since a.0 (u x.pair) p le a.2)
 
-translating-pair : (s : EntryState) → translates s ≡ true → (is_pair s ≡ true) × (translates (woken s) ≡ true)
-translating-pair state.Pending h = cc
+pub translating-pair : (s : EntryState) → translates s ≡ true → (is_pair s ≡ true) × (translates (woken s) ≡ true)
+translating-pair (state.Pending true) h = (refl, refl)
+translating-pair (state.Pending false) h = cc
 translating-pair state.Doomed h = cc
 translating-pair state.Live h = (refl, refl)
-translating-pair state.Closing h = cc
+translating-pair (state.Closing true) h = (refl, refl)
+translating-pair (state.Closing false) h = cc
+translating-pair state.Alone h = (refl, refl)
 translating-pair state.Held h = (refl, refl)
 
 -- entries whose pairs are revived know of the same uses

@@ -4,6 +4,7 @@ mod Taking
 mod Members
 mod Moves
 mod Loads
+mod Marking
 mod Working
 mod Wishing
 mod Pairs
@@ -18,4 +19,5 @@ mod Knowing
 mod Accounting
 mod Staying
 mod Settling
+mod Serving
 pub mod Offered

@@ -93,10 +93,11 @@ numbers-back (p ∷ ps) = ap (λ z. p ∷ z) (numbers-back ps)
 -- ---- vacant ports
 
 pub slot-free : (s : EntryState) (e : Endpoint) → slot_in s e ≡ machine.Free → ⊥
-slot-free state.Pending e h = cc
+slot-free (state.Pending m) e h = cc
 slot-free state.Doomed e h = cc
 slot-free state.Live e h = cc
-slot-free state.Closing e h = cc
+slot-free (state.Closing m) e h = cc
+slot-free state.Alone e h = cc
 slot-free state.Held e h = cc
 
 pub none-at : (es : List Entry) (k : Key) → slots_of es k ≡ machine.Free → is_none (slot_of es k) ≡ true
@@ -107,10 +108,11 @@ none-at es k h = at (slot_of es k) h
     at (Some x) h = absurd (slot-free x.state x.pair.endpoint h)
 
 free-slot : (s : EntryState) (e : Endpoint) → is_free (slot_in s e) ≡ false
-free-slot state.Pending e = refl
+free-slot (state.Pending m) e = refl
 free-slot state.Doomed e = refl
 free-slot state.Live e = refl
-free-slot state.Closing e = refl
+free-slot (state.Closing m) e = refl
+free-slot state.Alone e = refl
 free-slot state.Held e = refl
 
 pub free-none : (o : Option Entry) → is_free (machine_slot o) ≡ is_none o

@@ -31,7 +31,7 @@ use Rattle.spec_binding.specs.Rows.{after, answered, as_ports, grant_row, grante
 use Rattle.spec_binding.proofs.Members.{above-none, below-highest, distinct-falling, distinct-filter, distinct-take, free-none, gained-box, gained-is, has-filter, has-listed, has-take, numbers-back, vacant-is}
 use Rattle.spec_binding.proofs.Parts.{act-step}
 use Rattle.bindings.proofs.Offered.{listed-filter}
-use Rattle.spec_binding.proofs.Taking.{IsReading, Makes, RowSteps, accept-steps, ask-steps, install-steps, no-steps, reads, refuse-steps, skip-row, yes-steps}
+use Rattle.spec_binding.proofs.Taking.{IsReading, Makes, RowSteps, accept-steps, ask-steps, install-steps, no-steps, reads, refuse-steps, skip-row, tell-steps, yes-steps}
 
 -- ---- what is granted
 
@@ -163,6 +163,7 @@ module _ (now : ℕ) (c : Book) (e : Link) (h : List Record) (n : ℕ) (letters 
     synced-steps is (rec.Accept k) rests g = accept-steps now c e h n letters words synced lone k (slot_of c.entries k) refl g
     synced-steps is (rec.Refuse k) rests g = refuse-steps now c e h n letters words synced lone k (slot_of c.entries k) refl g
     synced-steps is (rec.Ask k) rests g = ask-steps now c e h n letters words synced lone k rests (slot_of c.entries k) refl g
+    synced-steps is (rec.Tell p) rests g = tell-steps now c e h n letters words synced lone is p g
     synced-steps is (rec.Yes k) rests g = yes-steps now c e h n letters words synced lone k (slot_of c.entries k) refl g
     synced-steps is (rec.No k) rests g = no-steps now c e h n letters words synced lone k (slot_of c.entries k) refl g
     synced-steps is rec.Begin rests g = skip-row now c e h n letters words synced lone machine.Begin g tt

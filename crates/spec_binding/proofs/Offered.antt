@@ -5,7 +5,7 @@ pub use Rattle.spec_binding.proofs.Accounting.{reversed-join}
 -- The records that a datagram gives come in their turn.
 pub use Rattle.spec_binding.proofs.Comes.{turn-comes}
 -- A book stays a book after each change, row and reset.
-pub use Rattle.spec_binding.proofs.Keeping.{wish-keeps, idle-keeps, taken-keeps, empty-keeps, restart-keeps, alone-keeps, fed-keeps, founded-keeps}
+pub use Rattle.spec_binding.proofs.Keeping.{wish-keeps, idle-keeps, taken-keeps, alone-row-keeps, empty-keeps, restart-keeps, alone-keeps, fed-keeps, founded-keeps}
 -- What rows leave as it is.
 pub use Rattle.spec_binding.proofs.Leaving.{change-leaves, taken-together}
 -- Gaining ports changes only the owned ports.
@@ -19,12 +19,19 @@ pub use Rattle.spec_binding.proofs.Restarting.{restart-works}
 -- The operator's word is an act of the machine.
 pub use Rattle.spec_binding.proofs.Restarting.{word-works}
 -- A ledger that accounts for the trace does so after each call, with the notes of the call.
-pub use Rattle.spec_binding.proofs.Settling.{begun-accounts, later-accounts, foreign-accounts, fed-accounts, taken-accounts, wished-accounts, carried-accounts, restarted-accounts, alone-accounts, let-go-accounts}
+pub use Rattle.spec_binding.proofs.Settling.{begun-accounts, later-accounts, foreign-accounts, fed-accounts, taken-accounts, wished-accounts, carried-accounts, restarted-accounts, alone-accounts, let-go-accounts, go-on-accounts}
+-- After a tick at which a gateway is apart each pair translates, and none is waited for.
+pub use Rattle.spec_binding.proofs.Marking.{all-translate, none-waiting}
+-- An endpoint's pair that translates stays its pair, unless it is released.
+pub use Rattle.spec_binding.proofs.Serving.{wish-moves-none, taken-moves-none, idle-moves-none, alone-moves-none, restart-moves-none, word-moves-none}
 -- What a table has at each port after a change.
 pub use Rattle.spec_binding.proofs.Slots.{was-there}
 -- The place of a pair in the table doesn't depend on states.
 pub use Rattle.spec_binding.proofs.Staying.{turned-place}
--- A wish for a port, an idle pair at a tick, and a packet that is translated, as acts of the machine.
-pub use Rattle.spec_binding.proofs.Wishing.{chosen-says, at-key, wish-works, idle-works, carry-works}
+-- A wish for a port, an idle pair or one that is marked or told at a tick, and a packet that is translated, as acts of
+-- the machine.
+pub use Rattle.spec_binding.proofs.Wishing.{chosen-says, at-key, wish-works, idle-works, carry-works, alone-works}
 -- A record that is taken is a part of a step.
 pub use Rattle.spec_binding.proofs.Working.{record-works}
+-- where no pair of a rank has an endpoint, no entry is one
+pub use Rattle.spec_binding.proofs.Taking.{unranked}

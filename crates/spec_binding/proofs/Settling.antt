@@ -6,7 +6,7 @@ use Rattle.nat_types.specs.Same.{same, same_key, same_pair}
 use Rattle.nat_types.proofs.Offered.{key-self, same-self, pair-eq, pair-self}
 use Rattle.nat_types.specs.declared.gateways.GatewayId.{GatewayId}
 use Rattle.nat_types.specs.declared.notes.NoteKind.{NoteKind}
-use Rattle.nat_types.specs.declared.notes.NoteKind.TheVariants.{Used, Released, Retaken, Synced, Crashed, Booted}
+use Rattle.nat_types.specs.declared.notes.NoteKind.TheVariants.{Used, Released, Retaken, Alone, Synced, Crashed, Booted}
 use Rattle.nat_types.specs.declared.notes.Note.{Note}
 use Rattle.nat_types.specs.declared.pairs.EntryState.{EntryState}
 use Rattle.nat_types.specs.declared.pairs.EntryState.TheVariants as state
@@ -29,22 +29,22 @@ use Rattle.bindings.specs.Revivals.{lives_of_pairs, revived_entries}
 use Rattle.bindings.proofs.Offered.{slot-without}
 use Rattle.spec_trace.specs.Past.{Idle, IdleAt}
 use Rattle.link.specs.Link.{Link}
-use Rattle.resync.specs.Loading.{Load, is_new, loaded, loaded_state, names_run, none_yet, with_pair, with_run}
+use Rattle.resync.specs.Loading.{Load, is_beside, is_new, loaded, loaded_state, names_run, none_yet, with_pair, with_run}
 use Rattle.spec_binding.specs.declared.changes.Change.TheVariants.{Keep}
 use Rattle.spec_binding.specs.declared.changes.Transition.{Transition}
 use Rattle.spec_binding.specs.declared.changes.PortRequest.{PortRequest}
 use Rattle.spec_binding.specs.declared.changes.Want.TheVariants as want
-use Rattle.spec_binding.specs.Books.{Book, IsBook, empty_book, is_lone, is_synced, load_of}
-use Rattle.spec_binding.specs.Ledgers.{Ledger, alone_ledger, carried_ledger, ledger_after, release_all, lives_after, lives_loaded, may_ask, restarted_ledger, rests_for, taken_ledger}
+use Rattle.spec_binding.specs.Books.{Book, IsBook, empty_book, is_lone, is_paired, is_synced, load_of}
+use Rattle.spec_binding.specs.Ledgers.{Ledger, alone_ledger, carried_ledger, go_on_all, ledger_after, release_all, lives_after, lives_loaded, may_ask, restarted_ledger, rests_for, taken_ledger}
 use Rattle.spec_binding.specs.Resets.{back_in, begun_anew, restart_notes, retaken}
-use Rattle.spec_binding.specs.Rows.{after, answered, carry_row, changed, idle_row, load_taken, load_what, noted_by, quiet, release_row, released_row, row, row_of, taken_what, unsynced_after, unsynced_what, use_row, used_row, wish, wish_by, wish_of}
+use Rattle.spec_binding.specs.Rows.{after, alone_row, answered, carry_row, changed, idle_row, is_full, sought_row, load_taken, load_what, noted_by, quiet, release_row, released_row, row, row_of, taken_what, unsynced_after, unsynced_what, use_row, used_row, wish, wish_by, wish_of}
 use Rattle.spec_binding.specs.Uses.{Accounts, KnowUses, uses_after, uses_of}
 use Rattle.spec_binding.proofs.Accounting.{rested-listed, reversed-join, reversed-more, stays-accounts}
-use Rattle.spec_binding.proofs.Keeping.{idle-keeps}
+use Rattle.spec_binding.proofs.Keeping.{alone-row-keeps, idle-keeps, unpaired}
 use Rattle.spec_binding.proofs.Knowing.{WasAt, was-at, know-add, know-anew, know-as, know-carry, know-later, know-none, know-revived}
 use Rattle.spec_binding.proofs.Leaving.{change-leaves}
-use Rattle.spec_binding.proofs.Loads.{is-fresh}
-use Rattle.spec_binding.proofs.Staying.{idle-stays, row-stays, wish-stays}
+use Rattle.spec_binding.proofs.Loads.{is-apart, is-fresh}
+use Rattle.spec_binding.proofs.Staying.{alone-stays, idle-stays, row-stays, wish-stays}
 
 -- ---- beginnings, time, and the other gateway's notes
 
@@ -63,6 +63,7 @@ foreign-uses g p by at (Used noted) uses other =
     cond-false (same g by && same_pair p noted) (at ∷ uses) uses (false_from_ne_true (same g by && same_pair p noted) (λ both. both_ways (same g by) other (and_parts (same g by) (same_pair p noted) both).0))
 foreign-uses g p by at (Released noted) uses other = refl
 foreign-uses g p by at (Retaken noted) uses other = refl
+foreign-uses g p by at (Alone noted) uses other = refl
 foreign-uses g p by at Synced uses other = refl
 foreign-uses g p by at Crashed uses other = refl
 foreign-uses g p by at (Booted number) uses other = cond-false (same g by) [] uses other
@@ -102,6 +103,21 @@ module _ (now : ℕ) (l : Ledger) (h : List Note) (a : Accounts now l h) (loads 
             idle = (tt, a.idle);
           }
 
+  tell-loads : (p : Pair) → Loads (rec.Tell p) (loaded (load_of l.book) (rec.Tell p))
+  tell-loads p = at (l.book.begun && is_beside (load_of l.book) p) refl
+    where
+      at : (t : Bool) → (l.book.begun && is_beside (load_of l.book) p) ≡ t → Loads (rec.Tell p) (let o : Option Load = cond t (Some (with_pair (load_of l.book) p)) None in o)
+      at false g = a
+      at true g =
+          let free = (is-apart (load_of l.book) p (and_parts l.book.begun (is_beside (load_of l.book) p) g).1).key in
+          let e : Entry = entry_in (loaded_state l.book.owned p.key.port.0) p in
+          record {
+            uses = know-as now (put_in e l.book.entries) (insert l.lives (place_in p l.book.entries) (life_begun false now)) (uses_of l.book.id h) (uses_of l.book.id (reverse (noted_by l.book.id now (Some (Retaken p))) ++ h)) (λ q. refl)
+                (know-add now l.book.entries l.lives (uses_of l.book.id h) e false free a.uses);
+            none = λ un q. a.none loads q;
+            idle = (tt, a.idle);
+          }
+
   done-loads : Loads rec.Done (loaded (load_of l.book) rec.Done)
   done-loads = at l.book.begun
     where
@@ -133,6 +149,7 @@ module _ (now : ℕ) (l : Ledger) (h : List Note) (a : Accounts now l h) (loads 
   record-loads rec.Want = a
   record-loads (rec.Grant g) = a
   record-loads (rec.Owner first last) = owner-loads first last
+  record-loads (rec.Tell p) = tell-loads p
 
 pub taken-accounts : (now : ℕ) (l : Ledger) (h : List Note) (r : Record) → IsBook l.book → Accounts now l h → Accounts now (taken_ledger now l r) (reverse (noted_by l.book.id now (taken_what l.book (rests_for now l r) r)) ++ h)
 taken-accounts now l h r is a = at (is_synced l.book.stage) refl
@@ -149,14 +166,14 @@ taken-accounts now l h r is a = at (is_synced l.book.stage) refl
 
 -- ---- wishes and packets
 
-pub wished-accounts : (now : ℕ) (l : Ledger) (h : List Note) (full : Bool) (e : Endpoint) → IsBook l.book → Accounts now l h
-    → Accounts now (ledger_after now (wish_of l.book full e).row.change l) (reverse (noted_by l.book.id now (wish_of l.book full e).row.what) ++ h)
-wished-accounts now l h full e is a = at (is_synced l.book.stage) refl
+pub wished-accounts : (now : ℕ) (l : Ledger) (h : List Note) (apart full : Bool) (e : Endpoint) → IsBook l.book → Accounts now l h
+    → Accounts now (ledger_after now (wish_of l.book apart full e).row.change l) (reverse (noted_by l.book.id now (wish_of l.book apart full e).row.what) ++ h)
+wished-accounts now l h apart full e is a = at (is_synced l.book.stage) refl
   where
-    at : (t : Bool) → is_synced l.book.stage ≡ t → Accounts now (ledger_after now (wish_of l.book full e).row.change l) (reverse (noted_by l.book.id now (wish_of l.book full e).row.what) ++ h)
-    at true synced = stays-accounts now l h (wish_of l.book full e).row synced (wish-stays now l h is a full e)
+    at : (t : Bool) → is_synced l.book.stage ≡ t → Accounts now (ledger_after now (wish_of l.book apart full e).row.change l) (reverse (noted_by l.book.id now (wish_of l.book apart full e).row.what) ++ h)
+    at true synced = stays-accounts now l h (wish_of l.book apart full e).row synced (wish-stays now l h is a apart full e)
     at false loads =
-        let still : wish_of l.book full e ≡ wish want.NotNow quiet = cond-false (is_synced l.book.stage) (wish_by l.book full e (entry_of l.book.entries e)) (wish want.NotNow quiet) loads in
+        let still : wish_of l.book apart full e ≡ wish want.NotNow quiet = cond-false (is_synced l.book.stage) (wish_by l.book apart full e (entry_of l.book.entries e)) (wish want.NotNow quiet) loads in
         subst (λ (w : PortRequest). Accounts now (ledger_after now w.row.change l) (reverse (noted_by l.book.id now w.row.what) ++ h)) (sym still) a
 
 module _ (l : Ledger) (h : List Note) (k : Key) (p : Packet) (a : Accounts p.at l h) where
@@ -176,10 +193,13 @@ module _ (l : Ledger) (h : List Note) (k : Key) (p : Packet) (a : Accounts p.at 
   }
 
   used-by : (x : Entry) (s : EntryState) → x.state ≡ s → is_synced l.book.stage ≡ true → slot_of l.book.entries k ≡ Some x → Carried (used_row x.pair s)
-  used-by x state.Pending at synced found = a
+  used-by x (state.Pending true) at synced found = used x synced found (ap translates at)
+  used-by x (state.Pending false) at synced found = a
   used-by x state.Doomed at synced found = a
   used-by x state.Live at synced found = used x synced found (ap translates at)
-  used-by x state.Closing at synced found = a
+  used-by x (state.Closing true) at synced found = used x synced found (ap translates at)
+  used-by x (state.Closing false) at synced found = a
+  used-by x state.Alone at synced found = used x synced found (ap translates at)
   used-by x state.Held at synced found = used x synced found (ap translates at)
 
   pub carried-accounts : Accounts p.at (carried_ledger k p l) (reverse (noted_by l.book.id p.at (carry_row l.book k).what) ++ h)
@@ -213,7 +233,7 @@ pub restarted-accounts : (now : ℕ) (l : Ledger) (h : List Note) → IsBook l.b
 restarted-accounts now l h is a = at (is_synced l.book.stage) refl
   where
     at : (t : Bool) → is_synced l.book.stage ≡ t → Accounts now (record l {
-      book = cond t (begun_anew l.book) (empty_book l.book.id l.book.zero l.book.one l.book.limit);
+      book = cond t (begun_anew l.book) (empty_book l.book.id l.book.zero l.book.one l.book.limit l.book.alone);
       lives = cond t (lives_of_pairs l.book.entries l.lives) [];
     }) (reverse (let ns : List Note = cond t (retaken l.book.id now (back_in l.book.entries)) [] in ns) ++ h)
     at true synced = record { uses = revived-uses now l h is a; none = λ un. absurd (cc); idle = retaken-idle l.book.id now (back_in l.book.entries) h a.idle }
@@ -232,12 +252,13 @@ dropped-was b k q y there = elim (cases_Bool (same_key k q)) [
 ]
 
 released-was : (b : Book) (lone ask : Bool) (x : Entry) (s : EntryState) (q : Key) (y : Entry) → slot_of (changed (released_row lone ask x.pair s).change b).entries q ≡ Some y → WasAt b.entries q y
-released-was b lone ask x state.Pending q y there = record { entry = y; found = there; pair = refl }
+released-was b lone ask x (state.Pending m) q y there = record { entry = y; found = there; pair = refl }
 released-was b lone ask x state.Doomed q y there = record { entry = y; found = there; pair = refl }
 released-was b true ask x state.Live q y there = dropped-was b x.pair.key q y there
-released-was b false true x state.Live q y there = was-at b.entries x.pair.key state.Closing q y there
+released-was b false true x state.Live q y there = was-at b.entries x.pair.key (state.Closing false) q y there
 released-was b false false x state.Live q y there = record { entry = y; found = there; pair = refl }
-released-was b lone ask x state.Closing q y there = record { entry = y; found = there; pair = refl }
+released-was b lone ask x (state.Closing m) q y there = record { entry = y; found = there; pair = refl }
+released-was b lone ask x state.Alone q y there = dropped-was b x.pair.key q y there
 released-was b true ask x state.Held q y there = dropped-was b x.pair.key q y there
 released-was b false ask x state.Held q y there = record { entry = y; found = there; pair = refl }
 
@@ -251,12 +272,13 @@ idle-was b ask k q y = at (is_synced b.stage) (slot_of b.entries k)
 
 -- a release adds no use
 released-uses : (lone ask : Bool) (x : Pair) (s : EntryState) (g i : GatewayId) (now : ℕ) (h : List Note) (p : Pair) → uses_of g (reverse (noted_by i now (released_row lone ask x s).what) ++ h) p ≡ uses_of g h p
-released-uses lone ask x state.Pending g i now h p = refl
+released-uses lone ask x (state.Pending m) g i now h p = refl
 released-uses lone ask x state.Doomed g i now h p = refl
 released-uses true ask x state.Live g i now h p = refl
 released-uses false true x state.Live g i now h p = refl
 released-uses false false x state.Live g i now h p = refl
-released-uses lone ask x state.Closing g i now h p = refl
+released-uses lone ask x (state.Closing m) g i now h p = refl
+released-uses lone ask x state.Alone g i now h p = refl
 released-uses true ask x state.Held g i now h p = refl
 released-uses false ask x state.Held g i now h p = refl
 
@@ -286,20 +308,44 @@ let-go-rested : (now : ℕ) (keys : List Key) (l : Ledger) (e : Link) (h : List 
     → Accounts now (release_all now keys l e).ledger (reverse (release_all now keys l e).notes ++ h)
 let-go-rested now [] l e h is a rest = a
 let-go-rested now (k ∷ ks) l e h is a rest =
-    let line = idle_row l.book (may_ask now e) k in
+    let line = idle_row l.book (may_ask now l.book e) k in
     let l2 = ledger_after now line.change l in
     let e2 = answered e line.answer in
     let h2 = reverse (noted_by l.book.id now line.what) ++ h in
-    let here = idle-accounts now l h (may_ask now e) k is a (λ x found. rest k x (or_left (same_key k k) (is_among k ks) (key-self k)) found) in
+    let here = idle-accounts now l h (may_ask now l.book e) k is a (λ x found. rest k x (or_left (same_key k k) (is_among k ks) (key-self k)) found) in
     let beside = change-leaves l.book line.change in
     let left : AllRest now ks l2 h2 = λ q y among found.
-    let was = idle-was l.book (may_ask now e) k q y found in
+    let was = idle-was l.book (may_ask now l.book e) k q y found in
     let before = rest q was.entry (or_right (same_key k q) (is_among q ks) among) was.found in
     subst (λ (z : List ℕ). HaveRested (least_rest q.protocol) now z)
-    (sym (ap (λ (g : GatewayId). uses_of g h2 y.pair) beside.id ∙ idle-uses l.book (may_ask now e) k l.book.id l.book.id now h y.pair ∙ ap (uses_of l.book.id h) (sym was.pair))) before in
+    (sym (ap (λ (g : GatewayId). uses_of g h2 y.pair) beside.id ∙ idle-uses l.book (may_ask now l.book e) k l.book.id l.book.id now h y.pair ∙ ap (uses_of l.book.id h) (sym was.pair))) before in
     subst (λ (z : List Note). Accounts now (release_all now ks l2 e2).ledger z) (sym (reversed-join (noted_by l.book.id now line.what) (release_all now ks l2 e2).notes h))
-    (let-go-rested now ks l2 e2 h2 (idle-keeps l.book (may_ask now e) k is) here left)
+    (let-go-rested now ks l2 e2 h2 (idle-keeps l.book (may_ask now l.book e) k is) here left)
 
 pub let-go-accounts : (now : ℕ) (l : Ledger) (e : Link) (h : List Note) → IsBook l.book → Accounts now l h
     → Accounts now (release_all now (idle_keys_in (is_lone l.book.stage) now l.book.entries l.lives) l e).ledger (reverse (release_all now (idle_keys_in (is_lone l.book.stage) now l.book.entries l.lives) l e).notes ++ h)
 let-go-accounts now l e h is a = let-go-rested now (idle_keys_in (is_lone l.book.stage) now l.book.entries l.lives) l e h is a (λ k x among found. rested-listed now l h k x is a found among)
+
+-- ---- going on alone, at a tick
+
+alone-accounts-at : (now : ℕ) (l : Ledger) (h : List Note) (apart full : Bool) (k : Key) → IsBook l.book → Accounts now l h
+    → Accounts now (ledger_after now (alone_row l.book apart full k).change l) (reverse (noted_by l.book.id now (alone_row l.book apart full k).what) ++ h)
+alone-accounts-at now l h apart full k is a = at (is_synced l.book.stage) refl
+  where
+    at : (t : Bool) → is_synced l.book.stage ≡ t → Accounts now (ledger_after now (alone_row l.book apart full k).change l) (reverse (noted_by l.book.id now (alone_row l.book apart full k).what) ++ h)
+    at true synced = stays-accounts now l h (alone_row l.book apart full k) synced (alone-stays now l h is a apart full k)
+    at false loads =
+        let still : alone_row l.book apart full k ≡ quiet = cond-false (is_paired l.book.stage) (sought_row apart full (slot_of l.book.entries k)) quiet (unpaired l.book.stage loads) in
+        subst (λ (r : Transition). Accounts now (ledger_after now r.change l) (reverse (noted_by l.book.id now r.what) ++ h)) (sym still) a
+
+pub go-on-accounts : (now : ℕ) (apart : Bool) (keys : List Key) (l : Ledger) (e : Link) (h : List Note) → IsBook l.book → Accounts now l h
+    → Accounts now (go_on_all apart now keys l e).ledger (reverse (go_on_all apart now keys l e).notes ++ h)
+go-on-accounts now apart [] l e h is a = a
+go-on-accounts now apart (k ∷ ks) l e h is a =
+    let line = alone_row l.book apart (is_full e) k in
+    let l2 = ledger_after now line.change l in
+    let e2 = answered e line.answer in
+    let h2 = reverse (noted_by l.book.id now line.what) ++ h in
+    let here = alone-accounts-at now l h apart (is_full e) k is a in
+    subst (λ (z : List Note). Accounts now (go_on_all apart now ks l2 e2).ledger z) (sym (reversed-join (noted_by l.book.id now line.what) (go_on_all apart now ks l2 e2).notes h))
+    (go-on-accounts now apart ks l2 e2 h2 (alone-row-keeps l.book apart (is_full e) k is) here)

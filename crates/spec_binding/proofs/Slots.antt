@@ -8,8 +8,9 @@ use Rattle.nat_types.specs.declared.pairs.Endpoint.{Endpoint}
 use Rattle.nat_types.specs.declared.pairs.Key.{Key}
 use Rattle.nat_types.specs.Same.{same_key}
 use Rattle.nat_types.proofs.Offered.{key-eq}
+use Rattle.slots.specs.declared.ranks.Rank.{Rank}
 use Rattle.bindings.specs.declared.entries.Entry.{Entry}
-use Rattle.bindings.specs.Entries.{slot_of, entry_in, is_pair, has_key, set_at, HasDistinctKeys}
+use Rattle.bindings.specs.Entries.{slot_of, entry_in, is_pair, has_key, set_at, HasDistinctKeys, is_of_rank}
 use Rattle.bindings.specs.Lists.{put_in, without, with_state, IsOneToOne}
 use Rattle.bindings.specs.Revivals.{woken, woken_entry, revived_entries}
 use Rattle.bindings.proofs.Offered.{slot-put, keys-filter, keys-map, none-map, find-filter_none, slot-without, slot-with_state}
@@ -48,17 +49,19 @@ pub keys-revived : (es : List Entry) → HasDistinctKeys es → HasDistinctKeys 
 keys-revived es d = keys-map woken_entry (filter (λ e. is_pair e.state) es) (λ x. refl) (keys-filter (λ e. is_pair e.state) es d)
 
 woken-slot : (s : EntryState) (e : Endpoint) → is_pair s ≡ true → slot_in (woken s) e ≡ revived (slot_in s e)
-woken-slot state.Pending e h = refl
+woken-slot (state.Pending m) e h = refl
 woken-slot state.Doomed e h = cc
 woken-slot state.Live e h = refl
-woken-slot state.Closing e h = refl
+woken-slot (state.Closing m) e h = refl
+woken-slot state.Alone e h = refl
 woken-slot state.Held e h = refl
 
 gone-slot : (s : EntryState) (e : Endpoint) → is_pair s ≡ false → revived (slot_in s e) ≡ machine.Free
-gone-slot state.Pending e h = cc
+gone-slot (state.Pending m) e h = cc
 gone-slot state.Doomed e h = refl
 gone-slot state.Live e h = cc
-gone-slot state.Closing e h = cc
+gone-slot (state.Closing m) e h = cc
+gone-slot state.Alone e h = cc
 gone-slot state.Held e h = cc
 
 pub slots-revived : (es : List Entry) (q : Key) → HasDistinctKeys es → slots_of (revived_entries es) q ≡ revived (slots_of es q)
@@ -104,31 +107,33 @@ was-there (x ∷ xs) q y d h = at (is_pair x.state) (same_key x.pair.key q) refl
 
 -- a slot holds an endpoint exactly where its state is one of a pair
 pub state-held : (s : EntryState) (e x : Endpoint) → machine.held (slot_in s e) ≡ Some x → (is_pair s ≡ true) × (e ≡ x)
-state-held state.Pending e x t = (refl, cc)
+state-held (state.Pending m) e x t = (refl, cc)
 state-held state.Doomed e x t = cc
 state-held state.Live e x t = (refl, cc)
-state-held state.Closing e x t = (refl, cc)
+state-held (state.Closing m) e x t = (refl, cc)
+state-held state.Alone e x t = (refl, cc)
 state-held state.Held e x t = (refl, cc)
 
 pub held-state : (s : EntryState) (e : Endpoint) → is_pair s ≡ true → machine.held (slot_in s e) ≡ Some e
-held-state state.Pending e t = refl
+held-state (state.Pending m) e t = refl
 held-state state.Doomed e t = cc
 held-state state.Live e t = refl
-held-state state.Closing e t = refl
+held-state (state.Closing m) e t = refl
+held-state state.Alone e t = refl
 held-state state.Held e t = refl
 
--- where no other key serves the endpoint that a key now serves, no two keys serve one endpoint
+-- where no other key has a pair of the rank that serves the endpoint that a key now serves, no two keys have
 pub one-set : (es es2 : List Entry) (k : Key) (o : Option Entry) → IsOneToOne es → ((q : Key) → slot_of es2 q ≡ set_at (slot_of es) k o q)
-    → ((x y : Entry) (q : Key) → o ≡ Some x → is_pair x.state ≡ true → slot_of es q ≡ Some y → is_pair y.state ≡ true → x.pair.endpoint ≡ y.pair.endpoint → k ≡ q) → IsOneToOne es2
-one-set es es2 k o one is new a b x y hx hy px py same =
+    → ((x y : Entry) (q : Key) (rank : Rank) → o ≡ Some x → is_of_rank rank x.state ≡ true → slot_of es q ≡ Some y → is_of_rank rank y.state ≡ true → x.pair.endpoint ≡ y.pair.endpoint → k ≡ q) → IsOneToOne es2
+one-set es es2 k o one is new a b x y rank hx hy px py same =
     elim (cases_Bool (same_key k a)) [
       | inl ea ↦ elim (cases_Bool (same_key k b)) [
         | inl eb ↦ sym (key-eq k a ea) ∙ key-eq k b eb
-        | inr nb ↦ sym (key-eq k a ea) ∙ new x y b (here a x ea hx) px (there b y nb hy) py same
+        | inr nb ↦ sym (key-eq k a ea) ∙ new x y b rank (here a x ea hx) px (there b y nb hy) py same
       ]
       | inr na ↦ elim (cases_Bool (same_key k b)) [
-        | inl eb ↦ sym (new y x a (here b y eb hy) py (there a x na hx) px (sym same)) ∙ key-eq k b eb
-        | inr nb ↦ one a b x y (there a x na hx) (there b y nb hy) px py same
+        | inl eb ↦ sym (new y x a rank (here b y eb hy) py (there a x na hx) px (sym same)) ∙ key-eq k b eb
+        | inr nb ↦ one a b x y rank (there a x na hx) (there b y nb hy) px py same
       ]
     ]
   where
@@ -138,8 +143,20 @@ one-set es es2 k o one is new a b x y hx hy px py same =
     there : (q : Key) (z : Entry) → same_key k q ≡ false → slot_of es2 q ≡ Some z → slot_of es q ≡ Some z
     there q z h x = sym (is q ∙ cond-false (same_key k q) o (slot_of es q) h) ∙ x
 
+-- a pair that is woken stays on its side
+pub woken-rank : (rank : Rank) (s : EntryState) → is_pair s ≡ true → is_of_rank rank (woken s) ≡ is_of_rank rank s
+woken-rank rank (state.Pending m) h = refl
+woken-rank rank state.Doomed h = cc
+woken-rank rank state.Live h = refl
+woken-rank rank (state.Closing m) h = refl
+woken-rank rank state.Alone h = refl
+woken-rank rank state.Held h = refl
+
 pub one-revived : (es : List Entry) → HasDistinctKeys es → IsOneToOne es → IsOneToOne (revived_entries es)
-one-revived es d one k q x y hx hy px py same =
+one-revived es d one k q x y rank hx hy px py same =
     let a = was-there es k x d hx in
     let b = was-there es q y d hy in
-    one k q a.entry b.entry a.found b.found a.pair b.pair (ap (λ p. p.endpoint) (sym a.same) ∙ same ∙ ap (λ p. p.endpoint) b.same)
+    one k q a.entry b.entry rank a.found b.found
+    (sym (woken-rank rank a.entry.state a.pair) ∙ sym (ap (is_of_rank rank) a.state) ∙ px)
+    (sym (woken-rank rank b.entry.state b.pair) ∙ sym (ap (is_of_rank rank) b.state) ∙ py)
+    (ap (λ p. p.endpoint) (sym a.same) ∙ same ∙ ap (λ p. p.endpoint) b.same)

@@ -1,5 +1,5 @@
 -- A wish for a port, an idle pair at a tick, and a packet that is translated, as acts of the machine.
-use Rattle.std.proofs.Common.{◌≡◌, ℕ, zero, suc, ◌+◌, ◌-◌, Bool, true, false, cond, not, ◌&&◌, Option, Some, None, List, [], ◌∷◌, ◌++◌, reverse, refl, sym, ap, ◌∙◌}
+use Rattle.std.proofs.Common.{◌≡◌, ℕ, zero, suc, ◌+◌, ◌-◌, Bool, true, false, cond, not, ◌&&◌, Option, Some, None, inl, inr, ◌⊎◌, List, [], ◌∷◌, ◌++◌, reverse, refl, sym, ap, ◌∙◌}
 use Rattle.std.proofs.lemmas.Bool.{and_parts, not-true}
 use Rattle.std.proofs.lemmas.List.{map-append, append-nil}
 use Rattle.addresses.specs.declared.transport.Parity.{Parity}
@@ -24,14 +24,16 @@ use Rattle.spec_pair.specs.Box.{Letter}
 use Rattle.spec_pair.specs.Mapped.{slot_in, machine_record}
 use Rattle.spec_pair.specs.Step.{IsStep}
 use Rattle.spec_pair.specs.Talk as machine
-use Rattle.spec_binding.specs.declared.changes.Change.TheVariants.{Keep, Add, Drop}
+use Rattle.spec_binding.specs.declared.changes.Change.TheVariants.{Keep, Add, Drop, Turn}
 use Rattle.spec_binding.specs.declared.changes.Change.TheVariants as change_of
 use Rattle.spec_binding.specs.declared.changes.Transition.{Transition}
 use Rattle.spec_binding.specs.declared.changes.PortRequest.{PortRequest}
 use Rattle.spec_binding.specs.declared.changes.Want.TheVariants as want
-use Rattle.spec_binding.specs.Books.{Book, is_synced, is_lone, owns}
+use Rattle.spec_binding.specs.declared.setups.Stage.{Stage}
+use Rattle.spec_binding.specs.declared.setups.Stage.TheVariants.{Unsynced, Paired, Lone}
+use Rattle.spec_binding.specs.Books.{Book, is_synced, is_lone, is_paired, owns}
 use Rattle.spec_binding.specs.Machine.{box_at, machine_records, ranges_of, slots_of, Stands, Works}
-use Rattle.spec_binding.specs.Rows.{after, answered, asking, carry_row, idle_row, is_at_limit, known_wish, may_want, new_pair, new_wish, none_row, noted_by, port_for, proposal, pushed_by, quiet, release_row, released_row, row, use_row, used_row, wish, wish_by, wish_of}
+use Rattle.spec_binding.specs.Rows.{after, alone_row, answered, asking, marked_row, paired_wish, sought_row, telling_row, carry_row, idle_row, is_at_limit, known_wish, may_want, new_pair, new_wish, none_row, noted_by, port_for, proposal, pushed_by, quiet, release_row, released_row, row, use_row, used_row, wish, wish_by, wish_of}
 use Rattle.spec_binding.proofs.Parts.{act-step}
 use Rattle.spec_binding.proofs.Slots.{slots-at, slots-drop, slots-none, slots-put, slots-turn}
 use Rattle.spec_binding.proofs.Taking.{is-unbound}
@@ -103,9 +105,25 @@ module _ (now : ℕ) (c : Book) (e : Link) (h : List Record) (n : ℕ) (letters 
       act-step (ranges_of c) c.id now (box_at c e h n) (box_at (after c r) (with_pushed e (rec.Install p)) (h ++ rec.Install p ∷ []) n) (Do (machine.Propose p.key p.endpoint)) letters words []
       (synced, lone, (may.owned, slots-none c.entries p.key may.free, may.new), refl)
       (λ m i. absurd i, tt)
-      (record { up = refl; boot = refl; synced = refl; lone = refl; peer = refl; table = slots-put (entry_in state.Pending p) c.entries may.free; sent = map-append machine_record h (rec.Install p ∷ []); taken = refl; loading = refl; owned = λ p. refl; wants = refl; named = refl; promised = refl })
+      (record { up = refl; boot = refl; synced = refl; lone = refl; peer = refl; table = slots-put (entry_in (state.Pending false) p) c.entries may.free; sent = map-append machine_record h (rec.Install p ∷ []); taken = refl; loading = refl; owned = λ p. refl; wants = refl; named = refl; promised = refl })
       refl
       (λ m. refl)
+
+  -- a pair that is made alone
+  alone-new : is_synced c.stage ≡ true → is_lone c.stage ≡ false → (p : Pair) → MayBegin p → WishSteps (row (Add (entry_in state.Alone p)) None (Some (happens.Alone p)))
+  alone-new synced lone p may =
+      let r : Transition = row (Add (entry_in state.Alone p)) None (Some (happens.Alone p)) in
+      act-step (ranges_of c) c.id now (box_at c e h n) (box_at (after c r) e (h ++ []) n) (Do (machine.MakeAlone p.key p.endpoint)) letters words (noted_by c.id now r.what)
+      (synced, lone, (may.owned, slots-none c.entries p.key may.free, may.new), refl)
+      (λ m i. absurd i, tt)
+      (record { up = refl; boot = refl; synced = refl; lone = refl; peer = refl; table = slots-put (entry_in state.Alone p) c.entries may.free; sent = map-append machine_record h []; taken = refl; loading = refl; owned = λ p. refl; wants = refl; named = refl; promised = refl })
+      refl
+      (λ m. refl)
+
+  paired-steps : is_synced c.stage ≡ true → is_lone c.stage ≡ false → (apart full : Bool) (p : Pair) → MayBegin p → WishSteps (paired_wish apart full p).row
+  paired-steps synced lone true full p may = alone-new synced lone p may
+  paired-steps synced lone false true p may = rest-row
+  paired-steps synced lone false false p may = propose-row synced lone p may
 
   -- pushing a Want where none is open is an act of the machine
   want-row : is_synced c.stage ≡ true → is_lone c.stage ≡ false → c.wants ≡ false → WishSteps (row change_of.Want (Some rec.Want) None)
@@ -117,10 +135,13 @@ module _ (now : ℕ) (c : Book) (e : Link) (h : List Record) (n : ℕ) (letters 
       refl (λ m. refl)
 
   known-steps : (p : Pair) (s : EntryState) → WishSteps (known_wish p s).row
-  known-steps p state.Pending = rest-row
+  known-steps p (state.Pending true) = rest-row
+  known-steps p (state.Pending false) = rest-row
   known-steps p state.Doomed = rest-row
   known-steps p state.Live = rest-row
-  known-steps p state.Closing = rest-row
+  known-steps p (state.Closing true) = rest-row
+  known-steps p (state.Closing false) = rest-row
+  known-steps p state.Alone = rest-row
   known-steps p state.Held = rest-row
 
   none-steps : is_synced c.stage ≡ true → (full : Bool) → WishSteps (none_row c full)
@@ -133,34 +154,33 @@ module _ (now : ℕ) (c : Book) (e : Link) (h : List Record) (n : ℕ) (letters 
           want-row synced (not-true (is_lone c.stage) one.0) (not-true c.wants two.0)
       at false may = rest-row
 
-  new-steps : is_synced c.stage ≡ true → (full : Bool) (x : Endpoint) → entry_of c.entries x ≡ None → (o : Option Port) → port_for c x ≡ o → WishSteps (new_wish c full x o).row
-  new-steps synced full x none None found = none-steps synced full
-  new-steps synced full x none (Some port) found = at (is_lone c.stage) refl full
+  new-steps : is_synced c.stage ≡ true → (apart full : Bool) (x : Endpoint) → entry_of c.entries x ≡ None → (o : Option Port) → port_for c x ≡ o → WishSteps (new_wish c apart full x o).row
+  new-steps synced apart full x none None found = none-steps synced full
+  new-steps synced apart full x none (Some port) found = at (is_lone c.stage) refl
     where
       begins : MayBegin (new_pair x port)
       begins = let says = chosen-says c x port found in record { owned = says.owned; free = says.free; new = is-unbound c.entries x none }
 
-      at : (lone : Bool) → is_lone c.stage ≡ lone → (full : Bool) → WishSteps (let w : PortRequest = cond lone (wish (want.Port port) (row (Add (entry_in state.Live (new_pair x port))) None (Some (happens.Retaken (new_pair x port))))) (cond full (wish want.NotNow quiet) (wish want.Wait (proposal (new_pair x port)))) in w).row
-      at true lone full = lone-row synced lone (new_pair x port) begins
-      at false lone true = rest-row
-      at false lone false = propose-row synced lone (new_pair x port) begins
+      at : (lone : Bool) → is_lone c.stage ≡ lone → WishSteps (let w : PortRequest = cond lone (wish (want.Port port) (row (Add (entry_in state.Live (new_pair x port))) None (Some (happens.Retaken (new_pair x port))))) (paired_wish apart full (new_pair x port)) in w).row
+      at true lone = lone-row synced lone (new_pair x port) begins
+      at false lone = paired-steps synced lone apart full (new_pair x port) begins
 
-  by-steps : is_synced c.stage ≡ true → (full : Bool) (x : Endpoint) (o : Option Entry) → entry_of c.entries x ≡ o → WishSteps (wish_by c full x o).row
-  by-steps synced full x (Some y) found = known-steps y.pair y.state
-  by-steps synced full x None found = unknown (is_at_limit c x.address)
+  by-steps : is_synced c.stage ≡ true → (apart full : Bool) (x : Endpoint) (o : Option Entry) → entry_of c.entries x ≡ o → WishSteps (wish_by c apart full x o).row
+  by-steps synced apart full x (Some y) found = known-steps y.pair y.state
+  by-steps synced apart full x None found = unknown (is_at_limit c x.address)
     where
-      unknown : (t : Bool) → WishSteps (let w : PortRequest = cond t (wish want.HostLimit quiet) (new_wish c full x (port_for c x)) in w).row
+      unknown : (t : Bool) → WishSteps (let w : PortRequest = cond t (wish want.HostLimit quiet) (new_wish c apart full x (port_for c x)) in w).row
       unknown true = rest-row
-      unknown false = new-steps synced full x found (port_for c x) refl
+      unknown false = new-steps synced apart full x found (port_for c x) refl
 
-  pub wish-steps : (full : Bool) (x : Endpoint) → WishSteps (wish_of c full x).row
-  wish-steps full x = at (is_synced c.stage) refl
+  pub wish-steps : (apart full : Bool) (x : Endpoint) → WishSteps (wish_of c apart full x).row
+  wish-steps apart full x = at (is_synced c.stage) refl
     where
-      at : (b : Bool) → is_synced c.stage ≡ b → WishSteps (let w : PortRequest = cond b (wish_by c full x (entry_of c.entries x)) (wish want.NotNow quiet) in w).row
-      at true synced = by-steps synced full x (entry_of c.entries x) refl
+      at : (b : Bool) → is_synced c.stage ≡ b → WishSteps (let w : PortRequest = cond b (wish_by c apart full x (entry_of c.entries x)) (wish want.NotNow quiet) in w).row
+      at true synced = by-steps synced apart full x (entry_of c.entries x) refl
       at false unsynced = rest-row
 
-  -- ---- an idle pair, and a pair that is used
+  -- ---- an idle pair, a pair that is marked or told, and a pair that is used
 
   drops : (x : Entry) → is_synced c.stage ≡ true → is_lone c.stage ≡ true → machine.translated (slots_of c.entries x.pair.key) ≡ Some x.pair.endpoint → WishSteps (row (Drop x.pair.key) None (Some (happens.Released x.pair)))
   drops x synced lone there =
@@ -175,7 +195,7 @@ module _ (now : ℕ) (c : Book) (e : Link) (h : List Record) (n : ℕ) (letters 
       let r : Transition = asking x.pair in
       act-step (ranges_of c) c.id now (box_at c e h n) (box_at (after c r) (with_pushed e (rec.Ask x.pair.key)) (h ++ rec.Ask x.pair.key ∷ []) n) (Do (machine.Close x.pair.key x.pair.endpoint)) letters words (noted_by c.id now r.what)
       (synced, lone, live, refl) (λ m i. absurd i, tt)
-      (record { up = refl; boot = refl; synced = refl; lone = refl; peer = refl; table = slots-turn x.pair.key state.Closing c.entries x found; sent = map-append machine_record h (rec.Ask x.pair.key ∷ []); taken = refl; loading = refl; owned = λ p. refl; wants = refl; named = refl; promised = refl })
+      (record { up = refl; boot = refl; synced = refl; lone = refl; peer = refl; table = slots-turn x.pair.key (state.Closing false) c.entries x found; sent = map-append machine_record h (rec.Ask x.pair.key ∷ []); taken = refl; loading = refl; owned = λ p. refl; wants = refl; named = refl; promised = refl })
       refl (λ m. refl)
 
   uses : (x : Entry) → is_synced c.stage ≡ true → machine.translated (slots_of c.entries x.pair.key) ≡ Some x.pair.endpoint → WishSteps (row Keep None (Some (happens.Used x.pair)))
@@ -193,11 +213,24 @@ module _ (now : ℕ) (c : Book) (e : Link) (h : List Record) (n : ℕ) (letters 
           (record { up = refl; boot = refl; synced = refl; lone = refl; peer = refl; table = λ k. refl; sent = map-append machine_record h []; taken = refl; loading = refl; owned = λ p. refl; wants = refl; named = refl; promised = refl })
           refl (λ m. refl)
 
+  -- a pair of which the peer has nothing is dropped, by a lone gateway or another
+  drops-alone : (x : Entry) → is_synced c.stage ≡ true → slot_of c.entries x.pair.key ≡ Some x → slots_of c.entries x.pair.key ≡ machine.Alone x.pair.endpoint → WishSteps (row (Drop x.pair.key) None (Some (happens.Released x.pair)))
+  drops-alone x synced found there = at (is_lone c.stage) refl
+    where
+      at : (b : Bool) → is_lone c.stage ≡ b → WishSteps (row (Drop x.pair.key) None (Some (happens.Released x.pair)))
+      at true lone = drops x synced lone (ap machine.translated there)
+      at false lone =
+          let r : Transition = row (Drop x.pair.key) None (Some (happens.Released x.pair)) in
+          act-step (ranges_of c) c.id now (box_at c e h n) (box_at (after c r) e (h ++ []) n) (Do (machine.DropAlone x.pair.key x.pair.endpoint)) letters words (noted_by c.id now r.what)
+          (synced, lone, there, refl) (λ m i. absurd i, tt)
+          (record { up = refl; boot = refl; synced = refl; lone = refl; peer = refl; table = slots-drop x.pair.key c.entries; sent = map-append machine_record h []; taken = refl; loading = refl; owned = λ p. refl; wants = refl; named = refl; promised = refl })
+          refl (λ m. refl)
+
   slot : (x : Entry) (s : EntryState) → x.state ≡ s → slot_of c.entries x.pair.key ≡ Some x → slots_of c.entries x.pair.key ≡ slot_in s x.pair.endpoint
   slot x s is found = slots-at c.entries x.pair.key x found ∙ ap (λ (z : EntryState). slot_in z x.pair.endpoint) is
 
   released-steps : (ask : Bool) (x : Entry) (s : EntryState) → is_synced c.stage ≡ true → x.state ≡ s → slot_of c.entries x.pair.key ≡ Some x → WishSteps (released_row (is_lone c.stage) ask x.pair s)
-  released-steps ask x state.Pending synced is found = rest-row
+  released-steps ask x (state.Pending m) synced is found = rest-row
   released-steps ask x state.Doomed synced is found = rest-row
   released-steps ask x state.Live synced is found = at (is_lone c.stage) refl ask
     where
@@ -205,7 +238,8 @@ module _ (now : ℕ) (c : Book) (e : Link) (h : List Record) (n : ℕ) (letters 
       at true lone ask = drops x synced lone (ap machine.translated (slot x state.Live is found))
       at false lone true = asks x synced lone found (slot x state.Live is found)
       at false lone false = rest-row
-  released-steps ask x state.Closing synced is found = rest-row
+  released-steps ask x (state.Closing m) synced is found = rest-row
+  released-steps ask x state.Alone synced is found = drops-alone x synced found (slot x state.Alone is found)
   released-steps ask x state.Held synced is found = at (is_lone c.stage) refl
     where
       at : (b : Bool) → is_lone c.stage ≡ b → WishSteps (let r : Transition = cond b (row (Drop x.pair.key) None (Some (happens.Released x.pair))) quiet in r)
@@ -221,10 +255,13 @@ module _ (now : ℕ) (c : Book) (e : Link) (h : List Record) (n : ℕ) (letters 
       at false synced o found = rest-row
 
   used-steps : (x : Entry) (s : EntryState) → is_synced c.stage ≡ true → x.state ≡ s → slot_of c.entries x.pair.key ≡ Some x → WishSteps (used_row x.pair s)
-  used-steps x state.Pending synced is found = rest-row
+  used-steps x (state.Pending true) synced is found = uses x synced (ap machine.translated (slot x (state.Pending true) is found))
+  used-steps x (state.Pending false) synced is found = rest-row
   used-steps x state.Doomed synced is found = rest-row
   used-steps x state.Live synced is found = uses x synced (ap machine.translated (slot x state.Live is found))
-  used-steps x state.Closing synced is found = rest-row
+  used-steps x (state.Closing true) synced is found = uses x synced (ap machine.translated (slot x (state.Closing true) is found))
+  used-steps x (state.Closing false) synced is found = rest-row
+  used-steps x state.Alone synced is found = uses x synced (ap machine.translated (slot x state.Alone is found))
   used-steps x state.Held synced is found = uses x synced (ap machine.translated (slot x state.Held is found))
 
   carry-steps : (k : Key) → WishSteps (carry_row c k)
@@ -235,16 +272,75 @@ module _ (now : ℕ) (c : Book) (e : Link) (h : List Record) (n : ℕ) (letters 
       at true synced (Some x) found = used-steps x x.state synced refl (at-key c.entries k x found)
       at false synced o found = rest-row
 
+  -- a pair is marked: it goes on though an answer is awaited
+  marks : (x : Entry) (s : EntryState) → is_synced c.stage ≡ true → is_lone c.stage ≡ false → slot_of c.entries x.pair.key ≡ Some x
+      → ((slots_of c.entries x.pair.key ≡ machine.Pending false x.pair.endpoint) ⊎ (slots_of c.entries x.pair.key ≡ machine.Closing false x.pair.endpoint))
+      → slot_in s x.pair.endpoint ≡ machine.mark (slots_of c.entries x.pair.key)
+      → (ended : Option Endpoint) → WishSteps (record (row (Turn x.pair.key s) None (Some (happens.Alone x.pair))) { ended = ended })
+  marks x s synced lone found there marked ended =
+      let r : Transition = row (Turn x.pair.key s) None (Some (happens.Alone x.pair)) in
+      act-step (ranges_of c) c.id now (box_at c e h n) (box_at (after c r) e (h ++ []) n) (Do (machine.Mark x.pair.key x.pair.endpoint)) letters words (noted_by c.id now r.what)
+      (synced, lone, there, refl) (λ m i. absurd i, tt)
+      (record { up = refl; boot = refl; synced = refl; lone = refl; peer = refl; table = λ q. slots-turn x.pair.key s c.entries x found q ∙ ap (λ (z : machine.Slot). machine.set_at (slots_of c.entries) x.pair.key z q) marked; sent = map-append machine_record h []; taken = refl; loading = refl; owned = λ p. refl; wants = refl; named = refl; promised = refl })
+      refl (λ m. refl)
+
+  -- the peer is told of a pair
+  tells : (x : Entry) → is_synced c.stage ≡ true → is_lone c.stage ≡ false → slot_of c.entries x.pair.key ≡ Some x → slots_of c.entries x.pair.key ≡ machine.Alone x.pair.endpoint → WishSteps (row (Turn x.pair.key (state.Pending true)) (Some (rec.Tell x.pair)) None)
+  tells x synced lone found there =
+      let r : Transition = row (Turn x.pair.key (state.Pending true)) (Some (rec.Tell x.pair)) None in
+      act-step (ranges_of c) c.id now (box_at c e h n) (box_at (after c r) (with_pushed e (rec.Tell x.pair)) (h ++ rec.Tell x.pair ∷ []) n) (Do (machine.Report x.pair.key x.pair.endpoint)) letters words []
+      (synced, lone, there, refl) (λ m i. absurd i, tt)
+      (record { up = refl; boot = refl; synced = refl; lone = refl; peer = refl; table = slots-turn x.pair.key (state.Pending true) c.entries x found; sent = map-append machine_record h (rec.Tell x.pair ∷ []); taken = refl; loading = refl; owned = λ p. refl; wants = refl; named = refl; promised = refl })
+      refl (λ m. refl)
+
+  marked-steps : (x : Entry) (s : EntryState) → is_synced c.stage ≡ true → is_lone c.stage ≡ false → x.state ≡ s → slot_of c.entries x.pair.key ≡ Some x → WishSteps (marked_row x.pair s)
+  marked-steps x (state.Pending true) synced lone is found = rest-row
+  marked-steps x (state.Pending false) synced lone is found =
+      let there = slot x (state.Pending false) is found in marks x (state.Pending true) synced lone found (inl there) (sym (ap machine.mark there)) (Some x.pair.endpoint)
+  marked-steps x state.Doomed synced lone is found = rest-row
+  marked-steps x state.Live synced lone is found = rest-row
+  marked-steps x (state.Closing true) synced lone is found = rest-row
+  marked-steps x (state.Closing false) synced lone is found =
+      let there = slot x (state.Closing false) is found in marks x (state.Closing true) synced lone found (inr there) (sym (ap machine.mark there)) None
+  marked-steps x state.Alone synced lone is found = rest-row
+  marked-steps x state.Held synced lone is found = rest-row
+
+  telling-steps : (full : Bool) (x : Entry) (s : EntryState) → is_synced c.stage ≡ true → is_lone c.stage ≡ false → x.state ≡ s → slot_of c.entries x.pair.key ≡ Some x → WishSteps (telling_row full x.pair s)
+  telling-steps full x (state.Pending m) synced lone is found = rest-row
+  telling-steps full x state.Doomed synced lone is found = rest-row
+  telling-steps full x state.Live synced lone is found = rest-row
+  telling-steps full x (state.Closing m) synced lone is found = rest-row
+  telling-steps true x state.Alone synced lone is found = rest-row
+  telling-steps false x state.Alone synced lone is found = tells x synced lone found (slot x state.Alone is found)
+  telling-steps full x state.Held synced lone is found = rest-row
+
+  paired-stage : (s : Stage) → is_paired s ≡ true → (is_synced s ≡ true) × (is_lone s ≡ false)
+  paired-stage Unsynced h = cc
+  paired-stage Paired h = (refl, refl)
+  paired-stage Lone h = cc
+
+  alone-steps : (apart full : Bool) (k : Key) → WishSteps (alone_row c apart full k)
+  alone-steps apart full k = at (is_paired c.stage) refl apart (slot_of c.entries k) refl
+    where
+      at : (b : Bool) → is_paired c.stage ≡ b → (apart : Bool) (o : Option Entry) → slot_of c.entries k ≡ o → WishSteps (let r : Transition = cond b (sought_row apart full o) quiet in r)
+      at true paired apart None found = rest-row
+      at true paired true (Some x) found = let parts = paired-stage c.stage paired in marked-steps x x.state parts.0 parts.1 refl (at-key c.entries k x found)
+      at true paired false (Some x) found = let parts = paired-stage c.stage paired in telling-steps full x x.state parts.0 parts.1 refl (at-key c.entries k x found)
+      at false paired apart o found = rest-row
+
 row-works : (now : ℕ) (b : Book) (e : Link) (n : ℕ) (h : List Record) (r : Transition) → Stands b e h → WishSteps now b e h n [] [] r → Works now [] [] b e n (after b r) (answered e r.answer) n (noted_by b.id now r.what) h
 row-works now b e n h r stands step =
     let keeps = changed-keeps r.change b in
     record { house = keeps.house; history = h ++ pushed_by r.answer; agrees = stands-answer b (after b r) e h r.answer keeps stands; step = step }
 
-pub wish-works : (now : ℕ) (b : Book) (e : Link) (n : ℕ) (h : List Record) (full : Bool) (x : Endpoint) → Stands b e h → Works now [] [] b e n (after b (wish_of b full x).row) (answered e (wish_of b full x).row.answer) n (noted_by b.id now (wish_of b full x).row.what) h
-wish-works now b e n h full x stands = row-works now b e n h (wish_of b full x).row stands (wish-steps now b e h n [] [] full x)
+pub wish-works : (now : ℕ) (b : Book) (e : Link) (n : ℕ) (h : List Record) (apart full : Bool) (x : Endpoint) → Stands b e h → Works now [] [] b e n (after b (wish_of b apart full x).row) (answered e (wish_of b apart full x).row.answer) n (noted_by b.id now (wish_of b apart full x).row.what) h
+wish-works now b e n h apart full x stands = row-works now b e n h (wish_of b apart full x).row stands (wish-steps now b e h n [] [] apart full x)
 
 pub idle-works : (now : ℕ) (b : Book) (e : Link) (n : ℕ) (h : List Record) (ask : Bool) (k : Key) → Stands b e h → Works now [] [] b e n (after b (idle_row b ask k)) (answered e (idle_row b ask k).answer) n (noted_by b.id now (idle_row b ask k).what) h
 idle-works now b e n h ask k stands = row-works now b e n h (idle_row b ask k) stands (idle-steps now b e h n [] [] ask k)
 
 pub carry-works : (now : ℕ) (b : Book) (e : Link) (n : ℕ) (h : List Record) (k : Key) → Stands b e h → Works now [] [] b e n (after b (carry_row b k)) (answered e (carry_row b k).answer) n (noted_by b.id now (carry_row b k).what) h
 carry-works now b e n h k stands = row-works now b e n h (carry_row b k) stands (carry-steps now b e h n [] [] k)
+
+pub alone-works : (now : ℕ) (b : Book) (e : Link) (n : ℕ) (h : List Record) (apart full : Bool) (k : Key) → Stands b e h → Works now [] [] b e n (after b (alone_row b apart full k)) (answered e (alone_row b apart full k).answer) n (noted_by b.id now (alone_row b apart full k).what) h
+alone-works now b e n h apart full k stands = row-works now b e n h (alone_row b apart full k) stands (alone-steps now b e h n [] [] apart full k)

@@ -1,5 +1,5 @@
 -- The book: what a gateway knows for the binding protocol.
-use Rattle.std.specs.Prelude.{◌≡◌, ℕ, Bool, true, false, IsTrue, List, [], ◌∷◌, Option, Some, ◌+◌, ◌-◌}
+use Rattle.std.specs.Prelude.{◌≡◌, ℕ, Bool, true, false, not, ◌&&◌, ◌==◌, nat_le, IsTrue, List, [], ◌∷◌, Option, Some, ◌+◌, ◌-◌}
 use Rattle.nat_types.specs.declared.gateways.GatewayId.{GatewayId}
 use Rattle.nat_types.specs.declared.pairs.Key.{Key}
 use Rattle.nat_types.specs.declared.records.Record.{Record}
@@ -13,19 +13,22 @@ use Rattle.std.specs.List.{AllByRecursion, range_with_len}
 use Rattle.nat_types.specs.Granted.{IsPort}
 use Rattle.nat_types.specs.declared.gateways.GatewayId.TheVariants.{Zero}
 use Rattle.link.specs.Grammar.{IsWellFormedPair, IsWellFormedRecord}
+use Rattle.link.specs.Link.{Link}
+use Rattle.resync.specs.Batch.{AreHeldElsewhere}
 use Rattle.resync.specs.Loading.{Load}
 use Rattle.spec_binding.specs.declared.setups.Stage.{Stage}
 use Rattle.spec_binding.specs.declared.setups.Stage.TheVariants.{Unsynced, Paired, Lone}
 
--- The book of a gateway: who it is, the ranges of both gateways, the most pairs that one inside address may have, its
--- stage, whether it has taken Begin and not yet Done, the last port that an Owner named, its entries, the ports that it
--- owns (while it loads, the ports that it is to own), whether it has a Want open, and the records of a promised batch
--- that aren't fed to the link yet.
+-- The book of a gateway: who it is, the ranges of both gateways, the most pairs that one inside address may have, after
+-- how many centiseconds without an answer of the peer it is apart (0: never), its stage, whether it has taken Begin and
+-- not yet Done, the last port that an Owner named, its entries, the ports that it owns (while it loads, the ports that it
+-- is to own), whether it has a Want open, and the records of a promised batch that aren't fed to the link yet.
 pub record Book : Type 0 where
   pub id : GatewayId
   pub zero : PortBounds
   pub one : PortBounds
   pub limit : Option ℕ
+  pub alone : ℕ
   pub stage : Stage
   pub begun : Bool
   pub named : ℕ
@@ -46,6 +49,16 @@ is_lone Unsynced = false
 is_lone Paired = false
 is_lone Lone = true
 
+-- whether a gateway in this stage is synced and not lone, so that it and the peer have to agree
+abbrev pub is_paired : Stage → Bool
+is_paired Unsynced = false
+is_paired Paired = true
+is_paired Lone = false
+
+-- whether the gateway is apart at time `now`: it is synced and not lone, and the peer hasn't answered for `alone` cs
+abbrev pub is_apart : Book → Link → ℕ → Bool
+is_apart b e now = is_paired b.stage && (not (b.alone == 0) && nat_le b.alone (now - e.answered))
+
 -- whether a list of records has any
 abbrev pub is_any : List Record → Bool
 is_any [] = false
@@ -64,12 +77,13 @@ abbrev pub owns : Book → ℕ → Bool
 owns b port = is_listed port b.owned
 
 -- the book of a gateway without a table
-abbrev pub empty_book : GatewayId → PortBounds → PortBounds → Option ℕ → Book
-empty_book id zero one limit = record {
+abbrev pub empty_book : GatewayId → PortBounds → PortBounds → Option ℕ → ℕ → Book
+empty_book id zero one limit alone = record {
   id = id;
   zero = zero;
   one = one;
   limit = limit;
+  alone = alone;
   stage = Unsynced;
   begun = false;
   named = 0;
@@ -84,8 +98,8 @@ abbrev pub ports_of : PortBounds → List ℕ
 ports_of range = range_with_len range.lowest.0 (range.highest.0 + 1 - range.lowest.0)
 
 -- the book of gateway 0 as it is founded: lone, with the ports of range zero
-abbrev pub founded_book : PortBounds → PortBounds → Option ℕ → Book
-founded_book zero one limit = record (empty_book Zero zero one limit) { stage = Lone; owned = ports_of zero }
+abbrev pub founded_book : PortBounds → PortBounds → Option ℕ → ℕ → Book
+founded_book zero one limit alone = record (empty_book Zero zero one limit alone) { stage = Lone; owned = ports_of zero }
 
 -- the table that is being loaded, as a part of the book
 abbrev pub load_of : Book → Load
@@ -108,6 +122,8 @@ pub record IsBook (b : Book) : Type 0 where
   pub coming : AllByRecursion IsWellFormedRecord b.coming
   pub rising : AreRising b.owned
   pub owned : (port : ℕ) → owns b port ≡ true → IsTrue (in_ranges b port)
+  -- an entry is Held exactly where the gateway doesn't own its port
+  pub sides : AreHeldElsewhere b.owned b.entries
   -- a synced gateway isn't loading; an unsynced one that has not taken Begin has nothing
   pub loaded : is_synced b.stage ≡ true → b.begun ≡ false
   pub bare : is_synced b.stage ≡ false → b.begun ≡ false → (b.entries ≡ []) × (b.owned ≡ [])

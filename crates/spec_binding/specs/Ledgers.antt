@@ -1,9 +1,9 @@
 -- The ledger: a book with the life of each of its pairs, and what each call makes of both. The life of a pair is what
 -- the pair carried since its entry began.
 use Rattle.std.specs.Prelude.{ℕ, ◌-◌, Bool, true, false, not, is_some, nat_le, ◌&&◌, ◌||◌, List, [], ◌∷◌, ◌++◌, map, Option, Some, None, if◌then◌else◌}
-use Rattle.std.specs.List.{insert}
+use Rattle.std.specs.List.{filter, insert}
 use Rattle.nat_types.specs.declared.pairs.EntryState.{EntryState}
-use Rattle.nat_types.specs.declared.pairs.EntryState.TheVariants.{Pending, Doomed, Live, Closing, Held}
+use Rattle.nat_types.specs.declared.pairs.EntryState.TheVariants.{Pending, Doomed, Live, Closing, Alone, Held}
 use Rattle.nat_types.specs.declared.notes.Note.{Note}
 use Rattle.nat_types.specs.declared.pairs.Key.{Key}
 use Rattle.nat_types.specs.declared.records.Record.{Record}
@@ -13,15 +13,16 @@ use Rattle.activity.specs.declared.packets.Packet.{Packet}
 use Rattle.activity.specs.Lives.{Activity, life_begun, life_carried, life_renewed}
 use Rattle.slots.specs.declared.hashers.Hashers.{Hashers}
 use Rattle.bindings.specs.declared.entries.Entry.{Entry}
+use Rattle.bindings.specs.Entries.{is_alone, waits}
 use Rattle.bindings.specs.Lists.{place_in}
 use Rattle.bindings.specs.Lives.{lives_with, lives_without, rests_at, is_unused_at}
 use Rattle.bindings.specs.Revivals.{lives_of_pairs}
 use Rattle.resync.specs.Loading.{Load, loaded, lives_taken}
 use Rattle.spec_binding.specs.declared.changes.Change.{Change}
 use Rattle.spec_binding.specs.declared.changes.Change.TheVariants.{Keep, Add, Turn, Renew, Drop, Yield, Want, Give, Gain}
-use Rattle.spec_binding.specs.Books.{Book, is_synced, load_of}
+use Rattle.spec_binding.specs.Books.{Book, is_apart, is_synced, load_of}
 use Rattle.spec_binding.specs.Resets.{restarted, put_alone}
-use Rattle.spec_binding.specs.Rows.{answered, carry_row, changed, idle_row, is_full, noted_by, row_of, taken_book}
+use Rattle.spec_binding.specs.Rows.{alone_row, answered, carry_row, changed, idle_row, is_full, noted_by, row_of, taken_book}
 
 -- The ledger of a gateway: its book, the life of each entry, in the order of the entries, and the values by which their
 -- table hashes, which nothing changes.
@@ -32,10 +33,11 @@ pub record Ledger : Type 0 where
 
 -- whether an entry in this state is the peer's pair
 abbrev pub is_held : EntryState → Bool
-is_held Pending = false
+is_held (Pending marked) = false
 is_held Doomed = false
 is_held Live = false
-is_held Closing = false
+is_held (Closing marked) = false
+is_held Alone = false
 is_held Held = true
 
 -- the lives after a change: a new entry gets a new life, a No (Renew) begins one anew, and a removed entry's life goes
@@ -55,7 +57,7 @@ lives_after now (Gain g) es ls = ls
 abbrev pub ledger_after : ℕ → Change → Ledger → Ledger
 ledger_after now c l = record l { book = changed c l.book; lives = lives_after now c l.book.entries l.lives }
 
--- whether the pair of an Ask is idle, or came by Install and carried nothing since
+-- whether the pair of an Ask is idle, or came by Install or Tell and carried nothing since
 abbrev pub rests_for : ℕ → Ledger → Record → Bool
 rests_for now l (Ask k) = rests_at l.book.entries l.lives k now || is_unused_at l.book.entries l.lives k
 rests_for now l r = false
@@ -100,9 +102,13 @@ abbrev pub is_heard : Option ℕ → ℕ → Bool
 is_heard None now = false
 is_heard (Some last) now = nat_le (now - last) 300
 
--- whether an idle pair's end may be asked for: the peer was heard lately, and the link isn't full
-abbrev pub may_ask : ℕ → Link → Bool
-may_ask now e = is_heard e.heard now && not (is_full e)
+-- whether the peer was heard lately, and the link isn't full
+abbrev pub is_reached : ℕ → Link → Bool
+is_reached now e = is_heard e.heard now && not (is_full e)
+
+-- whether an idle pair's end may be asked for: the gateway isn't apart, and reaches the peer
+abbrev pub may_ask : ℕ → Book → Link → Bool
+may_ask now b e = not (is_apart b e now) && is_reached now e
 
 -- the result of letting idle pairs go: a ledger, its end of the link, and the notes made
 pub record LetGo : Type 0 where
@@ -114,6 +120,30 @@ pub record LetGo : Type 0 where
 abbrev pub release_all : ℕ → List Key → Ledger → Link → LetGo
 release_all now [] l e = record { ledger = l; link = e; notes = [] }
 release_all now (k ∷ ks) l e =
-    let row = idle_row l.book (may_ask now e) k in
+    let row = idle_row l.book (may_ask now l.book e) k in
     let rest = release_all now ks (ledger_after now row.change l) (answered e row.answer) in
+    record rest { notes = noted_by l.book.id now row.what ++ rest.notes }
+
+-- ---- going on alone, at a tick
+
+-- the keys of the entries whose state passes, in the order of the list
+abbrev pub keys_in : (EntryState → Bool) → List Entry → List Key
+keys_in test es = map (λ x. x.pair.key) (filter (λ x. test x.state) es)
+
+-- whether a tick seeks an entry in this state: a gateway that is apart marks what waits, and another one tells the peer of
+-- what was made alone
+abbrev pub is_sought : Bool → EntryState → Bool
+is_sought true s = waits s
+is_sought false s = is_alone s
+
+-- the keys of the entries that a tick seeks
+abbrev pub sought_keys : Bool → List Entry → List Key
+sought_keys apart es = keys_in (is_sought apart) es
+
+-- the entries of these keys are marked, or told of, one after another, each after the ones before
+abbrev pub go_on_all : Bool → ℕ → List Key → Ledger → Link → LetGo
+go_on_all apart now [] l e = record { ledger = l; link = e; notes = [] }
+go_on_all apart now (k ∷ ks) l e =
+    let row = alone_row l.book apart (is_full e) k in
+    let rest = go_on_all apart now ks (ledger_after now row.change l) (answered e row.answer) in
     record rest { notes = noted_by l.book.id now row.what ++ rest.notes }

@@ -2,6 +2,7 @@ pub mod Books
 pub mod Rows
 pub mod WellFormed
 pub mod Resets
+pub mod Serving
 pub mod Machine
 pub mod Ledgers
 pub mod Waits

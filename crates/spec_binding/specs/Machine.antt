@@ -79,6 +79,7 @@ pub record IsSameHouse (b b2 : Book) : Type 0 where
   pub zero : b2.zero ≡ b.zero
   pub one : b2.one ≡ b.one
   pub limit : b2.limit ≡ b.limit
+  pub alone : b2.alone ≡ b.alone
 
 -- A part of a step, from book `b` and end `e`, where `h` was pushed and `n` records of the peer are taken, to book
 -- `b2`, end `e2` and `n2`. There is a list of records with which `e2` agrees, and acts of the machine that make exactly

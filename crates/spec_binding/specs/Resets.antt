@@ -13,7 +13,7 @@ use Rattle.resync.specs.Batch.{batch_of}
 use Rattle.spec_binding.specs.declared.setups.Stage.TheVariants.{Paired, Lone}
 use Rattle.spec_binding.specs.Books.{Book, is_synced, empty_book}
 
--- the pairs that translate again after a reset
+-- the pairs that become Live by a reset: those that waited for an answer, marked or not, and those made alone
 abbrev pub back_in : List Entry → List Pair
 back_in es = pairs_in comes_back es
 
@@ -21,8 +21,8 @@ back_in es = pairs_in comes_back es
 abbrev pub retaken : GatewayId → ℕ → List Pair → List Note
 retaken i now ps = map (λ p. record { by = i; at = now; what = Retaken p }) ps
 
--- the book after a reset: pairs that were proposed or asked to be closed translate, proposals given up are removed, and
--- no Want is open
+-- the book after a reset: pairs that were proposed, asked to be closed or made alone are Live, proposals given up are
+-- removed, and no Want is open
 abbrev pub revived : Book → Book
 revived b = record b { entries = revived_entries b.entries; wants = false; coming = [] }
 
@@ -39,7 +39,7 @@ abbrev pub restarted : Book → Book
 restarted b =
     if is_synced b.stage
     then begun_anew b
-    else empty_book b.id b.zero b.one b.limit
+    else empty_book b.id b.zero b.one b.limit b.alone
 
 -- the notes made when a greater boot of the peer is heard
 abbrev pub restart_notes : Book → ℕ → List Note

@@ -11,17 +11,18 @@ use Rattle.nat_types.specs.declared.gateways.GatewayId.{GatewayId}
 use Rattle.nat_types.specs.declared.gateways.GatewayId.TheVariants.{One}
 use Rattle.nat_types.specs.declared.notes.NoteKind.{NoteKind}
 use Rattle.nat_types.specs.declared.notes.NoteKind.TheVariants.{Used, Released, Retaken, Synced}
+use Rattle.nat_types.specs.declared.notes.NoteKind.TheVariants as kinds
 use Rattle.nat_types.specs.declared.notes.Note.{Note}
 use Rattle.nat_types.specs.declared.pairs.Endpoint.{Endpoint}
 use Rattle.nat_types.specs.declared.pairs.EntryState.{EntryState}
-use Rattle.nat_types.specs.declared.pairs.EntryState.TheVariants.{Pending, Doomed, Live, Closing, Held}
+use Rattle.nat_types.specs.declared.pairs.EntryState.TheVariants.{Pending, Doomed, Live, Closing, Alone, Held}
 use Rattle.nat_types.specs.declared.pairs.Key.{Key}
 use Rattle.nat_types.specs.declared.pairs.Pair.{Pair}
 use Rattle.nat_types.specs.declared.records.Record.{Record}
 use Rattle.nat_types.specs.declared.records.Record.TheVariants as record_of
-use Rattle.nat_types.specs.declared.records.Record.TheVariants.{Install, Accept, Refuse, Ask, Yes, No, Begin, Put, Done, Grant, Owner}
+use Rattle.nat_types.specs.declared.records.Record.TheVariants.{Install, Accept, Refuse, Ask, Yes, No, Begin, Put, Done, Grant, Owner, Tell}
 use Rattle.bindings.specs.declared.entries.Entry.{Entry}
-use Rattle.bindings.specs.Entries.{slot_of, entry_of, entry_in, pairs_of}
+use Rattle.bindings.specs.Entries.{slot_of, entry_of, held_entry_of, entry_in, pairs_of}
 use Rattle.bindings.specs.Lists.{put_in, with_state, without}
 use Rattle.bindings.specs.Ports.{chosen_port, is_vacant, is_spare, lowest_of, highest_of}
 use Rattle.bindings.specs.Runs.{own_in}
@@ -37,7 +38,7 @@ use Rattle.spec_binding.specs.declared.changes.Transition.{Transition}
 use Rattle.spec_binding.specs.declared.changes.Want as want
 use Rattle.spec_binding.specs.declared.changes.Want.{Want}
 use Rattle.spec_binding.specs.declared.changes.PortRequest.{PortRequest}
-use Rattle.spec_binding.specs.Books.{Book, is_synced, is_lone, is_promised, in_ranges, owns, load_of, with_load}
+use Rattle.spec_binding.specs.Books.{Book, is_synced, is_lone, is_paired, is_promised, in_ranges, owns, load_of, with_load}
 
 -- a row with this change, answer and note, by which no endpoint's wait ends
 abbrev pub row : Change → Option Record → Option NoteKind → Transition
@@ -55,41 +56,60 @@ quiet = row Keep None None
 abbrev pub answering : Record → Transition
 answering answer = row Keep (Some answer) None
 
--- ---- Install, Accept, Refuse
+-- ---- Install, Tell, Accept, Refuse
 
 -- whether the port is the sender's, or nobody's: it is in the ranges, and this gateway doesn't own it
 abbrev pub is_theirs : Book → ℕ → Bool
 is_theirs b port = in_ranges b port && not (owns b port)
 
--- whether an own proposal gives way to the peer's for the same endpoint: gateway 1's does
+-- whether an own pair gives way to the peer's proposal for the same endpoint: gateway 1's own proposal does, where it
+-- isn't marked
 abbrev pub gives_way : GatewayId → EntryState → Bool
-gives_way i Pending = same i One
+gives_way i (Pending true) = false
+gives_way i (Pending false) = same i One
 gives_way i Doomed = false
 gives_way i Live = false
-gives_way i Closing = false
+gives_way i (Closing marked) = false
+gives_way i Alone = false
 gives_way i Held = false
 
--- the row of an Install on a free port of the peer's, by the own entry of its endpoint
+-- the row by which the peer's pair is taken and accepted
+abbrev pub taking : Pair → Transition
+taking p = row (Add (entry_in Held p)) (Some (Accept p.key)) (Some (Retaken p))
+
+-- the row of an Install that may be taken, by the own pair of its endpoint
 abbrev pub proposed_row : Book → Pair → Option Entry → Transition
-proposed_row b p None = row (Add (entry_in Held p)) (Some (Accept p.key)) (Some (Retaken p))
+proposed_row b p None = taking p
 proposed_row b p (Some x) =
     if gives_way b.id x.state
     then ending p.endpoint (row (Yield x.pair.key p) (Some (Accept p.key)) (Some (Retaken p)))
     else answering (Refuse p.key)
 
+-- whether a pair of the peer's may be taken: its key is the sender's and has no entry, and its endpoint has no Held pair
+abbrev pub is_takeable : Book → Pair → Bool
+is_takeable b p =
+    is_theirs b p.key.port.0
+    && (is_none (slot_of b.entries p.key) && is_none (held_entry_of b.entries p.endpoint))
+
 -- the row of an Install
 abbrev pub install_row : Book → Pair → Transition
 install_row b p =
-    if is_theirs b p.key.port.0 && is_none (slot_of b.entries p.key)
+    if is_takeable b p
     then proposed_row b p (entry_of b.entries p.endpoint)
     else answering (Refuse p.key)
 
+-- the row of a Tell, whatever own pair its endpoint has
+abbrev pub told_row : Book → Pair → Transition
+told_row b p = (if is_takeable b p then taking p else answering (Refuse p.key))
+
 -- the row of an Accept, by the state of the entry at its key
 abbrev pub accepted_row : Pair → EntryState → Transition
-accepted_row p Pending = ending p.endpoint (row (Turn p.key Live) None (Some (Retaken p)))
+accepted_row p (Pending true) = row (Turn p.key Live) None (Some (Retaken p))
+accepted_row p (Pending false) = ending p.endpoint (row (Turn p.key Live) None (Some (Retaken p)))
 accepted_row p Doomed = quiet
 accepted_row p Live = quiet
-accepted_row p Closing = quiet
+accepted_row p (Closing marked) = quiet
+accepted_row p Alone = quiet
 accepted_row p Held = quiet
 
 -- the row of an Accept, by the entry at its key
@@ -97,12 +117,14 @@ abbrev pub accept_row : Option Entry → Transition
 accept_row None = quiet
 accept_row (Some x) = accepted_row x.pair x.state
 
--- the row of a Refuse, by the state of the entry at its key
+-- the row of a Refuse, by the state of the entry at its key: a marked pair goes on, and the peer has nothing of it
 abbrev pub refused_row : Pair → EntryState → Transition
-refused_row p Pending = ending p.endpoint (row (Drop p.key) None None)
+refused_row p (Pending true) = row (Turn p.key Alone) None None
+refused_row p (Pending false) = ending p.endpoint (row (Drop p.key) None None)
 refused_row p Doomed = row (Drop p.key) None None
 refused_row p Live = quiet
-refused_row p Closing = quiet
+refused_row p (Closing marked) = quiet
+refused_row p Alone = quiet
 refused_row p Held = quiet
 
 -- the row of a Refuse, by the entry at its key
@@ -112,13 +134,14 @@ refuse_row (Some x) = refused_row x.pair x.state
 
 -- ---- Ask, Yes, No
 
--- the row of an Ask, by the state of the entry at its key; `rests` says that the pair is idle, or came by Install and
--- was never used here since
+-- the row of an Ask, by the state of the entry at its key; `rests` says that the pair is idle, or came by Install or
+-- Tell and was never used here since
 abbrev pub asked_row : Pair → Bool → EntryState → Transition
-asked_row p rests Pending = answering (Yes p.key)
+asked_row p rests (Pending marked) = answering (Yes p.key)
 asked_row p rests Doomed = answering (Yes p.key)
 asked_row p rests Live = answering (Yes p.key)
-asked_row p rests Closing = answering (Yes p.key)
+asked_row p rests (Closing marked) = answering (Yes p.key)
+asked_row p rests Alone = answering (Yes p.key)
 asked_row p rests Held =
     if rests
     then row (Drop p.key) (Some (Yes p.key)) (Some (Released p))
@@ -129,12 +152,14 @@ abbrev pub ask_row : Key → Bool → Option Entry → Transition
 ask_row k rests None = answering (Yes k)
 ask_row k rests (Some x) = asked_row x.pair rests x.state
 
--- the row of a Yes, by the state of the entry at its key
+-- the row of a Yes, by the state of the entry at its key: a marked pair goes on, and the peer has nothing of it
 abbrev pub left_row : Pair → EntryState → Transition
-left_row p Pending = quiet
+left_row p (Pending marked) = quiet
 left_row p Doomed = quiet
 left_row p Live = quiet
-left_row p Closing = row (Drop p.key) None None
+left_row p (Closing true) = row (Turn p.key Alone) None None
+left_row p (Closing false) = row (Drop p.key) None None
+left_row p Alone = quiet
 left_row p Held = quiet
 
 -- the row of a Yes, by the entry at its key
@@ -144,10 +169,11 @@ yes_row (Some x) = left_row x.pair x.state
 
 -- the row of a No, by the state of the entry at its key
 abbrev pub stayed_row : Pair → EntryState → Transition
-stayed_row p Pending = quiet
+stayed_row p (Pending marked) = quiet
 stayed_row p Doomed = quiet
 stayed_row p Live = quiet
-stayed_row p Closing = row (Renew p.key) None (Some (Retaken p))
+stayed_row p (Closing marked) = row (Renew p.key) None (Some (Retaken p))
+stayed_row p Alone = quiet
 stayed_row p Held = quiet
 
 -- the row of a No, by the entry at its key
@@ -210,6 +236,7 @@ synced_row b rests Done = quiet
 synced_row b rests record_of.Want = want_row b
 synced_row b rests (Grant g) = grant_row b g
 synced_row b rests (Owner first last) = quiet
+synced_row b rests (Tell p) = told_row b p
 
 -- the row of a record at a synced gateway; while its batch is promised, a record changes nothing
 abbrev pub row_of : Book → Bool → Record → Transition
@@ -223,10 +250,13 @@ wish answer row = record { answer = answer; row = row }
 
 -- the wish of a packet whose endpoint has an entry, by its state
 abbrev pub known_wish : Pair → EntryState → PortRequest
-known_wish p Pending = wish want.TheVariants.Wait quiet
+known_wish p (Pending true) = wish (want.TheVariants.Port p.key.port) quiet
+known_wish p (Pending false) = wish want.TheVariants.Wait quiet
 known_wish p Doomed = wish want.TheVariants.NotNow quiet
 known_wish p Live = wish (want.TheVariants.Port p.key.port) quiet
-known_wish p Closing = wish want.TheVariants.NotNow quiet
+known_wish p (Closing true) = wish (want.TheVariants.Port p.key.port) quiet
+known_wish p (Closing false) = wish want.TheVariants.NotNow quiet
+known_wish p Alone = wish (want.TheVariants.Port p.key.port) quiet
 known_wish p Held = wish (want.TheVariants.Port p.key.port) quiet
 
 -- the pair of an endpoint on this outside port
@@ -243,17 +273,25 @@ none_row b full = (if may_want b full then row change_of.Want (Some record_of.Wa
 
 -- the row that proposes the pair to the peer
 abbrev pub proposal : Pair → Transition
-proposal p = row (Add (entry_in Pending p)) (Some (Install p)) None
+proposal p = row (Add (entry_in (Pending false) p)) (Some (Install p)) None
 
--- the wish of a packet whose endpoint has no pair, with the port that is free for it, or none
-abbrev pub new_wish : Book → Bool → Endpoint → Option Port → PortRequest
-new_wish b full e None = wish want.TheVariants.NoPort (none_row b full)
-new_wish b full e (Some port) =
-    if is_lone b.stage
-    then wish (want.TheVariants.Port port) (row (Add (entry_in Live (new_pair e port))) None (Some (Retaken (new_pair e port))))
+-- the wish of a packet whose endpoint gets this pair, at a gateway that isn't lone: one that is apart makes it alone,
+-- and else it is proposed
+abbrev pub paired_wish : Bool → Bool → Pair → PortRequest
+paired_wish apart full p =
+    if apart
+    then wish (want.TheVariants.Port p.key.port) (row (Add (entry_in Alone p)) None (Some (kinds.Alone p)))
     else (if full
     then wish want.TheVariants.NotNow quiet
-    else wish want.TheVariants.Wait (proposal (new_pair e port)))
+    else wish want.TheVariants.Wait (proposal p))
+
+-- the wish of a packet whose endpoint has no pair, with the port that is free for it, or none
+abbrev pub new_wish : Book → Bool → Bool → Endpoint → Option Port → PortRequest
+new_wish b apart full e None = wish want.TheVariants.NoPort (none_row b full)
+new_wish b apart full e (Some port) =
+    if is_lone b.stage
+    then wish (want.TheVariants.Port port) (row (Add (entry_in Live (new_pair e port))) None (Some (Retaken (new_pair e port))))
+    else paired_wish apart full (new_pair e port)
 
 -- the port that an endpoint without a pair gets, if one is free
 abbrev pub port_for : Book → Endpoint → Option Port
@@ -269,40 +307,47 @@ abbrev pub is_at_limit : Book → Ip → Bool
 is_at_limit b address = reached b.limit (pairs_of address b.entries)
 
 -- the wish of a packet whose endpoint has no pair: a pair is made, where its address isn't at the limit
-abbrev pub unknown_wish : Book → Bool → Endpoint → PortRequest
-unknown_wish b full e =
+abbrev pub unknown_wish : Book → Bool → Bool → Endpoint → PortRequest
+unknown_wish b apart full e =
     if is_at_limit b e.address
     then wish want.TheVariants.HostLimit quiet
-    else new_wish b full e (port_for b e)
+    else new_wish b apart full e (port_for b e)
 
 -- the wish of a packet at a synced gateway, by the entry of its endpoint
-abbrev pub wish_by : Book → Bool → Endpoint → Option Entry → PortRequest
-wish_by b full e (Some x) = known_wish x.pair x.state
-wish_by b full e None = unknown_wish b full e
+abbrev pub wish_by : Book → Bool → Bool → Endpoint → Option Entry → PortRequest
+wish_by b apart full e (Some x) = known_wish x.pair x.state
+wish_by b apart full e None = unknown_wish b apart full e
 
--- the answer to a packet of an endpoint that wishes for a port, and its row; `full` says that the link is full
-abbrev pub wish_of : Book → Bool → Endpoint → PortRequest
-wish_of b full e =
+-- the answer to a packet of an endpoint that wishes for a port, and its row; `apart` says that the gateway is apart,
+-- `full` that the link is full
+abbrev pub wish_of : Book → Bool → Bool → Endpoint → PortRequest
+wish_of b apart full e =
     if is_synced b.stage
-    then wish_by b full e (entry_of b.entries e)
+    then wish_by b apart full e (entry_of b.entries e)
     else wish want.TheVariants.NotNow quiet
 
 -- ---- an idle pair, at a tick
 
 -- the row that asks the peer whether the pair may be deleted
 abbrev pub asking : Pair → Transition
-asking p = row (Turn p.key Closing) (Some (Ask p.key)) (Some (Released p))
+asking p = row (Turn p.key (Closing false)) (Some (Ask p.key)) (Some (Released p))
 
--- the row of an idle pair: a lone gateway drops it, and else its owner asks the peer, where `ask` says that it may
+-- the row by which a pair is dropped, and noted as released
+abbrev pub dropping : Pair → Transition
+dropping p = row (Drop p.key) None (Some (Released p))
+
+-- The row of an idle pair: a lone gateway drops it, and else its owner asks the peer, where `ask` says that it may. A
+-- pair of which the peer has nothing is dropped in any case.
 abbrev pub released_row : Bool → Bool → Pair → EntryState → Transition
-released_row lone ask p Pending = quiet
+released_row lone ask p (Pending marked) = quiet
 released_row lone ask p Doomed = quiet
 released_row lone ask p Live =
     if lone
-    then row (Drop p.key) None (Some (Released p))
+    then dropping p
     else (if ask then asking p else quiet)
-released_row lone ask p Closing = quiet
-released_row lone ask p Held = (if lone then row (Drop p.key) None (Some (Released p)) else quiet)
+released_row lone ask p (Closing marked) = quiet
+released_row lone ask p Alone = dropping p
+released_row lone ask p Held = (if lone then dropping p else quiet)
 
 -- the row of an idle pair, by the entry at its key
 abbrev pub release_row : Bool → Bool → Option Entry → Transition
@@ -313,14 +358,48 @@ release_row lone ask (Some x) = released_row lone ask x.pair x.state
 abbrev pub idle_row : Book → Bool → Key → Transition
 idle_row b ask k = (if is_synced b.stage then release_row (is_lone b.stage) ask (slot_of b.entries k) else quiet)
 
+-- ---- going on alone, at a tick
+
+-- the row by which a pair goes on though an answer is awaited, by the state of its entry
+abbrev pub marked_row : Pair → EntryState → Transition
+marked_row p (Pending true) = quiet
+marked_row p (Pending false) = ending p.endpoint (row (Turn p.key (Pending true)) None (Some (kinds.Alone p)))
+marked_row p Doomed = quiet
+marked_row p Live = quiet
+marked_row p (Closing true) = quiet
+marked_row p (Closing false) = row (Turn p.key (Closing true)) None (Some (kinds.Alone p))
+marked_row p Alone = quiet
+marked_row p Held = quiet
+
+-- the row by which the peer is told of a pair that was made alone, where the link isn't full
+abbrev pub telling_row : Bool → Pair → EntryState → Transition
+telling_row full p (Pending marked) = quiet
+telling_row full p Doomed = quiet
+telling_row full p Live = quiet
+telling_row full p (Closing marked) = quiet
+telling_row full p Alone = (if full then quiet else row (Turn p.key (Pending true)) (Some (Tell p)) None)
+telling_row full p Held = quiet
+
+-- the row of an entry, or of none: a gateway that is apart marks it, and another one tells the peer of it
+abbrev pub sought_row : Bool → Bool → Option Entry → Transition
+sought_row apart full None = quiet
+sought_row apart full (Some x) = (if apart then marked_row x.pair x.state else telling_row full x.pair x.state)
+
+-- the row of a key between the idle pairs of a tick and the link; a lone gateway marks and tells nothing
+abbrev pub alone_row : Book → Bool → Bool → Key → Transition
+alone_row b apart full k = (if is_paired b.stage then sought_row apart full (slot_of b.entries k) else quiet)
+
 -- ---- a packet that is translated
 
 -- the row of a packet that is translated, by the state of its pair's entry
 abbrev pub used_row : Pair → EntryState → Transition
-used_row p Pending = quiet
+used_row p (Pending true) = row Keep None (Some (Used p))
+used_row p (Pending false) = quiet
 used_row p Doomed = quiet
 used_row p Live = row Keep None (Some (Used p))
-used_row p Closing = quiet
+used_row p (Closing true) = row Keep None (Some (Used p))
+used_row p (Closing false) = quiet
+used_row p Alone = row Keep None (Some (Used p))
 used_row p Held = row Keep None (Some (Used p))
 
 -- the row of a packet that is translated, by the entry of its pair
@@ -363,8 +442,8 @@ changed (Gain g) b = record (with_gained b (numbers_of g)) { wants = false }
 abbrev pub after : Book → Transition → Book
 after b r = changed r.change b
 
--- whether the link is full: it has fewer than 65 free places, so no pair is proposed, no pair's end is asked for and no
--- ports are wanted
+-- whether the link is full: it has fewer than 65 free places, so no pair is proposed or told, no pair's end is asked for
+-- and no ports are wanted
 abbrev pub is_full : Link → Bool
 is_full e = nat_lt (free_places e) 65
 
@@ -402,6 +481,7 @@ unsynced_after b r = load_taken b r (loaded (load_of b) r)
 -- the note of a record that was taken into the table that is loaded, if any
 abbrev pub load_what : Record → Option Load → Option NoteKind
 load_what (Put p) (Some l) = Some (Retaken p)
+load_what (Tell p) (Some l) = Some (Retaken p)
 load_what Done (Some l) = Some Synced
 load_what r l = None
 

@@ -4,7 +4,7 @@ use Rattle.nat_types.specs.declared.gateways.GatewayId.{GatewayId}
 use Rattle.nat_types.specs.declared.pairs.Key.{Key}
 use Rattle.nat_types.specs.declared.pairs.Pair.{Pair}
 use Rattle.nat_types.specs.declared.notes.NoteKind.{NoteKind}
-use Rattle.nat_types.specs.declared.notes.NoteKind.TheVariants.{Used, Released, Retaken, Synced, Crashed, Booted}
+use Rattle.nat_types.specs.declared.notes.NoteKind.TheVariants.{Used, Released, Retaken, Alone, Synced, Crashed, Booted}
 use Rattle.nat_types.specs.declared.notes.Note.{Note}
 use Rattle.nat_types.specs.Same.{same, same_pair}
 use Rattle.activity.specs.Lives.{History, Activity}
@@ -22,6 +22,7 @@ abbrev pub uses_after : GatewayId → Pair → GatewayId → ℕ → NoteKind �
 uses_after g pair by at (Used noted) uses = cond (same g by && same_pair pair noted) (at ∷ uses) uses
 uses_after g pair by at (Released noted) uses = uses
 uses_after g pair by at (Retaken noted) uses = uses
+uses_after g pair by at (Alone noted) uses = uses
 uses_after g pair by at Synced uses = uses
 uses_after g pair by at Crashed uses = uses
 uses_after g pair by at (Booted number) uses = cond (same g by) [] uses

@@ -12,7 +12,7 @@ ghost use Rattle.nat_types.specs.declared.pairs.Key.{Key};
 ghost use Rattle.nat_types.specs.declared.records.Record.{Record};
 ghost use Rattle.bindings.specs.declared.entries.Entry.{Entry};
 ghost use Rattle.bindings.specs.declared.entries.PortBounds.{PortBounds};
-ghost use Rattle.bindings.specs.Entries.{is_pair, slot_of};
+ghost use Rattle.bindings.specs.Entries.{is_pair, slot_of, translates};
 ghost use Rattle.bindings.specs.Ports.{AreBounds};
 ghost use Rattle.link.specs.declared.datagrams.Datagram.{Datagram};
 ghost use Rattle.link.specs.declared.datagrams.Taken.{Taken};
@@ -25,13 +25,14 @@ ghost use Rattle.spec_pair.specs.Box.{In, Letter, booted, founder};
 ghost use Rattle.spec_pair.specs.Step.{IsStep, WasSent};
 ghost use Rattle.spec_binding.specs.declared.changes.Change.{Change};
 ghost use Rattle.spec_binding.specs.Books.{Book, IsBook, empty_book, founded_book};
-ghost use Rattle.spec_binding.specs.Books.{is_lone, is_promised, is_synced};
+ghost use Rattle.spec_binding.specs.Books.{is_lone, is_paired, is_promised, is_synced};
 ghost use Rattle.spec_binding.specs.WellFormed.{Fits, IsBeside, IsSameBatch, IsWellFormedEndpoint};
 ghost use Rattle.spec_binding.specs.Machine.{box_at, letter_of, promised_of, ranges_of};
 ghost use Rattle.spec_binding.specs.Machine.{IsTurn, Stands, Works};
 ghost use Rattle.spec_binding.specs.Resets.{back_in, put_alone, restart_batch, restart_link};
 ghost use Rattle.spec_binding.specs.Resets.{restart_notes, restarted, retaken};
-ghost use Rattle.spec_binding.specs.Rows.{after, answered, carry_row, changed, idle_row, noted_by};
+ghost use Rattle.spec_binding.specs.Serving.{Stays, serving};
+ghost use Rattle.spec_binding.specs.Rows.{after, alone_row, answered, carry_row, changed, idle_row, noted_by};
 ghost use Rattle.spec_binding.specs.Rows.{row_of, taken_answer, taken_book, taken_ended, taken_what, wish_of};
 ghost use Rattle.spec_binding.specs.Waits.{is_waiting};
 ghost use Rattle.nat_types.specs.declared.pairs.Pair.{Pair};
@@ -40,7 +41,8 @@ ghost use Rattle.activity.specs.declared.packets.Packet.{Packet};
 ghost use Rattle.slots.specs.declared.hashers.Hashers.{Hashers};
 ghost use Rattle.bindings.specs.Lives.{idle_keys_in};
 ghost use Rattle.spec_trace.specs.Past.{Idle};
-ghost use Rattle.spec_binding.specs.Ledgers.{Ledger, alone_ledger, carried_ledger, ledger_after};
+ghost use Rattle.spec_binding.specs.Ledgers.{Ledger, alone_ledger, carried_ledger, go_on_all};
+ghost use Rattle.spec_binding.specs.Ledgers.{ledger_after, sought_keys};
 ghost use Rattle.spec_binding.specs.Ledgers.{release_all, restarted_ledger, rests_for, taken_ledger};
 ghost use Rattle.spec_binding.specs.Uses.{Accounts, uses_of};
 
@@ -48,8 +50,8 @@ ghost use Rattle.spec_binding.specs.Uses.{Accounts, uses_of};
 pub fn rows_fit()
     ensures taken { (b : Book) (rests : Bool) (r : Record) → IsBook b → IsWellFormedRecord r
         → Fits b (row_of b rests r).change }
-    ensures wished { (b : Book) (full : Bool) (e : Endpoint) → IsBook b → IsWellFormedEndpoint e
-        → Fits b (wish_of b full e).row.change }
+    ensures wished { (b : Book) (apart full : Bool) (e : Endpoint) → IsBook b
+        → IsWellFormedEndpoint e → Fits b (wish_of b apart full e).row.change }
     ensures idle { (b : Book) (ask : Bool) (k : Key) → IsBook b
         → Fits b (idle_row b ask k).change }
     ensures carried { (b : Book) (k : Key) → IsBook b → Fits b (carry_row b k).change }
@@ -62,8 +64,8 @@ pub fn answers_fit()
         → IfSome (taken_answer b rests r) IsWellFormedRecord }
     ensures row { (b : Book) (rests : Bool) (r : Record) → IsBook b → IsWellFormedRecord r
         → IfSome (row_of b rests r).answer IsWellFormedRecord }
-    ensures wished { (b : Book) (full : Bool) (e : Endpoint) → IsBook b → IsWellFormedEndpoint e
-        → IfSome (wish_of b full e).row.answer IsWellFormedRecord }
+    ensures wished { (b : Book) (apart full : Bool) (e : Endpoint) → IsBook b
+        → IsWellFormedEndpoint e → IfSome (wish_of b apart full e).row.answer IsWellFormedRecord }
     ensures idle { (b : Book) (ask : Bool) (k : Key) → IsBook b
         → IfSome (idle_row b ask k).answer IsWellFormedRecord }
     ensures batch { (b : Book) → IsBook b
@@ -85,8 +87,8 @@ pub fn rows_leave()
     // While a batch is promised, a record changes nothing, and nothing else changes what the batch has.
     ensures promised { (b : Book) (rests : Bool) (r : Record) → is_synced b.stage ≡ true
         → is_promised b ≡ true → taken_book b rests r ≡ b }
-    ensures wished { (b : Book) (full : Bool) (e : Endpoint) → is_lone b.stage ≡ false
-        → IsSameBatch b (after b (wish_of b full e).row) }
+    ensures wished { (b : Book) (apart full : Bool) (e : Endpoint) → is_lone b.stage ≡ false
+        → IsSameBatch b (after b (wish_of b apart full e).row) }
     ensures idle { (b : Book) (ask : Bool) (k : Key) → IsBook b → is_lone b.stage ≡ false
         → IsSameBatch b (after b (idle_row b ask k)) }
     ensures carried { (b : Book) (k : Key) → IsSameBatch b (after b (carry_row b k)) }
@@ -102,8 +104,8 @@ pub fn books_keep()
         → IsBook (changed c b) }
     ensures taken { (b : Book) (rests : Bool) (r : Record) → IsBook b → IsWellFormedRecord r
         → IsBook (taken_book b rests r) }
-    ensures wished { (b : Book) (full : Bool) (e : Endpoint) → IsBook b → IsWellFormedEndpoint e
-        → IsBook (after b (wish_of b full e).row) }
+    ensures wished { (b : Book) (apart full : Bool) (e : Endpoint) → IsBook b
+        → IsWellFormedEndpoint e → IsBook (after b (wish_of b apart full e).row) }
     ensures idle { (b : Book) (ask : Bool) (k : Key) → IsBook b
         → IsBook (after b (idle_row b ask k)) }
     ensures carried { (b : Book) (k : Key) → IsBook b → IsBook (after b (carry_row b k)) }
@@ -121,26 +123,32 @@ pub fn books_keep()
 /// The book of a gateway without a table and the founded one are books, and are the boxes with which the machine
 /// begins.
 pub fn books_begin()
-    ensures empty { (id : GatewayId) (zero one : PortBounds) (limit : Option ℕ) → AreBounds zero
+    ensures empty { (id : GatewayId) (zero one : PortBounds) (limit : Option ℕ) (alone : ℕ)
+        → AreBounds zero → AreBounds one → IsPort zero.highest.0 → IsPort one.highest.0
+        → IsBook (empty_book id zero one limit alone) }
+    ensures founded { (zero one : PortBounds) (limit : Option ℕ) (alone : ℕ) → AreBounds zero
         → AreBounds one → IsPort zero.highest.0 → IsPort one.highest.0
-        → IsBook (empty_book id zero one limit) }
-    ensures founded { (zero one : PortBounds) (limit : Option ℕ) → AreBounds zero → AreBounds one
-        → IsPort zero.highest.0 → IsPort one.highest.0 → IsBook (founded_book zero one limit) }
-    ensures booted { (id : GatewayId) (zero one : PortBounds) (limit : Option ℕ) (boot capacity : ℕ)
-        → box_at (empty_book id zero one limit) (fresh id boot capacity) [] 0 ≡ booted boot }
-    ensures founder { (zero one : PortBounds) (limit : Option ℕ) (capacity : ℕ) → AreBounds zero
-        → let b = founded_book zero one limit in let r = ranges_of b in
+        → IsBook (founded_book zero one limit alone) }
+    ensures booted { (id : GatewayId) (zero one : PortBounds) (limit : Option ℕ)
+        (alone boot capacity : ℕ)
+        → box_at (empty_book id zero one limit alone) (fresh id boot capacity) [] 0 ≡ booted boot }
+    ensures founder { (zero one : PortBounds) (limit : Option ℕ) (alone capacity : ℕ)
+        → AreBounds zero → let b = founded_book zero one limit alone in let r = ranges_of b in
         box_at b (fresh Zero 1 capacity) [] 0 ≡ founder (λ p. r.in_ranges p && r.at_start p) }
 {}
 
 /// A record ends the wait of an endpoint (`ended` of its row) exactly where the endpoint's own proposal waited for the
-/// peer's answer before it, and doesn't after it. At a gateway that isn't synced it ends none.
+/// peer's answer before it, and doesn't after it. At a gateway that isn't synced it ends none. What a tick marks or tells
+/// ends the waits of exactly such endpoints too.
 pub fn waits_end()
     ensures synced { (b : Book) (rests : Bool) (r : Record) (e : Endpoint) → IsBook b
         → IsWellFormedRecord r → is_synced b.stage ≡ true → (taken_ended b rests r ≡ Some e)
         ↔ ((is_waiting b e ≡ true) × (is_waiting (taken_book b rests r) e ≡ false)) }
     ensures unsynced { (b : Book) (rests : Bool) (r : Record) → is_synced b.stage ≡ false
         → taken_ended b rests r ≡ None }
+    ensures ticked { (b : Book) (apart full : Bool) (k : Key) (e : Endpoint) → IsBook b
+        → let w = alone_row b apart full k in
+        (w.ended ≡ Some e) ↔ ((is_waiting b e ≡ true) × (is_waiting (after b w) e ≡ false)) }
 {}
 
 /// A record that comes in its turn is an act of the machine. At a synced gateway the act is that of its row, or only
@@ -156,9 +164,9 @@ pub fn record_works()
 
 /// A packet's wish is an act of the machine, or none.
 pub fn wish_works()
-    ensures { (now : ℕ) (b : Book) (e : Link) (n : ℕ) (h : List Record) (full : Bool)
+    ensures { (now : ℕ) (b : Book) (e : Link) (n : ℕ) (h : List Record) (apart full : Bool)
         (x : Endpoint)
-        → Stands b e h → let w = (wish_of b full x).row in
+        → Stands b e h → let w = (wish_of b apart full x).row in
         Works now [] [] b e n (after b w) (answered e w.answer) n (noted_by b.id now w.what) h }
 {}
 
@@ -167,6 +175,58 @@ pub fn idle_works()
     ensures { (now : ℕ) (b : Book) (e : Link) (n : ℕ) (h : List Record) (ask : Bool) (k : Key)
         → Stands b e h → let w = idle_row b ask k in
         Works now [] [] b e n (after b w) (answered e w.answer) n (noted_by b.id now w.what) h }
+{}
+
+/// What a tick does with an entry between the idle pairs and the link: its change fits the book, which stays
+/// a book with the same batch, and what is pushed is well-formed.
+pub fn alone_rows()
+    ensures fit { (b : Book) (apart full : Bool) (k : Key) → IsBook b
+        → Fits b (alone_row b apart full k).change }
+    ensures answer { (b : Book) (apart full : Bool) (k : Key) → IsBook b
+        → IfSome (alone_row b apart full k).answer IsWellFormedRecord }
+    ensures batch { (b : Book) (apart full : Bool) (k : Key) → IsBook b
+        → IsSameBatch b (after b (alone_row b apart full k)) }
+    ensures book { (b : Book) (apart full : Bool) (k : Key) → IsBook b
+        → IsBook (after b (alone_row b apart full k)) }
+{}
+
+/// A pair that is marked, or of which the peer is told, at a tick is an act of the machine, or none.
+pub fn alone_works()
+    ensures { (now : ℕ) (b : Book) (e : Link) (n : ℕ) (h : List Record) (apart full : Bool)
+        (k : Key) → Stands b e h → let w = alone_row b apart full k in
+        Works now [] [] b e n (after b w) (answered e w.answer) n (noted_by b.id now w.what) h }
+{}
+
+/// After a tick at which a gateway is apart each pair of its table translates, and no packet waits for one.
+pub fn alone_waits_for_nobody()
+    ensures translate { (now : ℕ) (l : Ledger) (e : Link) (k : Key) (x : Entry) → IsBook l.book
+        → is_paired l.book.stage ≡ true
+        → let after = (go_on_all true now (sought_keys true l.book.entries) l e).ledger in
+        slot_of after.book.entries k ≡ Some x → is_pair x.state ≡ true
+        → translates x.state ≡ true }
+    ensures none { (now : ℕ) (l : Ledger) (e : Link) (x : Endpoint) → IsBook l.book
+        → is_paired l.book.stage ≡ true
+        → let after = (go_on_all true now (sought_keys true l.book.entries) l e).ledger in
+        is_waiting after.book x ≡ false }
+{}
+
+/// A pair that is its endpoint's pair and translates is so after each row and each reset of a synced gateway, unless
+/// that notes its release.
+pub fn not_moved()
+    ensures wished { (b : Book) (apart full : Bool) (e x : Endpoint) (p : Pair) → IsBook b
+        → IsWellFormedEndpoint e → serving b x ≡ Some p
+        → serving (after b (wish_of b apart full e).row) x ≡ Some p }
+    ensures taken { (b : Book) (rests : Bool) (r : Record) (x : Endpoint) (p : Pair) → IsBook b
+        → IsWellFormedRecord r → is_synced b.stage ≡ true → serving b x ≡ Some p
+        → Stays (taken_book b rests r) x p (taken_what b rests r) }
+    ensures idle { (b : Book) (ask : Bool) (k : Key) (x : Endpoint) (p : Pair) → IsBook b
+        → serving b x ≡ Some p → Stays (after b (idle_row b ask k)) x p (idle_row b ask k).what }
+    ensures alone { (b : Book) (apart full : Bool) (k : Key) (x : Endpoint) (p : Pair) → IsBook b
+        → serving b x ≡ Some p → serving (after b (alone_row b apart full k)) x ≡ Some p }
+    ensures restarted { (b : Book) (x : Endpoint) (p : Pair) → IsBook b → is_synced b.stage ≡ true
+        → serving b x ≡ Some p → serving (restarted b) x ≡ Some p }
+    ensures word { (b : Book) (x : Endpoint) (p : Pair) → IsBook b
+        → serving b x ≡ Some p → serving (put_alone b) x ≡ Some p }
 {}
 
 /// A packet that is translated is an act of the machine, or none.
@@ -281,12 +341,12 @@ pub fn records_come()
 /// each boot of the gateway (`begun`, `founded`).
 pub fn accounts_kept()
     ensures begun { (now : ℕ) (id : GatewayId) (zero one : PortBounds) (limit : Option ℕ)
-        (hashers : Hashers) (h : List Note) → ((p : Pair) → uses_of id h p ≡ []) → Idle h
-        → let book = empty_book id zero one limit in
+        (alone : ℕ) (hashers : Hashers) (h : List Note) → ((p : Pair) → uses_of id h p ≡ [])
+        → Idle h → let book = empty_book id zero one limit alone in
         Accounts now (record { book = book; lives = []; hashers = hashers }) h }
-    ensures founded { (now : ℕ) (zero one : PortBounds) (limit : Option ℕ) (hashers : Hashers)
-        (h : List Note) → ((p : Pair) → uses_of Zero h p ≡ []) → Idle h
-        → let book = founded_book zero one limit in
+    ensures founded { (now : ℕ) (zero one : PortBounds) (limit : Option ℕ) (alone : ℕ)
+        (hashers : Hashers) (h : List Note) → ((p : Pair) → uses_of Zero h p ≡ []) → Idle h
+        → let book = founded_book zero one limit alone in
         Accounts now (record { book = book; lives = []; hashers = hashers }) h }
     ensures later { (since now : ℕ) (l : Ledger) (h : List Note) → since ≤ now
         → Accounts since l h → Accounts now l h }
@@ -296,8 +356,9 @@ pub fn accounts_kept()
         → Accounts now l h → Accounts now l (ns ++ h) }
     ensures fed { (now : ℕ) (l : Ledger) (h : List Note) (rest : List Record) → Accounts now l h
         → Accounts now (record l { book = record l.book { coming = rest } }) h }
-    ensures wished { (now : ℕ) (l : Ledger) (h : List Note) (full : Bool) (e : Endpoint)
-        → IsBook l.book → Accounts now l h → let w = (wish_of l.book full e).row in
+    ensures wished { (now : ℕ) (l : Ledger) (h : List Note) (apart full : Bool)
+        (e : Endpoint)
+        → IsBook l.book → Accounts now l h → let w = (wish_of l.book apart full e).row in
         Accounts now (ledger_after now w.change l)
         (reverse (noted_by l.book.id now w.what) ++ h) }
     ensures taken { (now : ℕ) (l : Ledger) (h : List Note) (r : Record) → IsBook l.book
@@ -316,5 +377,11 @@ pub fn accounts_kept()
     ensures release_all { (now : ℕ) (l : Ledger) (e : Link) (h : List Note) → IsBook l.book
         → Accounts now l h
         → let keys = idle_keys_in (is_lone l.book.stage) now l.book.entries l.lives in
-        Accounts now (release_all now keys l e).ledger (reverse (release_all now keys l e).notes ++ h) }
+        Accounts now (release_all now keys l e).ledger
+        (reverse (release_all now keys l e).notes ++ h) }
+    // A tick marks what waits, or tells the peer of what was made alone.
+    ensures go_on_all { (now : ℕ) (l : Ledger) (e : Link) (h : List Note) (apart : Bool)
+        → IsBook l.book → Accounts now l h → let keys = sought_keys apart l.book.entries in
+        Accounts now (go_on_all apart now keys l e).ledger
+        (reverse (go_on_all apart now keys l e).notes ++ h) }
 {}

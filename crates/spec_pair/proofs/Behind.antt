@@ -5,8 +5,7 @@ use Rattle.std.proofs.Math.Logic.{∥∥₁_elim}
 use Rattle.std.proofs.Props.{props}
 use Rattle.nat_types.specs.declared.gateways.GatewayId.{GatewayId}
 use Rattle.nat_types.specs.declared.gateways.GatewayId.TheVariants.{Zero, One}
-use Rattle.nat_types.specs.declared.pairs.Pair.{Pair}
-use Rattle.spec_pair.specs.Box.{batch, owners, puts}
+use Rattle.spec_pair.specs.Box.{Parcel, batch, owners, puts}
 use Rattle.spec_pair.specs.Ownership.{Ranges, Run}
 use Rattle.spec_pair.specs.Talk.{MachineRecord, Done}
 use Rattle.spec_pair.specs.World.{IsWorld, Scene, flip, seen_by}
@@ -15,7 +14,7 @@ use Rattle.spec_pair.proofs.Invariant.{Inv, Loads}
 use Rattle.spec_pair.proofs.Mirror.{inv_flip}
 use Rattle.spec_pair.proofs.Props.{inv_world}
 
-puts-count : (ps : List Pair) → length (puts ps) ≡ length ps
+puts-count : (ps : List Parcel) → length (puts ps) ≡ length ps
 puts-count [] = refl
 puts-count (p ∷ ps) = ap suc (puts-count ps)
 
@@ -23,7 +22,7 @@ owners-count : (os : List Run) (rs : List MachineRecord) → length (owners os r
 owners-count [] rs = omega arith
 owners-count (o ∷ os) rs = let ih = owners-count os rs in omega (arith, ih)
 
-batch-count : (os : List Run) (ps : List Pair) → length (batch os ps) ≡ 2 + (length os + length ps)
+batch-count : (os : List Run) (ps : List Parcel) → length (batch os ps) ≡ 2 + (length os + length ps)
 batch-count os ps =
     let a = owners-count os (puts ps ++ Done ∷ []) in
     let b = length-append (puts ps) (Done ∷ []) in

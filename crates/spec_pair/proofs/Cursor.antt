@@ -24,13 +24,15 @@ module _ (r : Ranges) where
       let here : Side r i s.mine s.theirs s.my_mail s.their_mail s.trace = v.here in
       let there : Side r (other i) s.theirs s.mine s.their_mail s.my_mail s.trace = v.there in
       record {
-        fits = v.fits;
+        one_port = v.one_port;
+        one_endpoint = v.one_endpoint;
         silent = v.silent;
         some_synced = v.some_synced;
         here = record {
           synced_is = here.synced_is;
           up_synced = here.up_synced;
           goes = here.goes;
+          private = here.private;
           letters = here.letters;
           boots = here.boots;
           barred = λ m p. absurd (cc);
@@ -39,7 +41,7 @@ module _ (r : Ranges) where
           later = here.later;
           quiet = here.quiet;
           state = λ z. elim (here.state z) [
-            | inl y ↦ inl record { lone = y.lone; other_out = y.other_out; proper = y.proper; within = y.within; nowhere = y.nowhere; one_each = y.one_each; covers = y.covers; sent = y.sent; unheard = y.unheard }
+            | inl y ↦ inl record { lone = y.lone; other_out = y.other_out; proper = y.proper; within = y.within; nowhere = y.nowhere; one_each = y.one_each; two = y.two; covers = y.covers; sent = y.sent; unheard = y.unheard }
             | inr y ↦ inr record {
               lone = y.lone;
               phase = y.phase;
@@ -58,6 +60,8 @@ module _ (r : Ranges) where
               letters = y.letters;
               covers = y.covers;
               lets = y.lets;
+              were = y.were;
+              two = y.two;
               real = λ q. let n : Real s.mine s.theirs y.table y.their_owned y.their_want y.gone y.heard y.inn = y.real q in record { table_is = n.table_is; owned_is = n.owned_is; want_is = n.want_is; sent = n.sent; taken = n.taken; peer = n.peer; back = n.back; lone = n.lone };
               owes = λ m p. absurd (cc);
               loads = λ q u p. let x : Loads r i s.mine s.theirs y.phase y.owner y.table y.their_owned y.their_want y.gone y.heard y.inn = y.loads q u p in
@@ -83,12 +87,15 @@ module _ (r : Ranges) where
         there = side_beside r (other i) s.theirs s.mine _ s.their_mail s.my_mail s.trace _ there refl
             there.synced_is
             there.goes
+            there.private
             (λ z. elim (there.state z) [
-              | inl y ↦ inl (alone_beside r (other i) s.theirs s.mine _ s.trace _ y y.other_out (λ p o. o) y.unheard)
+              | inl y ↦ inl (alone_beside r (other i) s.theirs s.mine _ s.trace _ y y.other_out (λ p o. o) y.unheard (λ p q h. h))
               | inr y ↦ inr (view_beside r (other i) s.theirs s.mine _ s.my_mail _ s.trace _ y
                   y.letters
                   y.covers
                   y.lets
+                  y.were
+                  y.two
                   (λ q. let n : Real s.theirs s.mine y.table y.their_owned y.their_want y.gone y.heard y.inn = y.real q in record { table_is = n.table_is; owned_is = n.owned_is; want_is = n.want_is; sent = n.sent; taken = n.taken; peer = n.peer; back = n.back; lone = n.lone })
                   y.owes
                   (λ q. let bad : true ≡ false = sym can.0 ∙ q in absurd (cc)))

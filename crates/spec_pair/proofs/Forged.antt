@@ -5,8 +5,7 @@ use Rattle.std.proofs.Math.Logic.{∥∥₁_elim}
 use Rattle.std.proofs.Props.{props}
 use Rattle.nat_types.specs.declared.gateways.GatewayId.{GatewayId}
 use Rattle.nat_types.specs.declared.gateways.GatewayId.TheVariants.{Zero, One}
-use Rattle.nat_types.specs.declared.pairs.Pair.{Pair}
-use Rattle.spec_pair.specs.Box.{Letter, In, StandsNext}
+use Rattle.spec_pair.specs.Box.{Letter, In, Parcel, StandsNext}
 use Rattle.spec_pair.specs.Ownership.{Ranges, Run}
 use Rattle.spec_pair.specs.Talk.{MachineRecord}
 use Rattle.spec_pair.specs.World.{IsWorld, Scene, flip, seen_by}
@@ -28,7 +27,7 @@ module _ (r : Ranges) where
   few_runs : (front back : List Run) (os : List Run) → os ≡ front ++ back → length front ≤ length os
   few_runs front back os whole = let one : length os ≡ length front + length back = ap length whole ∙ length-append front back in omega arith
 
-  few_pairs : (front back : List Pair) (ps : List Pair) → ps ≡ front ++ back → length front ≤ length ps
+  few_pairs : (front back : List Parcel) (ps : List Parcel) → ps ≡ front ++ back → length front ≤ length ps
   few_pairs front back ps whole = let one : length ps ≡ length front + length back = ap length whole ∙ length-append front back in omega arith
 
   none_more : (i : GatewayId) (s : Scene) (m : ℕ) → Inv r i s → s.mine.synced ≡ true → s.mine.lone ≡ false → s.mine.promised ≡ Some m → s.theirs.up ≡ true → s.mine.peer ≡ s.theirs.boot → s.theirs.taken ≤ m

@@ -5,20 +5,22 @@ use Rattle.nat_types.proofs.Offered.{same-self}
 use Rattle.nat_types.specs.Same.{other, same}
 use Rattle.nat_types.specs.declared.gateways.GatewayId.{GatewayId}
 use Rattle.nat_types.specs.declared.notes.Note.{Note}
+use Rattle.nat_types.specs.declared.pairs.Endpoint.{Endpoint}
 use Rattle.nat_types.specs.declared.pairs.Key.{Key}
+use Rattle.spec_trace.specs.Past.{is_synced}
 use Rattle.spec_pair.specs.Acts.{WantPorts, GrantPorts, TakePorts, LosePorts}
 use Rattle.spec_pair.specs.Box.{IsVacant, Box, Letter, wants_ports, grants_ports, takes_ports}
 use Rattle.spec_pair.proofs.Invariant.{bit, times, gifts, wants_in, grants_in, Within, Loads, Real, View, Inv}
-use Rattle.spec_pair.proofs.Phase.{owns, Phase, Nothing, Talks, Excused, closing, is_given_up, slot_at}
+use Rattle.spec_pair.proofs.Phase.{owns, Phase, Nothing, Talks, Excused, closing, covered, named, is_given_up, slot_at}
 use Rattle.spec_pair.specs.Ownership.{Ranges, has, AreDistinct}
 use Rattle.spec_pair.specs.Talk.{Slot, Free, MachineRecord, Want, Grant, is_on, on}
-use Rattle.spec_pair.proofs.Traced.{LetsGo}
+use Rattle.spec_pair.proofs.Traced.{Covers, LetsGo, TwoAlone}
 use Rattle.spec_pair.specs.World.{Scene, Can, after_act}
 use Rattle.spec_pair.proofs.Acts.{progress_as, inv_next, view_of, next_is, with_next}
 use Rattle.spec_pair.proofs.Excuses.{excused_push}
 use Rattle.spec_pair.proofs.Grants.{gifts-append, wants-append, grants-append}
 use Rattle.spec_pair.proofs.Lists.{length_last, within_more}
-use Rattle.spec_pair.proofs.Inversions.{when_free}
+use Rattle.spec_pair.proofs.Inversions.{when_free, covered_named, shared_named}
 use Rattle.spec_pair.proofs.HandOver.{changes_hands, free_at}
 use Rattle.spec_pair.proofs.Turned.{push_else, slot_is}
 
@@ -62,21 +64,37 @@ bit_false false h = refl
 -- a record that is on no port may be pushed or taken
 pub push_plain : (owner : Key → GatewayId) (i : GatewayId) (mine theirs : Key → Slot) (out inn : List MachineRecord) (ph : Key → Phase) (x : MachineRecord) → ((k : Key) → is_on k x ≡ false) → Excused ph (x ∷ []) → Talks owner i mine out theirs inn ph → Talks owner i mine (out ++ x ∷ []) theirs inn ph
 push_plain owner i mine theirs out inn ph x plain excused t = record {
-  here = record { slots = t.here.slots; flights = λ k. push_else owner k x out (plain k) ∙ t.here.flights k; one_each = t.here.one_each };
+  here = record { slots = t.here.slots; flights = λ k. push_else owner k x out (plain k) ∙ t.here.flights k };
   there = t.there;
   excused_out = λ one. excused_push ph out (x ∷ []) (t.excused_out one) excused;
   excused_in = t.excused_in;
   steady = t.steady;
+  one_each = t.one_each;
+  beside = t.beside;
 }
 
 pub take_plain : (owner : Key → GatewayId) (i : GatewayId) (mine theirs : Key → Slot) (out inn inn2 : List MachineRecord) (ph : Key → Phase) → ((k : Key) → on k inn ≡ on k inn2) → (Excused ph inn → Excused ph inn2) → Talks owner i mine out theirs inn ph → Talks owner i mine out theirs inn2 ph
 take_plain owner i mine theirs out inn inn2 ph same_on excused t = record {
   here = t.here;
-  there = record { slots = t.there.slots; flights = λ k. sym (same_on k) ∙ t.there.flights k; one_each = t.there.one_each };
+  there = record { slots = t.there.slots; flights = λ k. sym (same_on k) ∙ t.there.flights k };
   excused_out = t.excused_out;
   excused_in = λ zero. excused (t.excused_in zero);
   steady = t.steady;
+  one_each = t.one_each;
+  beside = t.beside;
 }
+
+-- a port at which a gateway has a pair stays its owner's
+stays : (owner owner2 : Key → GatewayId) (ph : Key → Phase) → ((k : Key) → (ph k ≡ Nothing) ⊎ (owner2 k ≡ owner k)) → (k : Key) (e : Endpoint) → named (ph k) ≡ Some e → owner2 k ≡ owner k
+stays owner owner2 ph moved k e h = elim (moved k) [ inl n ↦ let bad : None ≡ Some e = sym (ap named n) ∙ h in absurd (cc) | inr same_owner ↦ same_owner ]
+
+covers_hands : (owner owner2 : Key → GatewayId) (ph : Key → Phase) (t : List Note) → ((k : Key) → (ph k ≡ Nothing) ⊎ (owner2 k ≡ owner k)) → Covers owner ph t → Covers owner2 ph t
+covers_hands owner owner2 ph t moved c p o =
+    let names : named (ph p.key) ≡ Some p.endpoint = covered_named (is_synced (owner p.key) t) (ph p.key) p.endpoint (c p o) in
+    ap (λ g. covered (is_synced g t) (ph p.key)) (stays owner owner2 ph moved p.key p.endpoint names) ∙ c p o
+
+two_hands : (owner owner2 : Key → GatewayId) (ph : Key → Phase) (t : List Note) → ((k : Key) → (ph k ≡ Nothing) ⊎ (owner2 k ≡ owner k)) → TwoAlone owner ph t → TwoAlone owner2 ph t
+two_hands owner owner2 ph t moved x k q e far h g = x k q e (λ alike. far (stays owner owner2 ph moved k e h ∙ alike ∙ sym (stays owner owner2 ph moved q e (shared_named (ph q) e g)))) h g
 
 -- ports may change hands where no gateway has an entry at them
 pub talks_hands : (owner owner2 : Key → GatewayId) (i : GatewayId) (mine theirs : Key → Slot) (out inn : List MachineRecord) (ph : Key → Phase) → ((k : Key) → (ph k ≡ Nothing) ⊎ (owner2 k ≡ owner k)) → Talks owner i mine out theirs inn ph → Talks owner2 i mine out theirs inn ph
@@ -86,6 +104,8 @@ talks_hands owner owner2 i mine theirs out inn ph moved t = record {
   excused_out = t.excused_out;
   excused_in = t.excused_in;
   steady = λ k z. elim (moved k) [ inl n ↦ ap is_given_up n | inr e ↦ t.steady k (sym e ∙ z) ];
+  one_each = λ k q e alike h g. t.one_each k q e (sym (stays owner owner2 ph moved k e h) ∙ alike ∙ stays owner owner2 ph moved q e g) h g;
+  beside = λ k q e far h g. t.beside k q e (λ alike. far (stays owner owner2 ph moved k e h ∙ alike ∙ sym (stays owner owner2 ph moved q e (ap named g)))) h g;
 }
 
 pub lets_hands : (owner owner2 : Key → GatewayId) (g : GatewayId) (ph : Key → Phase) (t : List Note) → ((k : Key) → (ph k ≡ Nothing) ⊎ (owner2 k ≡ owner k)) → LetsGo owner g ph t → LetsGo owner2 g ph t
@@ -104,7 +124,7 @@ module _ (r : Ranges) where
       → View r i (with_next s.mine s.mine.table sent2 taken2 owned2 wants2) s.theirs s.their_mail s.trace → ((l : Letter) → Within l s.mine.sent → Within l sent2)
       → Inv r i (record { mine = with_next s.mine s.mine.table sent2 taken2 owned2 wants2; theirs = s.theirs; my_mail = s.my_mail; their_mail = s.their_mail; trace = s.trace })
   moves i s sent2 taken2 owned2 wants2 v sa view more =
-      inv_next r i s.mine s.theirs s.my_mail s.their_mail s.trace s.trace s.mine.table sent2 taken2 owned2 wants2 v sa view more (v.here.goes (v.here.up_synced sa)) (λ g. g) v.fits v.silent (λ j. refl)
+      inv_next r i s.mine s.theirs s.my_mail s.their_mail s.trace s.trace s.mine.table sent2 taken2 owned2 wants2 v sa view more (v.here.goes (v.here.up_synced sa)) (λ g. g) (v.here.private (v.here.up_synced sa)) (λ g. g) v.one_port v.one_endpoint v.silent (λ j. refl)
 
   real_as : (a a2 b : Box) (table : Key → Slot) (owned : ℕ → Bool) (want : Bool) (gone heard inn : List MachineRecord) → a.peer ≡ a2.peer → a.boot ≡ a2.boot → Real a b table owned want gone heard inn → Real a2 b table owned want gone heard inn
   real_as a a2 b table owned want gone heard inn peer boot n = record { table_is = n.table_is; owned_is = n.owned_is; want_is = n.want_is; sent = n.sent; taken = n.taken; peer = sym peer ∙ n.peer; back = n.back ∙ boot; lone = n.lone }
@@ -147,6 +167,8 @@ module _ (r : Ranges) where
         letters = w.letters;
         covers = w.covers;
         lets = w.lets;
+        were = w.were;
+        two = w.two;
         real = λ z. real_as s.mine (wants_ports s.mine) s.theirs w.table w.their_owned w.their_want w.gone w.heard w.inn refl refl (w.real z);
         owes = w.owes;
         loads = λ z u p.
@@ -240,6 +262,8 @@ module _ (r : Ranges) where
         letters = λ m inside boot to. subst (Within m) whole (w.letters m inside boot to);
         covers = w.covers;
         lets = w.lets;
+        were = w.were;
+        two = w.two;
         real = λ z. real_as s.mine (grants_ports s.mine ports) s.theirs w.table w.their_owned w.their_want w.gone (w.heard ++ Want ∷ []) next.0 refl refl (real_on s.mine s.theirs w.table w.their_owned w.their_want w.gone w.heard w.inn next.0 Want next.1 (w.real z));
         owes = λ m p. let bad : Want ∷ next.0 ≡ [] = sym next.1 ∙ (w.owes m p).0 in absurd (cc);
         loads = λ z u p. no_batch i s w Want next.0 next.1 z u p;
@@ -328,7 +352,9 @@ module _ (r : Ranges) where
               omega arith);
         };
         letters = λ m inside boot to. subst (Within m) whole (w.letters m inside boot to);
-        covers = w.covers;
+        covers = covers_hands w.owner (λ k. cond (has k.port.0 got) i (w.owner k)) w.phase s.trace moved w.covers;
+        were = w.were;
+        two = two_hands w.owner (λ k. cond (has k.port.0 got) i (w.owner k)) w.phase s.trace moved w.two;
         lets = λ g. lets_hands w.owner (λ k. cond (has k.port.0 got) i (w.owner k)) g w.phase s.trace moved (w.lets g);
         real = λ z. real_as s.mine (takes_ports s.mine got) s.theirs w.table w.their_owned w.their_want w.gone (w.heard ++ Grant ports ∷ []) next.0 refl refl (real_on s.mine s.theirs w.table w.their_owned w.their_want w.gone w.heard w.inn next.0 (Grant ports) next.1 (w.real z));
         owes = λ m p. let bad : Grant ports ∷ next.0 ≡ [] = sym next.1 ∙ (w.owes m p).0 in absurd (cc);

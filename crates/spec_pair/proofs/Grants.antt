@@ -7,9 +7,9 @@ use Rattle.nat_types.specs.Same.{other}
 use Rattle.nat_types.specs.declared.gateways.GatewayId.{GatewayId}
 use Rattle.nat_types.specs.declared.pairs.Key.{Key}
 use Rattle.spec_pair.proofs.Invariant.{is_proper, bit, gifts, wants_in, grants_in, Whereabouts}
-use Rattle.spec_pair.proofs.Phase.{owns, MayDoOwned, Phase, Nothing, Proposed, Accepted, Refused, GivenUp, GivenUpRefused, Asked, Shared, Leaving, Staying, refuse, give_up, slot_at, flight_at, Matches, Talks, phase_after}
+use Rattle.spec_pair.proofs.Phase.{owns, MayDoOwned, Phase, Nothing, Proposed, Told, Accepted, Refused, Asked, Shared, Apart, refuse, accept, give_up, set_apart, leave, stay, slot_at, owner_slot, other_slot, flight_at, Matches, Talks, phase_after}
 use Rattle.spec_pair.specs.Ownership.{Ranges, keyed}
-use Rattle.spec_pair.specs.Talk.{Slot, Free, Pending, Doomed, Live, Closing, MachineRecord, Install, Accept, Refuse, Ask, Yes, No, Begin, Put, Done, Want, Grant, Owner, is_on, on, set_at, Deed, Propose, Close, Use, Agree, Yield, Reject, Agreed, Rejected, Leave, Stay, Left, Stayed, Pass, Skip, MayDo, IsLost, taken_by, pushed_by}
+use Rattle.spec_pair.specs.Talk.{Slot, Free, Pending, Doomed, Live, Closing, Alone, MachineRecord, Install, Accept, Refuse, Ask, Yes, No, Begin, Put, Done, Want, Grant, Owner, Tell, is_on, on, set_at, Deed, Propose, Close, Use, Mark, MakeAlone, Report, DropAlone, Agree, Yield, Reject, Adopt, Decline, Agreed, Rejected, Rebuffed, Leave, Stay, Left, Parted, Stayed, Pass, Skip, MayDo, IsLost, taken_by, pushed_by}
 use Rattle.spec_pair.proofs.HandOver.{free_at, none_at}
 use Rattle.spec_pair.proofs.Set.{set_other, on_here, other-owns, cases_key}
 use Rattle.spec_pair.proofs.Turned.{self}
@@ -34,14 +34,22 @@ pub pushed_quiet : (d : Deed) → Quiet (pushed_by d)
 pushed_quiet (Propose k e) = (λ p. refl, refl, refl)
 pushed_quiet (Close k e) = (λ p. refl, refl, refl)
 pushed_quiet (Use k e) = (λ p. refl, refl, refl)
+pushed_quiet (Mark k e) = (λ p. refl, refl, refl)
+pushed_quiet (MakeAlone k e) = (λ p. refl, refl, refl)
+pushed_quiet (Report k e) = (λ p. refl, refl, refl)
+pushed_quiet (DropAlone k e) = (λ p. refl, refl, refl)
 pushed_quiet (Agree k e) = (λ p. refl, refl, refl)
 pushed_quiet (Yield k e m) = (λ p. refl, refl, refl)
 pushed_quiet (Reject k e) = (λ p. refl, refl, refl)
+pushed_quiet (Adopt k e) = (λ p. refl, refl, refl)
+pushed_quiet (Decline k e) = (λ p. refl, refl, refl)
 pushed_quiet (Agreed k e) = (λ p. refl, refl, refl)
 pushed_quiet (Rejected k) = (λ p. refl, refl, refl)
+pushed_quiet (Rebuffed k e) = (λ p. refl, refl, refl)
 pushed_quiet (Leave k e) = (λ p. refl, refl, refl)
 pushed_quiet (Stay k e) = (λ p. refl, refl, refl)
 pushed_quiet (Left k e) = (λ p. refl, refl, refl)
+pushed_quiet (Parted k e) = (λ p. refl, refl, refl)
 pushed_quiet (Stayed k e) = (λ p. refl, refl, refl)
 pushed_quiet (Pass k) = (λ p. refl, refl, refl)
 pushed_quiet (Skip x) = (λ p. refl, refl, refl)
@@ -59,64 +67,64 @@ lost_quiet own table Done lost = (λ p. refl, refl, refl)
 lost_quiet own table Want lost = absurd lost
 lost_quiet own table (Grant ports) lost = absurd lost
 lost_quiet own table (Owner first last) lost = (λ p. refl, refl, refl)
+lost_quiet own table (Tell k e) lost = absurd lost
 
 pub taken_quiet : (own : Key → Bool) (i : GatewayId) (table : Key → Slot) (d : Deed) → MayDo own i table d → Quiet (taken_by d)
 taken_quiet own i table (Propose k e) may = (λ p. refl, refl, refl)
 taken_quiet own i table (Close k e) may = (λ p. refl, refl, refl)
 taken_quiet own i table (Use k e) may = (λ p. refl, refl, refl)
+taken_quiet own i table (Mark k e) may = (λ p. refl, refl, refl)
+taken_quiet own i table (MakeAlone k e) may = (λ p. refl, refl, refl)
+taken_quiet own i table (Report k e) may = (λ p. refl, refl, refl)
+taken_quiet own i table (DropAlone k e) may = (λ p. refl, refl, refl)
 taken_quiet own i table (Agree k e) may = (λ p. refl, refl, refl)
 taken_quiet own i table (Yield k e m) may = (λ p. refl, refl, refl)
 taken_quiet own i table (Reject k e) may = (λ p. refl, refl, refl)
+taken_quiet own i table (Adopt k e) may = (λ p. refl, refl, refl)
+taken_quiet own i table (Decline k e) may = (λ p. refl, refl, refl)
 taken_quiet own i table (Agreed k e) may = (λ p. refl, refl, refl)
 taken_quiet own i table (Rejected k) may = (λ p. refl, refl, refl)
+taken_quiet own i table (Rebuffed k e) may = (λ p. refl, refl, refl)
 taken_quiet own i table (Leave k e) may = (λ p. refl, refl, refl)
 taken_quiet own i table (Stay k e) may = (λ p. refl, refl, refl)
 taken_quiet own i table (Left k e) may = (λ p. refl, refl, refl)
+taken_quiet own i table (Parted k e) may = (λ p. refl, refl, refl)
 taken_quiet own i table (Stayed k e) may = (λ p. refl, refl, refl)
 taken_quiet own i table (Pass k) may = (λ p. refl, refl, refl)
 taken_quiet own i table (Skip x) may = lost_quiet own table x may
 
 -- a slot that follows from a phase is one that a gateway can have there
 pub proper-phase : (own : Bool) (p : Phase) → is_proper own (slot_at own p) ≡ true
-proper-phase true Nothing = refl
-proper-phase true (Proposed e) = refl
-proper-phase true (Accepted e) = refl
-proper-phase true (Refused e) = refl
-proper-phase true (GivenUp e) = refl
-proper-phase true (GivenUpRefused e) = refl
-proper-phase true (Shared e) = refl
-proper-phase true (Asked e) = refl
-proper-phase true (Staying e) = refl
-proper-phase true (Leaving e) = refl
-proper-phase false Nothing = refl
-proper-phase false (Proposed e) = refl
-proper-phase false (Accepted e) = refl
-proper-phase false (Refused e) = refl
-proper-phase false (GivenUp e) = refl
-proper-phase false (GivenUpRefused e) = refl
-proper-phase false (Shared e) = refl
-proper-phase false (Asked e) = refl
-proper-phase false (Staying e) = refl
-proper-phase false (Leaving e) = refl
+proper-phase true p = at p
+  where
+    at : (x : Phase) → is_proper true (owner_slot x) ≡ true
+    at Nothing = refl
+    at x = refl
+proper-phase false p = at p
+  where
+    at : (x : Phase) → is_proper false (other_slot x) ≡ true
+    at Nothing = refl
+    at x = refl
 
 -- What a gateway may do by the ports that it owns, it may do by the ghost owner of each key.
 module _ (own own2 : Key → Bool) (table : Key → Slot) (proper : (k : Key) → is_proper (own2 k) (table k) ≡ true) (more : (k : Key) → own k ≡ true → own2 k ≡ true) (free : (k : Key) → own2 k ≡ true → own k ≡ false → table k ≡ Free) where
   lost_as : (x : MachineRecord) → IsLost own table x → IsLost own2 table x
   lost_as (Install k e) lost = lost
-  lost_as (Accept k) lost = λ e is pending. elim (cases_Bool (own k)) [ inl o ↦ lost e o pending | inr o ↦ let bad : Free ≡ Pending e = sym (free k is o) ∙ pending in cc ]
-  lost_as (Refuse k) lost = λ e is stands. elim (cases_Bool (own k)) [
-    | inl o ↦ lost e o stands
-    | inr o ↦ elim stands [ inl p ↦ let bad : Free ≡ Pending e = sym (free k is o) ∙ p in cc | inr p ↦ let bad : Free ≡ Doomed e = sym (free k is o) ∙ p in cc ]
+  lost_as (Accept k) lost = λ m e is pending. elim (cases_Bool (own k)) [ inl o ↦ lost m e o pending | inr o ↦ let bad : Free ≡ Pending m e = sym (free k is o) ∙ pending in cc ]
+  lost_as (Refuse k) lost = λ m e is stands. elim (cases_Bool (own k)) [
+    | inl o ↦ lost m e o stands
+    | inr o ↦ elim stands [ inl p ↦ let bad : Free ≡ Pending m e = sym (free k is o) ∙ p in cc | inr p ↦ let bad : Free ≡ Doomed e = sym (free k is o) ∙ p in cc ]
   ]
   lost_as (Ask k) lost = lost
-  lost_as (Yes k) lost = λ e is closing. elim (cases_Bool (own k)) [ inl o ↦ lost e o closing | inr o ↦ let bad : Free ≡ Closing e = sym (free k is o) ∙ closing in cc ]
-  lost_as (No k) lost = λ e is closing. elim (cases_Bool (own k)) [ inl o ↦ lost e o closing | inr o ↦ let bad : Free ≡ Closing e = sym (free k is o) ∙ closing in cc ]
+  lost_as (Yes k) lost = λ m e is closing. elim (cases_Bool (own k)) [ inl o ↦ lost m e o closing | inr o ↦ let bad : Free ≡ Closing m e = sym (free k is o) ∙ closing in cc ]
+  lost_as (No k) lost = λ m e is closing. elim (cases_Bool (own k)) [ inl o ↦ lost m e o closing | inr o ↦ let bad : Free ≡ Closing m e = sym (free k is o) ∙ closing in cc ]
   lost_as Begin lost = lost
   lost_as (Put k e) lost = lost
   lost_as Done lost = lost
   lost_as Want lost = lost
   lost_as (Grant ports) lost = lost
   lost_as (Owner first last) lost = lost
+  lost_as (Tell k e) lost = lost
 
   -- a slot of the table is one that the gateway can have at that key
   told_own : (k : Key) (x : Slot) → table k ≡ x → is_proper (own2 k) x ≡ true
@@ -126,15 +134,23 @@ module _ (own own2 : Key → Bool) (table : Key → Slot) (proper : (k : Key) �
   may_as i (Propose k e) may = (more k may.0, may.1, may.2)
   may_as i (Close k e) may = (told_own k (Live e) may, may)
   may_as i (Use k e) may = may
+  may_as i (Mark k e) may = (elim may [ inl h ↦ told_own k (Pending false e) h | inr h ↦ told_own k (Closing false e) h ], may)
+  may_as i (MakeAlone k e) may = (more k may.0, may.1, may.2)
+  may_as i (Report k e) may = (told_own k (Alone e) may, may)
+  may_as i (DropAlone k e) may = (told_own k (Alone e) may, may)
   may_as i (Agree k e) may = may
-  may_as i (Yield k e m) may = (may.0, may.1, told_own m (Pending e) may.2, may.2)
+  may_as i (Yield k e m) may = (may.0, may.1, told_own m (Pending false e) may.2, may.2)
   may_as i (Reject k e) may = may
-  may_as i (Agreed k e) may = (told_own k (Pending e) may, may)
-  may_as i (Rejected k) may = elim may.1 [ inl h ↦ told_own k (Pending may.0) h | inr h ↦ told_own k (Doomed may.0) h ]
+  may_as i (Adopt k e) may = may.0
+  may_as i (Decline k e) may = may
+  may_as i (Agreed k e) may = (told_own k (Pending may.0 e) may.1, may)
+  may_as i (Rejected k) may = (elim may.1 [ inl h ↦ told_own k (Pending false may.0) h | inr h ↦ told_own k (Doomed may.0) h ], may)
+  may_as i (Rebuffed k e) may = (told_own k (Pending true e) may, may)
   may_as i (Leave k e) may = may
   may_as i (Stay k e) may = may
-  may_as i (Left k e) may = (told_own k (Closing e) may, may)
-  may_as i (Stayed k e) may = (told_own k (Closing e) may, may)
+  may_as i (Left k e) may = (told_own k (Closing false e) may, may)
+  may_as i (Parted k e) may = (told_own k (Closing true e) may, may)
+  may_as i (Stayed k e) may = (told_own k (Closing may.0 e) may.1, may)
   may_as i (Pass k) may = may
   may_as i (Skip x) may = lost_as x may
 
@@ -150,20 +166,31 @@ module _ (owner : Key → GatewayId) (own : Key → Bool) (i : GatewayId) (mine 
   free_there k q e t none = ap mine e ∙ t.here.slots q ∙ ap (slot_at (owns owner i q)) none ∙ free_at (owns owner i q)
 
   pub stays_idle : (d : Deed) → Talks owner i mine out theirs (taken_by d ++ inn) ph → MayDo own i mine d → (q : Key) → own q ≡ false → ph q ≡ Nothing → phase_after ph d q ≡ Nothing
-  stays_idle (Propose k e) t may q off none = elim (cases_key k q) [ inl e1 ↦ not_own k q e1 may.0 off | inr ne ↦ set_other ph k (Proposed e) q ne ∙ none ]
-  stays_idle (Close k e) t may q off none = elim (cases_key k q) [ inl e1 ↦ (let bad : Free ≡ Live e = sym (free_there k q e1 t none) ∙ may in absurd (cc)) | inr ne ↦ set_other ph k (Asked e) q ne ∙ none ]
+  stays_idle (Propose k e) t may q off none = elim (cases_key k q) [ inl e1 ↦ not_own k q e1 may.0 off | inr ne ↦ set_other ph k (Proposed false e) q ne ∙ none ]
+  stays_idle (Close k e) t may q off none = elim (cases_key k q) [ inl e1 ↦ (let bad : Free ≡ Live e = sym (free_there k q e1 t none) ∙ may in absurd (cc)) | inr ne ↦ set_other ph k (Asked false e) q ne ∙ none ]
   stays_idle (Use k e) t may q off none = none
-  stays_idle (Agree k e) t may q off none = elim (cases_key k q) [ inl e1 ↦ stands k (Install k e) t (self owner k) (ap ph e1 ∙ none) | inr ne ↦ set_other ph k (Accepted e) q ne ∙ none ]
+  stays_idle (Mark k e) t may q off none = elim (cases_key k q) [
+    | inl e1 ↦ elim may [ inl h ↦ (let bad : Free ≡ Pending false e = sym (free_there k q e1 t none) ∙ h in absurd (cc)) | inr h ↦ (let bad : Free ≡ Closing false e = sym (free_there k q e1 t none) ∙ h in absurd (cc)) ]
+    | inr ne ↦ set_other ph k (set_apart (ph k)) q ne ∙ none
+  ]
+  stays_idle (MakeAlone k e) t may q off none = elim (cases_key k q) [ inl e1 ↦ not_own k q e1 may.0 off | inr ne ↦ set_other ph k (Apart e) q ne ∙ none ]
+  stays_idle (Report k e) t may q off none = elim (cases_key k q) [ inl e1 ↦ (let bad : Free ≡ Alone e = sym (free_there k q e1 t none) ∙ may in absurd (cc)) | inr ne ↦ set_other ph k (Told e) q ne ∙ none ]
+  stays_idle (DropAlone k e) t may q off none = elim (cases_key k q) [ inl e1 ↦ (let bad : Free ≡ Alone e = sym (free_there k q e1 t none) ∙ may in absurd (cc)) | inr ne ↦ set_other ph k (Nothing) q ne ∙ none ]
+  stays_idle (Agree k e) t may q off none = elim (cases_key k q) [ inl e1 ↦ stands k (Install k e) t (self owner k) (ap ph e1 ∙ none) | inr ne ↦ set_other ph k (accept (ph k)) q ne ∙ none ]
   stays_idle (Yield k e m) t may q off none = elim (cases_key k q) [
     | inl e1 ↦ stands k (Install k e) t (self owner k) (ap ph e1 ∙ none)
-    | inr ne ↦ set_other (set_at ph m (give_up (ph m))) k (Accepted e) q ne ∙ elim (cases_key m q) [ inl e2 ↦ (let bad : Free ≡ Pending e = sym (free_there m q e2 t none) ∙ may.2 in absurd (cc)) | inr nm ↦ set_other ph m (give_up (ph m)) q nm ∙ none ]
+    | inr ne ↦ set_other (set_at ph m (give_up (ph m))) k (accept (ph k)) q ne ∙ elim (cases_key m q) [ inl e2 ↦ (let bad : Free ≡ Pending false e = sym (free_there m q e2 t none) ∙ may.2 in absurd (cc)) | inr nm ↦ set_other ph m (give_up (ph m)) q nm ∙ none ]
   ]
   stays_idle (Reject k e) t may q off none = elim (cases_key k q) [ inl e1 ↦ stands k (Install k e) t (self owner k) (ap ph e1 ∙ none) | inr ne ↦ set_other ph k (refuse (ph k)) q ne ∙ none ]
+  stays_idle (Adopt k e) t may q off none = elim (cases_key k q) [ inl e1 ↦ stands k (Tell k e) t (self owner k) (ap ph e1 ∙ none) | inr ne ↦ set_other ph k (Accepted true e) q ne ∙ none ]
+  stays_idle (Decline k e) t may q off none = elim (cases_key k q) [ inl e1 ↦ stands k (Tell k e) t (self owner k) (ap ph e1 ∙ none) | inr ne ↦ set_other ph k (Refused true e) q ne ∙ none ]
   stays_idle (Agreed k e) t may q off none = elim (cases_key k q) [ inl e1 ↦ stands k (Accept k) t (self owner k) (ap ph e1 ∙ none) | inr ne ↦ set_other ph k (Shared e) q ne ∙ none ]
   stays_idle (Rejected k) t may q off none = elim (cases_key k q) [ inl e1 ↦ stands k (Refuse k) t (self owner k) (ap ph e1 ∙ none) | inr ne ↦ set_other ph k (Nothing) q ne ∙ none ]
-  stays_idle (Leave k e) t may q off none = elim (cases_key k q) [ inl e1 ↦ stands k (Ask k) t (self owner k) (ap ph e1 ∙ none) | inr ne ↦ set_other ph k (Leaving e) q ne ∙ none ]
-  stays_idle (Stay k e) t may q off none = elim (cases_key k q) [ inl e1 ↦ stands k (Ask k) t (self owner k) (ap ph e1 ∙ none) | inr ne ↦ set_other ph k (Staying e) q ne ∙ none ]
+  stays_idle (Rebuffed k e) t may q off none = elim (cases_key k q) [ inl e1 ↦ stands k (Refuse k) t (self owner k) (ap ph e1 ∙ none) | inr ne ↦ set_other ph k (Apart e) q ne ∙ none ]
+  stays_idle (Leave k e) t may q off none = elim (cases_key k q) [ inl e1 ↦ stands k (Ask k) t (self owner k) (ap ph e1 ∙ none) | inr ne ↦ set_other ph k (leave (ph k)) q ne ∙ none ]
+  stays_idle (Stay k e) t may q off none = elim (cases_key k q) [ inl e1 ↦ stands k (Ask k) t (self owner k) (ap ph e1 ∙ none) | inr ne ↦ set_other ph k (stay (ph k)) q ne ∙ none ]
   stays_idle (Left k e) t may q off none = elim (cases_key k q) [ inl e1 ↦ stands k (Yes k) t (self owner k) (ap ph e1 ∙ none) | inr ne ↦ set_other ph k (Nothing) q ne ∙ none ]
+  stays_idle (Parted k e) t may q off none = elim (cases_key k q) [ inl e1 ↦ stands k (Yes k) t (self owner k) (ap ph e1 ∙ none) | inr ne ↦ set_other ph k (Apart e) q ne ∙ none ]
   stays_idle (Stayed k e) t may q off none = elim (cases_key k q) [ inl e1 ↦ stands k (No k) t (self owner k) (ap ph e1 ∙ none) | inr ne ↦ set_other ph k (Shared e) q ne ∙ none ]
   stays_idle (Pass k) t may q off none = none
   stays_idle (Skip x) t may q off none = none

@@ -25,5 +25,4 @@ changes_hands owner owner2 ph i table fl m moved = record {
     | inl none ↦ m.flights k ∙ ap (flight_at (owns owner i k) k) none ∙ none_at (owns owner i k) k ∙ sym (ap (flight_at (owns owner2 i k) k) none ∙ none_at (owns owner2 i k) k)
     | inr same ↦ m.flights k ∙ ap (λ b. flight_at b k (ph k)) same
   ];
-  one_each = m.one_each;
 }

@@ -1,7 +1,7 @@
 -- A synced gateway hears a greater boot of its peer.
-use Rattle.std.proofs.Common.{◌≡◌, ℕ, suc, length, Bool, true, false, not, ◌&&◌, ◌+◌, cond, List, [], ◌∷◌, ◌++◌, ◌<◌, ◌≤◌, IsTrue, Option, Some, None, refl, sym, ap, subst, ◌∙◌, inl, inr, ◌⊎◌, append-nil, arith, le_refl}
+use Rattle.std.proofs.Common.{◌≡◌, ℕ, suc, length, Bool, true, false, not, ◌&&◌, ◌||◌, ◌+◌, cond, List, [], ◌∷◌, ◌++◌, ◌<◌, ◌≤◌, IsTrue, Option, Some, None, refl, sym, ap, subst, ◌∙◌, inl, inr, append-nil, arith, le_refl}
 use Rattle.std.proofs.lemmas.Bool.{both_ways, cases_Bool, and_from, and_right}
-use Rattle.nat_types.proofs.Offered.{same-self, pair-eq, pair-self}
+use Rattle.nat_types.proofs.Offered.{same-self, same-eq, pair-eq, pair-self}
 use Rattle.nat_types.specs.Same.{same, other, same_pair}
 use Rattle.nat_types.specs.declared.gateways.GatewayId.{GatewayId}
 use Rattle.nat_types.specs.declared.gateways.GatewayId.TheVariants.{Zero, One}
@@ -9,23 +9,23 @@ use Rattle.nat_types.specs.declared.notes.Note.{Note}
 use Rattle.nat_types.specs.declared.pairs.Endpoint.{Endpoint}
 use Rattle.nat_types.specs.declared.pairs.Key.{Key}
 use Rattle.nat_types.specs.declared.pairs.Pair.{Pair}
-use Rattle.spec_trace.specs.Past.{is_synced, is_open, goes_on, Fits, Silent}
+use Rattle.spec_trace.specs.Past.{is_synced, is_open, goes_on, is_private, was_alone, OnePort, OneEndpoint, Silent}
 use Rattle.spec_pair.specs.Acts.{Hear, PeerOff}
-use Rattle.spec_pair.specs.Box.{Box, Letter, In, nth, empty, load, mirrored, revived, is_back, retakes, hears, put_off, batch}
+use Rattle.spec_pair.specs.Box.{Box, Letter, Parcel, In, nth, empty, load, mirrored, revived, is_back, retakes, hears, put_off, batch}
 use Rattle.spec_pair.proofs.Beside.{side_beside}
 use Rattle.spec_pair.proofs.Invariant.{bit, gifts, View, Awaits, Side, Inv, is_proper}
-use Rattle.spec_pair.proofs.Phase.{owns, Phase, Nothing, Shared, shared, closing, is_given_up, slot_at, flight_at}
+use Rattle.spec_pair.proofs.Phase.{owns, Phase, Nothing, Accepted, Shared, shared, named, single, owner_slot, alone_in, closing, is_given_up, slot_at, flight_at}
 use Rattle.spec_pair.specs.Ownership.{Ranges, Run, keyed, left_to}
-use Rattle.spec_pair.specs.Talk.{Slot, Free, Pending, Doomed, Live, Closing, Held, held, translated}
-use Rattle.spec_pair.proofs.Traced.{GoesAt}
+use Rattle.spec_pair.specs.Talk.{Slot, Free, Pending, Doomed, Live, Closing, Held, Alone, held, pair_of, translated}
+use Rattle.spec_pair.proofs.Traced.{GoesAt, PrivateAt}
 use Rattle.spec_pair.specs.World.{Scene, Can, after_act}
 use Rattle.spec_pair.proofs.Acts.{same-not}
-use Rattle.spec_pair.proofs.Covers.{goes_other}
+use Rattle.spec_pair.proofs.Covers.{goes_other, private_other, or_flip, still}
 use Rattle.spec_pair.proofs.Grants.{proper-phase}
 use Rattle.spec_pair.proofs.Granting.{bit_true, bit_false}
-use Rattle.spec_pair.proofs.Inversions.{shared_slot}
+use Rattle.spec_pair.proofs.Inversions.{shared_slot, held_named, alone_held, covered_cases, covered_shared, some_or_none, one_some, none_some}
 use Rattle.spec_pair.proofs.HandOver.{free_at}
-use Rattle.spec_pair.proofs.Set.{cases_endpoint}
+use Rattle.spec_pair.proofs.Set.{cases_endpoint, cases_gateway, other-owns}
 
 flag : {A : Type 0} (b : Bool) → b ≡ true → b ≡ false → A
 flag b h g = absurd (both_ways b g h)
@@ -37,11 +37,12 @@ renewed (Some e) = Shared e
 
 held-revived : (s : Slot) → held (revived s) ≡ held s
 held-revived Free = refl
-held-revived (Pending e) = refl
+held-revived (Pending m e) = refl
 held-revived (Doomed e) = refl
 held-revived (Live e) = refl
-held-revived (Closing e) = refl
+held-revived (Closing m e) = refl
 held-revived (Held e) = refl
+held-revived (Alone e) = refl
 
 shared-renewed : (o : Option Endpoint) → shared (renewed o) ≡ o
 shared-renewed None = refl
@@ -63,17 +64,19 @@ quiet-renewed false k (Some e) = refl
 
 slot-renewed : (own : Bool) (s : Slot) → is_proper own s ≡ true → revived s ≡ slot_at own (renewed (held (revived s)))
 slot-renewed true Free h = refl
-slot-renewed true (Pending e) h = refl
+slot-renewed true (Pending m e) h = refl
 slot-renewed true (Doomed e) h = refl
 slot-renewed true (Live e) h = refl
-slot-renewed true (Closing e) h = refl
+slot-renewed true (Closing m e) h = refl
 slot-renewed true (Held e) h = absurd (cc)
+slot-renewed true (Alone e) h = refl
 slot-renewed false Free h = refl
-slot-renewed false (Pending e) h = absurd (cc)
+slot-renewed false (Pending m e) h = absurd (cc)
 slot-renewed false (Doomed e) h = absurd (cc)
 slot-renewed false (Live e) h = absurd (cc)
-slot-renewed false (Closing e) h = absurd (cc)
+slot-renewed false (Closing m e) h = absurd (cc)
 slot-renewed false (Held e) h = refl
+slot-renewed false (Alone e) h = absurd (cc)
 
 mirrored-renewed : (own : Key → Bool) (k : Key) (o : Option Endpoint) → mirrored own k o ≡ slot_at (own k) (renewed o)
 mirrored-renewed own k None = elim (own k) as (λ b. Free ≡ cond b Free Free) [ true ↦ refl | false ↦ refl ]
@@ -85,30 +88,57 @@ held-renewed true (Some e) = refl
 held-renewed false None = refl
 held-renewed false (Some e) = refl
 
+named-renewed : (o : Option Endpoint) → named (renewed o) ≡ o
+named-renewed None = refl
+named-renewed (Some e) = refl
+
+single-renewed : (o : Option Endpoint) → single (renewed o) ≡ None
+single-renewed None = refl
+single-renewed (Some e) = refl
+
+never_accepted : (o : Option Endpoint) (n : Endpoint) → renewed o ≡ Accepted false n → ⊥
+never_accepted None n h = cc
+never_accepted (Some e) n h = cc
+
 -- a pair that comes back translates at the peer's restart
 back-translated : (s : Slot) (e : Endpoint) → is_back s ≡ Some e → translated (revived s) ≡ Some e
-back-translated Free e h = absurd (cc)
-back-translated (Pending n) e h = h
-back-translated (Doomed n) e h = absurd (cc)
-back-translated (Live n) e h = absurd (cc)
-back-translated (Closing n) e h = h
-back-translated (Held n) e h = absurd (cc)
+back-translated (Pending m n) e h = h
+back-translated (Closing m n) e h = h
+back-translated (Alone n) e h = h
+back-translated s e h = absurd (cc)
 
 not_back : (s : Slot) → is_back s ≡ None → translated (revived s) ≡ translated s
-not_back Free h = refl
-not_back (Pending e) h = absurd (cc)
-not_back (Doomed e) h = refl
-not_back (Live e) h = refl
-not_back (Closing e) h = absurd (cc)
-not_back (Held e) h = refl
+not_back (Pending m e) h = absurd (cc)
+not_back (Closing m e) h = absurd (cc)
+not_back (Alone e) h = absurd (cc)
+not_back s h = refl
 
-back_out : (s : Slot) (e : Endpoint) → is_back s ≡ Some e → translated s ≡ None
-back_out Free e h = absurd (cc)
-back_out (Pending n) e h = refl
-back_out (Doomed n) e h = absurd (cc)
-back_out (Live n) e h = absurd (cc)
-back_out (Closing n) e h = refl
-back_out (Held n) e h = absurd (cc)
+back_used : (s : Slot) (e n : Endpoint) → is_back s ≡ Some e → translated s ≡ Some n → n ≡ e
+back_used (Pending true x) e n h g = one_some n e (sym g ∙ h)
+back_used (Pending false x) e n h g = absurd (cc)
+back_used (Closing true x) e n h g = one_some n e (sym g ∙ h)
+back_used (Closing false x) e n h g = absurd (cc)
+back_used (Alone x) e n h g = one_some n e (sym g ∙ h)
+back_used s e n h g = absurd (cc)
+
+-- nothing is alone or marked after the peer's restart
+none_alone : (s : Slot) → alone_in (revived s) ≡ None
+none_alone Free = refl
+none_alone (Pending m e) = refl
+none_alone (Doomed e) = refl
+none_alone (Live e) = refl
+none_alone (Closing m e) = refl
+none_alone (Held e) = refl
+none_alone (Alone e) = refl
+
+-- what was alone or marked comes back
+alone_back : (s : Slot) (e : Endpoint) → alone_in s ≡ Some e → is_back s ≡ Some e
+alone_back (Pending true n) e h = h
+alone_back (Pending false n) e h = absurd (cc)
+alone_back (Closing true n) e h = h
+alone_back (Closing false n) e h = absurd (cc)
+alone_back (Alone n) e h = h
+alone_back s e h = absurd (cc)
 
 pub synced-retakes : (moment : ℕ) (j i : GatewayId) (ps : List Pair) (t : List Note) → is_synced j (retakes i moment ps ++ t) ≡ is_synced j t
 synced-retakes moment j i [] t = refl
@@ -118,9 +148,47 @@ open-retakes : (moment : ℕ) (q : Pair) (i : GatewayId) (ps : List Pair) (t : L
 open-retakes moment q i [] t = refl
 open-retakes moment q i (p ∷ ps) t = open-retakes moment q i ps t
 
-fits-retakes : (moment : ℕ) (i : GatewayId) (ps : List Pair) (t : List Note) → Fits t → Fits (retakes i moment ps ++ t)
-fits-retakes moment i [] t h = h
-fits-retakes moment i (p ∷ ps) t h = (tt, fits-retakes moment i ps t h)
+port-retakes : (moment : ℕ) (i : GatewayId) (ps : List Pair) (t : List Note) → OnePort t → OnePort (retakes i moment ps ++ t)
+port-retakes moment i [] t h = h
+port-retakes moment i (p ∷ ps) t h = (tt, port-retakes moment i ps t h)
+
+endpoint-retakes : (moment : ℕ) (i : GatewayId) (ps : List Pair) (t : List Note) → OneEndpoint t → OneEndpoint (retakes i moment ps ++ t)
+endpoint-retakes moment i [] t h = h
+endpoint-retakes moment i (p ∷ ps) t h = (tt, endpoint-retakes moment i ps t h)
+
+alone-retakes : (moment : ℕ) (q : Pair) (i : GatewayId) (ps : List Pair) (t : List Note) → was_alone q (retakes i moment ps ++ t) ≡ was_alone q t
+alone-retakes moment q i [] t = refl
+alone-retakes moment q i (p ∷ ps) t = alone-retakes moment q i ps t
+
+either-retakes : (moment : ℕ) (p q : Pair) (i : GatewayId) (ps : List Pair) (t : List Note) → IsTrue (was_alone p t || was_alone q t) → IsTrue (was_alone p (retakes i moment ps ++ t) || was_alone q (retakes i moment ps ++ t))
+either-retakes moment p q i ps t h = ap (λ b. b || was_alone q (retakes i moment ps ++ t)) (alone-retakes moment p i ps t) ∙ ap (λ b. was_alone p t || b) (alone-retakes moment q i ps t) ∙ h
+
+private_other-retakes : (moment : ℕ) (j i : GatewayId) (table : Key → Slot) (ps : List Pair) (t : List Note) → same j i ≡ false → PrivateAt j table t → PrivateAt j table (retakes i moment ps ++ t)
+private_other-retakes moment j i table [] t s g = g
+private_other-retakes moment j i table (p ∷ ps) t s g = (private_other moment j i table (retakes i moment ps ++ t) p s (private_other-retakes moment j i table ps t s g)).1
+
+-- a pair that is taken over is private no more
+private-off : (moment : ℕ) (i : GatewayId) (q : Pair) (ps : List Pair) (t : List Note) → In q ps → is_private i q (retakes i moment ps ++ t) ≡ false
+private-off moment i q [] t h = absurd h
+private-off moment i q (p ∷ ps) t h = elim h [
+  | inl e ↦ ap (λ b. cond b false (is_private i q (retakes i moment ps ++ t))) (and_from (same i i) (same_pair q p) (same-self i) (ap (same_pair q) (sym e) ∙ pair-self q))
+  | inr r ↦ elim (same i i && same_pair q p) as (λ b. cond b false (is_private i q (retakes i moment ps ++ t)) ≡ false) [ true ↦ refl | false ↦ private-off moment i q ps t r ]
+]
+
+private-was : (moment : ℕ) (i : GatewayId) (q : Pair) (ps : List Pair) (t : List Note) → is_private i q (retakes i moment ps ++ t) ≡ true → is_private i q t ≡ true
+private-was moment i q [] t h = h
+private-was moment i q (p ∷ ps) t h = private-was moment i q ps t (still (same i i && same_pair q p) (is_private i q (retakes i moment ps ++ t)) h)
+
+-- nothing is private to a gateway that has taken over all that it had alone or marked
+private-revived : (moment : ℕ) (i : GatewayId) (table : Key → Slot) (back : List Pair) (t : List Note) → PrivateAt i table t
+    → ((p : Pair) → (In p back → is_back (table p.key) ≡ Some p.endpoint) × (is_back (table p.key) ≡ Some p.endpoint → In p back))
+    → PrivateAt i (λ k. revived (table k)) (retakes i moment back ++ t)
+private-revived moment i table back t g exact p = (
+  λ h.
+      let was : alone_in (table p.key) ≡ Some p.endpoint = (g p).0 (private-was moment i p back t h) in
+      absurd (both_ways (is_private i p (retakes i moment back ++ t)) (private-off moment i p back t ((exact p).1 (alone_back (table p.key) p.endpoint was))) h),
+  λ h. absurd (none_some (alone_in (revived (table p.key))) p.endpoint (none_alone (table p.key)) h),
+)
 
 silent-retakes : (moment : ℕ) (i : GatewayId) (ps : List Pair) (t : List Note) → Silent t → Silent (retakes i moment ps ++ t)
 silent-retakes moment i [] t h = h
@@ -145,13 +213,6 @@ goes-out moment i q (p ∷ ps) t h = elim (cases_Bool (same_pair q p)) [
   | inr ne ↦ ap (λ b. cond b true (goes_on i q (retakes i moment ps ++ t))) (and_right (same i i) (same_pair q p) ne) ∙ goes-out moment i q ps t (λ r. h (inr r))
 ]
 
-some_or_none : (o : Option Endpoint) → (o ≡ None) ⊎ ((e : Endpoint) × (o ≡ Some e))
-some_or_none None = inl refl
-some_or_none (Some e) = inr (e, refl)
-
-one_some : {A : Type 0} (a b : A) → Some a ≡ Some b → a ≡ b
-one_some a b h = cc
-
 goes-revived : (moment : ℕ) (i : GatewayId) (table : Key → Slot) (back : List Pair) (t : List Note) → GoesAt i table t
     → ((p : Pair) → (In p back → is_back (table p.key) ≡ Some p.endpoint) × (is_back (table p.key) ≡ Some p.endpoint → In p back))
     → GoesAt i (λ k. revived (table k)) (retakes i moment back ++ t)
@@ -170,7 +231,7 @@ goes-revived moment i table back t g exact p = elim (some_or_none (is_back (tabl
     | inr ne ↦
         let out : In p back → ⊥ = λ h. let e : Some some.0 ≡ Some p.endpoint = sym some.1 ∙ (exact p).0 h in ne (one_some some.0 p.endpoint e) in (
           λ h. let old : translated (table p.key) ≡ Some p.endpoint = (g p).0 (sym (goes-out moment i p back t out) ∙ h) in
-              let bad : None ≡ Some p.endpoint = sym (back_out (table p.key) some.0 some.1) ∙ old in absurd (cc),
+              absurd (ne (sym (back_used (table p.key) some.0 p.endpoint some.1 old))),
           λ h. let e : Some some.0 ≡ Some p.endpoint = sym (back-translated (table p.key) some.0 some.1) ∙ h in absurd (ne (one_some some.0 p.endpoint e)),
         )
   ]
@@ -183,6 +244,16 @@ mine_by Zero false = refl
 mine_by One true = refl
 mine_by One false = refl
 
+one_side : (i : GatewayId) (a b : Bool) → cond a i (other i) ≡ cond b i (other i) → a ≡ b
+one_side Zero true true h = refl
+one_side Zero true false h = absurd (cc)
+one_side Zero false true h = absurd (cc)
+one_side Zero false false h = refl
+one_side One true true h = refl
+one_side One true false h = absurd (cc)
+one_side One false true h = absurd (cc)
+one_side One false false h = refl
+
 theirs_by : (i : GatewayId) (b : Bool) → same (other i) (cond b i (other i)) ≡ not b
 theirs_by Zero true = refl
 theirs_by Zero false = refl
@@ -191,11 +262,12 @@ theirs_by One false = refl
 
 pub proper-revived : (own : Bool) (s : Slot) → is_proper own s ≡ true → is_proper own (revived s) ≡ true
 proper-revived own Free h = refl
-proper-revived own (Pending e) h = h
+proper-revived own (Pending m e) h = h
 proper-revived own (Doomed e) h = refl
 proper-revived own (Live e) h = h
-proper-revived own (Closing e) h = h
+proper-revived own (Closing m e) h = h
 proper-revived own (Held e) h = h
+proper-revived own (Alone e) h = h
 
 -- a port of the ranges is owned by one of the two, and no other port by anyone
 split : (own inside : Bool) → (own ≡ true → inside ≡ true) → bit own + (bit (inside && not own) + 0) ≡ bit inside
@@ -220,8 +292,10 @@ module _ (r : Ranges) where
     pub proper : (k : Key) → is_proper (keyed a.owned k) (a.table k) ≡ true
     pub within : (p : ℕ) → a.owned p ≡ true → r.in_ranges p ≡ true
     pub nowhere : (k : Key) → keyed r.in_ranges k ≡ false → a.table k ≡ Free
-    pub one_each : (k q : Key) (e : Endpoint) → held (a.table k) ≡ Some e → held (a.table q) ≡ Some e → k ≡ q
-    pub covers : (p : Pair) → IsTrue (is_open p t) → held (a.table p.key) ≡ Some p.endpoint
+    pub one_each : (k q : Key) (e : Endpoint) → keyed a.owned k ≡ keyed a.owned q → held (a.table k) ≡ Some e → held (a.table q) ≡ Some e → k ≡ q
+    pub two : (k q : Key) (e : Endpoint) → (k ≡ q → ⊥) → held (a.table k) ≡ Some e → held (a.table q) ≡ Some e → IsTrue (was_alone (pair_of k e) t || was_alone (pair_of q e) t)
+    -- while the other isn't synced, the gateway has each open pair
+    pub covers : is_synced (other i) t ≡ false → (p : Pair) → IsTrue (is_open p t) → held (a.table p.key) ≡ Some p.endpoint
 
   view_proper : (i : GatewayId) (a b : Box) (mb : List Letter) (t : List Note) (x : View r i a b mb t) (k : Key) → is_proper (keyed a.owned k) (a.table k) ≡ true
   view_proper i a b mb t x k = elim (cases_Bool (keyed a.owned k)) [
@@ -247,15 +321,67 @@ module _ (r : Ranges) where
       let theirs : x.their_owned k.port.0 ≡ false = bit_false (x.their_owned k.port.0) (omega arith) in
       x.talks.here.slots k ∙ ap (slot_at (owns x.owner i k)) (x.ports.nobody k mine theirs) ∙ free_at (owns x.owner i k)
 
+  -- where the table has a pair, the ghost owner of its key is the gateway exactly where it owns the port
+  ghost_owns : (i : GatewayId) (a b : Box) (mb : List Letter) (t : List Note) (x : View r i a b mb t) (k : Key) (e : Endpoint) → held (a.table k) ≡ Some e → owns x.owner i k ≡ keyed a.owned k
+  ghost_owns i a b mb t x k e h = elim (cases_Bool (keyed a.owned k)) [
+    | inl o ↦ x.ports.mine_is k o ∙ sym o
+    | inr o ↦ elim (cases_Bool (keyed x.their_owned k)) [
+      | inl g ↦ x.ports.theirs_is k g ∙ sym o
+      | inr g ↦
+          let free : a.table k ≡ Free = x.talks.here.slots k ∙ ap (slot_at (owns x.owner i k)) (x.ports.nobody k o g) ∙ free_at (owns x.owner i k) in
+          let bad : None ≡ Some e = sym (ap held free) ∙ h in absurd (cc)
+    ]
+  ]
+
+  one_owner : (i g h : GatewayId) → same i g ≡ same i h → g ≡ h
+  one_owner Zero Zero Zero e = refl
+  one_owner Zero Zero One e = absurd (cc)
+  one_owner Zero One Zero e = absurd (cc)
+  one_owner Zero One One e = refl
+  one_owner One Zero Zero e = refl
+  one_owner One Zero One e = absurd (cc)
+  one_owner One One Zero e = absurd (cc)
+  one_owner One One One e = refl
+
+  pub view_named : (i : GatewayId) (a b : Box) (mb : List Letter) (t : List Note) (x : View r i a b mb t) (k : Key) (e : Endpoint) → held (a.table k) ≡ Some e → named (x.phase k) ≡ Some e
+  view_named i a b mb t x k e h = held_named (owns x.owner i k) (x.phase k) e (ap held (sym (x.talks.here.slots k)) ∙ h)
+
+  view_one : (i : GatewayId) (a b : Box) (mb : List Letter) (t : List Note) (x : View r i a b mb t) (k q : Key) (e : Endpoint) → keyed a.owned k ≡ keyed a.owned q → held (a.table k) ≡ Some e → held (a.table q) ≡ Some e → k ≡ q
+  view_one i a b mb t x k q e alike h g = x.talks.one_each k q e (one_owner i (x.owner k) (x.owner q) (ghost_owns i a b mb t x k e h ∙ alike ∙ sym (ghost_owns i a b mb t x q e g))) (view_named i a b mb t x k e h) (view_named i a b mb t x q e g)
+
+  pub view_two : (i : GatewayId) (a b : Box) (mb : List Letter) (t : List Note) (x : View r i a b mb t) (k q : Key) (e : Endpoint) → (k ≡ q → ⊥) → held (a.table k) ≡ Some e → held (a.table q) ≡ Some e → IsTrue (was_alone (pair_of k e) t || was_alone (pair_of q e) t)
+  view_two i a b mb t x k q e ne h g = elim (cases_gateway (x.owner k) (x.owner q)) [
+    | inl alike ↦ absurd (ne (x.talks.one_each k q e alike (view_named i a b mb t x k e h) (view_named i a b mb t x q e g)))
+    | inr far ↦ elim (cases_Bool (owns x.owner i q)) [
+      | inr off ↦ x.two k q e far (view_named i a b mb t x k e h) (ap held (sym (x.talks.here.slots q ∙ ap (λ c. slot_at c (x.phase q)) off)) ∙ g)
+      | inl own ↦ elim (cases_Bool (owns x.owner i k)) [
+        | inl both ↦ absurd (far (one_owner i (x.owner k) (x.owner q) (both ∙ sym own)))
+        | inr off ↦ or_flip (was_alone (pair_of q e) t) (was_alone (pair_of k e) t) (x.two q k e (λ z. far (sym z)) (view_named i a b mb t x q e g) (ap held (sym (x.talks.here.slots k ∙ ap (λ c. slot_at c (x.phase k)) off)) ∙ h))
+      ]
+    ]
+  ]
+
+  view_covers : (i : GatewayId) (a b : Box) (mb : List Letter) (t : List Note) (x : View r i a b mb t) → is_synced (other i) t ≡ false → (p : Pair) → IsTrue (is_open p t) → held (a.table p.key) ≡ Some p.endpoint
+  view_covers i a b mb t x off p o = elim (covered_cases (is_synced (x.owner p.key) t) (x.phase p.key) p.endpoint (x.covers p o)) [
+    | inl both ↦ ap held (x.talks.here.slots p.key) ∙ shared_slot (owns x.owner i p.key) (x.phase p.key) p.endpoint both
+    | inr one ↦ elim (cases_Bool (owns x.owner i p.key)) [
+      | inl own ↦ ap held (x.talks.here.slots p.key ∙ ap (λ c. slot_at c (x.phase p.key)) own) ∙ alone_held (owner_slot (x.phase p.key)) p.endpoint one.2
+      | inr not_own ↦
+          let theirs : other i ≡ x.owner p.key = same-eq (other i) (x.owner p.key) (other-owns x.owner i p.key ∙ ap not not_own) in
+          absurd (both_ways (is_synced (x.owner p.key) t) (ap (λ g. is_synced g t) (sym theirs) ∙ off) one.1)
+    ]
+  ]
+
   pub known_of : (i : GatewayId) (a b : Box) (ma mb : List Letter) (t : List Note) → Side r i a b ma mb t → a.synced ≡ true → Known i a b t
   known_of i a b ma mb t side sa = elim (side.state sa) [
-    | inl x ↦ record { proper = x.proper; within = x.within; nowhere = x.nowhere; one_each = x.one_each; covers = x.covers }
+    | inl x ↦ record { proper = x.proper; within = x.within; nowhere = x.nowhere; one_each = x.one_each; two = x.two; covers = λ off. x.covers }
     | inr x ↦ record {
       proper = view_proper i a b mb t x;
       within = view_within i a b mb t x;
       nowhere = view_nowhere i a b mb t x;
-      one_each = x.talks.here.one_each;
-      covers = λ p o. ap held (x.talks.here.slots p.key) ∙ shared_slot (owns x.owner i p.key) (x.phase p.key) p.endpoint (x.covers p o);
+      one_each = view_one i a b mb t x;
+      two = view_two i a b mb t x;
+      covers = view_covers i a b mb t x;
     }
   ]
 
@@ -263,7 +389,7 @@ module _ (r : Ranges) where
   promise_is true n m h = sym (one_some n m h)
   promise_is false n m h = let bad : None ≡ Some m = h in absurd (cc)
 
-  pub inv_hear : (moment : ℕ) (i : GatewayId) (s : Scene) (l : Letter) (back : List Pair) (os : List Run) (ps : List Pair) (part : Bool) → Inv r i s → Can r i s (Hear l back os ps part) → Inv r i (after_act r i moment s (Hear l back os ps part))
+  pub inv_hear : (moment : ℕ) (i : GatewayId) (s : Scene) (l : Letter) (back : List Pair) (os : List Run) (ps : List Parcel) (part : Bool) → Inv r i s → Can r i s (Hear l back os ps part) → Inv r i (after_act r i moment s (Hear l back os ps part))
   inv_hear moment i s l back os ps part v can =
       let here : Side r i s.mine s.theirs s.my_mail s.their_mail s.trace = v.here in
       let there : Side r (other i) s.theirs s.mine s.their_mail s.my_mail s.trace = v.there in
@@ -278,7 +404,8 @@ module _ (r : Ranges) where
       let t2 : List Note = retakes i moment back ++ s.trace in
       let a2 : Box = hears s.mine l.boot os ps part in
       let ph : Key → Phase = λ k. renewed (held (revived (s.mine.table k))) in
-      let one_each : (k q : Key) (e : Endpoint) → held (revived (s.mine.table k)) ≡ Some e → held (revived (s.mine.table q)) ≡ Some e → k ≡ q = λ k q e x y. known.one_each k q e (sym (held-revived (s.mine.table k)) ∙ x) (sym (held-revived (s.mine.table q)) ∙ y) in
+      let named_of : (k : Key) (e : Endpoint) → named (renewed (held (revived (s.mine.table k)))) ≡ Some e → held (s.mine.table k) ≡ Some e = λ k e h. sym (held-revived (s.mine.table k)) ∙ sym (named-renewed (held (revived (s.mine.table k)))) ∙ h in
+      let shared_of : (k : Key) (e : Endpoint) → shared (renewed (held (revived (s.mine.table k)))) ≡ Some e → held (s.mine.table k) ≡ Some e = λ k e h. sym (held-revived (s.mine.table k)) ∙ sym (shared-renewed (held (revived (s.mine.table k)))) ∙ h in
       let owner : Key → GatewayId = λ k. cond (keyed s.mine.owned k) i (other i) in
       let to_own : Key → Bool = keyed (left_to r (other i) os) in
       let nothing : (k : Key) → keyed r.in_ranges k ≡ false → renewed (held (revived (s.mine.table k))) ≡ Nothing = λ k out. ap (λ z. renewed (held (revived z))) (known.nowhere k out) in
@@ -287,7 +414,6 @@ module _ (r : Ranges) where
         | inr out ↦ ap (slot_at (keyed (left_to r (other i) os) k)) (nothing k out) ∙ free_at (keyed (left_to r (other i) os) k) ∙ sym (ap (slot_at (owns (λ k. cond (keyed s.mine.owned k) i (other i)) (other i) k)) (nothing k out) ∙ free_at (owns (λ k. cond (keyed s.mine.owned k) i (other i)) (other i) k))
       ] in
       let theirs_at : (k : Key) → load (keyed (left_to r (other i) os)) empty ps k ≡ slot_at (owns (λ k. cond (keyed s.mine.owned k) i (other i)) (other i) k) (ph k) = λ k. can.0.6 k ∙ mirrored-renewed (keyed (left_to r (other i) os)) k (held (revived (s.mine.table k))) ∙ whose k in
-      let theirs_held : (k : Key) → held (load (keyed (left_to r (other i) os)) empty ps k) ≡ held (revived (s.mine.table k)) = λ k. ap held (theirs_at k) ∙ held-renewed (owns (λ k. cond (keyed s.mine.owned k) i (other i)) (other i) k) (held (revived (s.mine.table k))) in
       let view : View r i a2 s.theirs s.their_mail t2 = record {
         lone = refl;
         phase = ph;
@@ -302,11 +428,13 @@ module _ (r : Ranges) where
         sent = sym (append-nil (batch os ps));
         taken = refl;
         talks = record {
-          here = record { slots = λ k. slot-renewed (keyed s.mine.owned k) (s.mine.table k) (known.proper k) ∙ ap (λ c. slot_at c (renewed (held (revived (s.mine.table k))))) (sym (mine_by i (keyed s.mine.owned k))); flights = λ k. quiet-renewed (owns (λ k. cond (keyed s.mine.owned k) i (other i)) i k) k (held (revived (s.mine.table k))); one_each = one_each };
-          there = record { slots = theirs_at; flights = λ k. quiet-renewed (owns (λ k. cond (keyed s.mine.owned k) i (other i)) (other i) k) k (held (revived (s.mine.table k))); one_each = λ k q e x y. one_each k q e (sym (theirs_held k) ∙ x) (sym (theirs_held q) ∙ y) };
+          here = record { slots = λ k. slot-renewed (keyed s.mine.owned k) (s.mine.table k) (known.proper k) ∙ ap (λ c. slot_at c (renewed (held (revived (s.mine.table k))))) (sym (mine_by i (keyed s.mine.owned k))); flights = λ k. quiet-renewed (owns (λ k. cond (keyed s.mine.owned k) i (other i)) i k) k (held (revived (s.mine.table k))) };
+          there = record { slots = theirs_at; flights = λ k. quiet-renewed (owns (λ k. cond (keyed s.mine.owned k) i (other i)) (other i) k) k (held (revived (s.mine.table k))) };
           excused_out = λ z. tt;
           excused_in = λ z. tt;
           steady = λ k z. steady-renewed (held (revived (s.mine.table k)));
+          one_each = λ k q e alike h g. known.one_each k q e (one_side i (keyed s.mine.owned k) (keyed s.mine.owned q) alike) (named_of k e h) (named_of q e g);
+          beside = λ k q e far h g. never_accepted (held (revived (s.mine.table q))) e g;
         };
         ports = record {
           mine_is = λ k h. mine_by i (keyed s.mine.owned k) ∙ h;
@@ -317,8 +445,10 @@ module _ (r : Ranges) where
           their_wants = refl;
         };
         letters = λ m inside boot to n q h. let none : m.records ≡ [] = here.later sa m inside (omega arith) in let bad : nth [] n ≡ Some q = ap (λ x. nth x n) (sym none) ∙ h in absurd (cc);
-        covers = λ p o. shared-renewed (held (revived (s.mine.table p.key))) ∙ held-revived (s.mine.table p.key) ∙ known.covers p (sym (open-retakes moment p i back s.trace) ∙ o);
+        covers = λ p o. covered_shared (is_synced (cond (keyed s.mine.owned p.key) i (other i)) t2) (renewed (held (revived (s.mine.table p.key)))) p.endpoint (shared-renewed (held (revived (s.mine.table p.key))) ∙ held-revived (s.mine.table p.key) ∙ known.covers (there.synced_is ∙ sb) p (sym (open-retakes moment p i back s.trace) ∙ o));
         lets = λ g z k e own cl. let bad : None ≡ Some e = sym (closing-renewed (held (revived (s.mine.table k)))) ∙ cl in absurd (cc);
+        were = λ k e h. absurd (none_some (single (renewed (held (revived (s.mine.table k))))) e (single-renewed (held (revived (s.mine.table k)))) h);
+        two = λ k q e far h g. either-retakes moment (pair_of k e) (pair_of q e) i back s.trace (known.two k q e (λ z. far (ap (λ x. cond (keyed s.mine.owned x) i (other i)) z)) (named_of k e h) (shared_of q e g));
         real = λ z. flag s.theirs.synced z sb;
         owes = λ m p. (refl, sb);
         loads = λ z u p. record {
@@ -338,13 +468,15 @@ module _ (r : Ranges) where
         };
       } in
       record {
-        fits = fits-retakes moment i back s.trace v.fits;
+        one_port = port-retakes moment i back s.trace v.one_port;
+        one_endpoint = endpoint-retakes moment i back s.trace v.one_endpoint;
         silent = silent-retakes moment i back s.trace v.silent;
         some_synced = inl sa;
         here = record {
           synced_is = synced-retakes moment i i back s.trace ∙ here.synced_is;
           up_synced = here.up_synced;
           goes = λ u. goes-revived moment i s.mine.table back s.trace (here.goes u) can.0.2;
+          private = λ u. private-revived moment i s.mine.table back s.trace (here.private u) can.0.2;
           letters = λ u alone m inside boot to. let le : m.to ≤ s.mine.peer = here.known u m inside boot in absurd (omega arith);
           barred = λ k p m inside boot to. let le : m.to ≤ s.mine.peer = here.known (here.up_synced sa) m inside boot in absurd (omega arith);
           boots = here.boots;
@@ -358,6 +490,7 @@ module _ (r : Ranges) where
         there = side_beside r (other i) s.theirs s.mine _ s.their_mail s.my_mail s.trace _ there refl
             (synced-retakes moment (other i) i back s.trace ∙ there.synced_is)
             (λ u. goes_other-retakes moment (other i) i s.theirs.table back s.trace (same-not i) (there.goes u))
+            (λ u. private_other-retakes moment (other i) i s.theirs.table back s.trace (same-not i) (there.private u))
             (λ z. flag s.theirs.synced z sb)
             (λ z u. let w : Awaits s.theirs s.mine s.my_mail = there.awaits z u in record {
               letters = λ m n q inside to h. let o : (m.boot ≡ s.mine.boot) × (s.mine.peer ≡ s.theirs.boot) = w.letters m n q inside to h in let p : s.mine.peer ≡ s.theirs.boot = o.1 in absurd (omega arith);
@@ -374,13 +507,15 @@ module _ (r : Ranges) where
       let sb : s.theirs.synced ≡ false = elim (cases_Bool s.theirs.synced) [ inl z ↦ flag s.theirs.up (there.up_synced z) down | inr z ↦ z ] in
       let known : Known i s.mine s.theirs s.trace = known_of i s.mine s.theirs s.my_mail s.their_mail s.trace here sa in
       record {
-        fits = fits-retakes moment i back s.trace v.fits;
+        one_port = port-retakes moment i back s.trace v.one_port;
+        one_endpoint = endpoint-retakes moment i back s.trace v.one_endpoint;
         silent = silent-retakes moment i back s.trace v.silent;
         some_synced = inl sa;
         here = record {
           synced_is = synced-retakes moment i i back s.trace ∙ here.synced_is;
           up_synced = here.up_synced;
           goes = λ u. goes-revived moment i s.mine.table back s.trace (here.goes u) exact;
+          private = λ u. private-revived moment i s.mine.table back s.trace (here.private u) exact;
           letters = λ u alone. let bad : true ≡ false = alone sa in absurd (cc);
           barred = λ m p. absurd (cc);
           boots = here.boots;
@@ -394,8 +529,9 @@ module _ (r : Ranges) where
             proper = λ k. proper-revived (keyed s.mine.owned k) (s.mine.table k) (known.proper k);
             within = known.within;
             nowhere = λ k out. ap revived (known.nowhere k out);
-            one_each = λ k q e x y. known.one_each k q e (sym (held-revived (s.mine.table k)) ∙ x) (sym (held-revived (s.mine.table q)) ∙ y);
-            covers = λ p o. held-revived (s.mine.table p.key) ∙ known.covers p (sym (open-retakes moment p i back s.trace) ∙ o);
+            one_each = λ k q e alike x y. known.one_each k q e alike (sym (held-revived (s.mine.table k)) ∙ x) (sym (held-revived (s.mine.table q)) ∙ y);
+            two = λ k q e ne x y. either-retakes moment (pair_of k e) (pair_of q e) i back s.trace (known.two k q e ne (sym (held-revived (s.mine.table k)) ∙ x) (sym (held-revived (s.mine.table q)) ∙ y));
+            covers = λ p o. held-revived (s.mine.table p.key) ∙ known.covers (there.synced_is ∙ sb) p (sym (open-retakes moment p i back s.trace) ∙ o);
             sent = refl;
             unheard = λ u p. absurd (both_ways s.theirs.up down u);
           };
@@ -404,6 +540,7 @@ module _ (r : Ranges) where
         there = side_beside r (other i) s.theirs s.mine _ s.their_mail s.my_mail s.trace _ there refl
             (synced-retakes moment (other i) i back s.trace ∙ there.synced_is)
             (λ u. goes_other-retakes moment (other i) i s.theirs.table back s.trace (same-not i) (there.goes u))
+            (λ u. private_other-retakes moment (other i) i s.theirs.table back s.trace (same-not i) (there.private u))
             (λ z. flag s.theirs.synced z sb)
             (λ z u. flag s.theirs.up u down);
       }

@@ -10,7 +10,7 @@ use Rattle.nat_types.specs.declared.gateways.GatewayId.TheVariants.{Zero, One}
 use Rattle.nat_types.specs.declared.notes.Note.{Note}
 use Rattle.nat_types.specs.declared.pairs.Pair.{Pair}
 use Rattle.spec_pair.specs.Acts.{Send, Hear, HearAnew, box_after}
-use Rattle.spec_pair.specs.Box.{AreBack, AreLoadable, AreMirrored, Box, In, Letter, empty, revived}
+use Rattle.spec_pair.specs.Box.{AreBack, AreLoadable, AreMirrored, Box, In, Letter, Parcel, empty, revived}
 use Rattle.spec_pair.specs.Live.{AreTogether, as_one, hello_of, hello_sent, unheard}
 use Rattle.spec_pair.specs.Ownership.{AreRising, LeaveRest, Ranges, Run, keyed, left_to}
 use Rattle.spec_pair.specs.World.{Can, IsWorld, Scene, after_act, flip, seen_by}
@@ -42,7 +42,7 @@ module _ (r : Ranges) where
   pub heard_anew : (i : GatewayId) (v : Scene) → v.mine.up ≡ true → v.mine.synced ≡ false → v.mine.peer < v.theirs.boot → Can r i (hello_sent v) (HearAnew (hello_of v))
   heard_anew i v up unsynced low = ((up, unsynced, low), reads v, tt)
 
-  pub heard : (i : GatewayId) (v : Scene) (back : List Pair) (os : List Run) (ps : List Pair) (part : Bool) → v.mine.synced ≡ true → v.mine.peer < v.theirs.boot
+  pub heard : (i : GatewayId) (v : Scene) (back : List Pair) (os : List Run) (ps : List Parcel) (part : Bool) → v.mine.synced ≡ true → v.mine.peer < v.theirs.boot
       → AreBack v.mine.table back → AreRising r.in_ranges 0 os → LeaveRest r i v.mine.owned os
       → AreLoadable r (keyed (left_to r (other i) os)) empty ps → AreMirrored (keyed (left_to r (other i) os)) (λ k. revived (v.mine.table k)) ps
       → Can r i (hello_sent v) (Hear (hello_of v) back os ps part)
@@ -59,7 +59,7 @@ module _ (r : Ranges) where
   pub fewer_anew : (i : GatewayId) (moment : ℕ) (v : Scene) → v.mine.peer < v.theirs.boot → unheard (after_act r i moment (hello_sent v) (HearAnew (hello_of v))) < unheard v
   fewer_anew i moment v low = fewer v (box_after r i v.mine (HearAnew (hello_of v))) low refl refl
 
-  pub fewer_heard : (i : GatewayId) (moment : ℕ) (v : Scene) (back : List Pair) (os : List Run) (ps : List Pair) (part : Bool) → v.mine.peer < v.theirs.boot
+  pub fewer_heard : (i : GatewayId) (moment : ℕ) (v : Scene) (back : List Pair) (os : List Run) (ps : List Parcel) (part : Bool) → v.mine.peer < v.theirs.boot
       → unheard (after_act r i moment (hello_sent v) (Hear (hello_of v) back os ps part)) < unheard v
   fewer_heard i moment v back os ps part low = fewer v (box_after r i v.mine (Hear (hello_of v) back os ps part)) low refl refl
 

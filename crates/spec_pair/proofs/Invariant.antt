@@ -1,17 +1,17 @@
 -- The invariant: what holds of each world that can come about.
-use Rattle.std.specs.Prelude.{◌≡◌, ℕ, suc, Bool, true, false, not, cond, List, [], ◌∷◌, ◌++◌, ◌==◌, length, ◌<◌, ◌≤◌, ◌+◌, IsTrue, Some, None, ◌⊎◌}
+use Rattle.std.specs.Prelude.{◌≡◌, ℕ, suc, Bool, true, false, not, ◌||◌, cond, List, [], ◌∷◌, ◌++◌, ◌==◌, length, ◌<◌, ◌≤◌, ◌+◌, IsTrue, Some, None, ◌⊎◌}
 use Rattle.nat_types.specs.Same.{other}
 use Rattle.nat_types.specs.declared.gateways.GatewayId.{GatewayId}
 use Rattle.nat_types.specs.declared.notes.Note.{Note}
 use Rattle.nat_types.specs.declared.pairs.Endpoint.{Endpoint}
 use Rattle.nat_types.specs.declared.pairs.Key.{Key}
 use Rattle.nat_types.specs.declared.pairs.Pair.{Pair}
-use Rattle.spec_trace.specs.Past.{is_synced, is_open, Fits, Silent}
-use Rattle.spec_pair.specs.Box.{Box, Letter, In, nth, empty, load, AreLoadable, batch}
+use Rattle.spec_trace.specs.Past.{is_synced, is_open, was_alone, OnePort, OneEndpoint, Silent}
+use Rattle.spec_pair.specs.Box.{Box, Letter, In, Parcel, nth, empty, load, AreLoadable, batch}
 use Rattle.spec_pair.proofs.Phase.{owns, Phase, Nothing, closing, Talks}
 use Rattle.spec_pair.specs.Ownership.{Ranges, Run, keyed, left_to, last_named, AreRising}
-use Rattle.spec_pair.specs.Talk.{Slot, Free, Pending, Doomed, Live, Closing, Held, held, MachineRecord, Install, Accept, Refuse, Ask, Yes, No, Begin, Put, Done, Want, Grant, Owner}
-use Rattle.spec_pair.proofs.Traced.{Covers, LetsGo, GoesAt}
+use Rattle.spec_pair.specs.Talk.{Slot, Free, Pending, Doomed, Live, Closing, Held, Alone, held, pair_of, MachineRecord, Install, Accept, Refuse, Ask, Yes, No, Begin, Put, Done, Want, Grant, Owner, Tell}
+use Rattle.spec_pair.proofs.Traced.{Covers, LetsGo, GoesAt, PrivateAt, WereAlone, TwoAlone}
 use Rattle.spec_pair.specs.World.{Scene}
 
 -- the letter's records are those of the history, at their numbers
@@ -39,11 +39,12 @@ pub record Real (a b : Box) (table : Key → Slot) (owned : ℕ → Bool) (want 
 -- whether gateway i can have the slot at a port, by whether the port is its own
 abbrev pub is_proper : Bool → Slot → Bool
 is_proper own Free = true
-is_proper own (Pending e) = own
+is_proper own (Pending m e) = own
 is_proper own (Doomed e) = own
 is_proper own (Live e) = own
-is_proper own (Closing e) = own
+is_proper own (Closing m e) = own
 is_proper own (Held e) = not own
+is_proper own (Alone e) = own
 
 -- 1 for true and 0 for false
 abbrev pub bit : Bool → ℕ
@@ -68,6 +69,7 @@ gift p Done = 0
 gift p Want = 0
 gift p (Grant ports) = times p ports
 gift p (Owner first last) = 0
+gift p (Tell k e) = 0
 
 -- how often a port is in the Grants among these records
 abbrev pub gifts : ℕ → List MachineRecord → ℕ
@@ -88,6 +90,7 @@ is_want Done = 0
 is_want Want = 1
 is_want (Grant ports) = 0
 is_want (Owner first last) = 0
+is_want (Tell k e) = 0
 
 -- 1 for a Grant, and 0 for any other record
 abbrev pub is_grant : MachineRecord → ℕ
@@ -103,6 +106,7 @@ is_grant Done = 0
 is_grant Want = 0
 is_grant (Grant ports) = 1
 is_grant (Owner first last) = 0
+is_grant (Tell k e) = 0
 
 -- how many Wants are among these records
 abbrev pub wants_in : List MachineRecord → ℕ
@@ -146,9 +150,9 @@ module _ (r : Ranges) where
     pub named : b.named ≡ last_named 0 front
 
   -- b has taken all runs of the batch, and loaded some of its pairs
-  pub record Part (j : GatewayId) (a b : Box) (os : List Run) (ps : List Pair) : Type 0 where
-    pub front : List Pair
-    pub back : List Pair
+  pub record Part (j : GatewayId) (a b : Box) (os : List Run) (ps : List Parcel) : Type 0 where
+    pub front : List Parcel
+    pub back : List Parcel
     pub whole : ps ≡ front ++ back
     pub peer : b.peer ≡ a.boot
     pub taken : b.taken ≡ suc (length os + length front)
@@ -160,7 +164,7 @@ module _ (r : Ranges) where
   -- the peer is to load these runs and pairs, whose batch is first among the records pushed
   pub record Loads (i : GatewayId) (a b : Box) (phase : Key → Phase) (owner : Key → GatewayId) (table : Key → Slot) (owned : ℕ → Bool) (want : Bool) (gone heard inn : List MachineRecord) : Type 0 where
     pub os : List Run
-    pub ps : List Pair
+    pub ps : List Parcel
     pub batch_is : gone ≡ batch os ps
     pub heard_is : heard ≡ []
     pub inn_is : inn ≡ []
@@ -194,21 +198,24 @@ module _ (r : Ranges) where
     pub talks : Talks owner i a.table out table inn phase
     pub ports : Whereabouts i phase owner a.owned their_owned a.wants their_want out inn
     pub letters : (l : Letter) → In l their_mail → l.boot ≡ a.peer → l.to ≡ a.boot → Within l (heard ++ inn)
-    pub covers : Covers phase t
+    pub covers : Covers owner phase t
     pub lets : (g : GatewayId) → LetsGo owner g phase t
+    pub were : WereAlone phase t
+    pub two : TwoAlone owner phase t
     pub real : b.synced ≡ true → Real a b table their_owned their_want gone heard inn
     -- while records are promised, the peer has pushed nothing
     pub owes : (m : ℕ) → a.promised ≡ Some m → (inn ≡ []) × (b.synced ≡ false)
     pub loads : b.synced ≡ false → b.up ≡ true → a.peer ≡ b.boot → Loads i a b phase owner table their_owned their_want gone heard inn
 
   -- what holds of a lone gateway: its table alone holds each open pair
-  pub record Alone (i : GatewayId) (a b : Box) (t : List Note) : Type 0 where
+  pub record IsLone (i : GatewayId) (a b : Box) (t : List Note) : Type 0 where
     pub lone : a.lone ≡ true
     pub other_out : b.synced ≡ false
     pub proper : (k : Key) → is_proper (keyed a.owned k) (a.table k) ≡ true
     pub within : (p : ℕ) → a.owned p ≡ true → r.in_ranges p ≡ true
     pub nowhere : (k : Key) → keyed r.in_ranges k ≡ false → a.table k ≡ Free
-    pub one_each : (k q : Key) (e : Endpoint) → held (a.table k) ≡ Some e → held (a.table q) ≡ Some e → k ≡ q
+    pub one_each : (k q : Key) (e : Endpoint) → keyed a.owned k ≡ keyed a.owned q → held (a.table k) ≡ Some e → held (a.table q) ≡ Some e → k ≡ q
+    pub two : (k q : Key) (e : Endpoint) → (k ≡ q → ⊥) → held (a.table k) ≡ Some e → held (a.table q) ≡ Some e → IsTrue (was_alone (pair_of k e) t || was_alone (pair_of q e) t)
     pub covers : (p : Pair) → IsTrue (is_open p t) → held (a.table p.key) ≡ Some p.endpoint
     pub sent : a.sent ≡ []
     pub unheard : b.up ≡ true → a.peer ≡ b.boot → ⊥
@@ -218,6 +225,7 @@ module _ (r : Ranges) where
     pub synced_is : is_synced i t ≡ a.synced
     pub up_synced : a.synced ≡ true → a.up ≡ true
     pub goes : a.up ≡ true → GoesAt i a.table t
+    pub private : a.up ≡ true → PrivateAt i a.table t
     pub letters : a.up ≡ true → (a.synced ≡ true → a.lone ≡ false) → (l : Letter) → In l my_mail → l.boot ≡ a.boot → l.to ≡ a.peer → Within l a.sent
     pub boots : (l : Letter) → In l my_mail → (l.boot ≤ a.boot) × (l.to ≤ b.boot)
     -- no letter that was sent has a record that is only promised
@@ -226,12 +234,13 @@ module _ (r : Ranges) where
     pub peer_at : a.peer ≤ b.boot
     pub later : a.synced ≡ true → (l : Letter) → In l their_mail → a.peer < l.boot → l.records ≡ []
     pub quiet : a.synced ≡ false → a.sent ≡ []
-    pub state : a.synced ≡ true → Alone i a b t ⊎ View i a b their_mail t
+    pub state : a.synced ≡ true → IsLone i a b t ⊎ View i a b their_mail t
     pub awaits : a.synced ≡ false → a.up ≡ true → Awaits a b their_mail
 
   -- The invariant: the promises, a synced gateway, and what holds of each of the two.
   pub record Inv (i : GatewayId) (s : Scene) : Type 0 where
-    pub fits : Fits s.trace
+    pub one_port : OnePort s.trace
+    pub one_endpoint : OneEndpoint s.trace
     pub silent : Silent s.trace
     pub some_synced : (s.mine.synced ≡ true) ⊎ (s.theirs.synced ≡ true)
     pub here : Side i s.mine s.theirs s.my_mail s.their_mail s.trace

@@ -1,15 +1,20 @@
 -- The promises hold of each world that can come about.
-use Rattle.std.proofs.Common.{◌≡◌, ℕ, true, ◌||◌, List, [], ◌∷◌, ◌++◌, length, ◌+◌, ◌≤◌, IsTrue, Some, refl, sym, ap, ◌∙◌, inl, inr, ◌↔◌, zero-le, arith}
+use Rattle.std.proofs.Common.{◌≡◌, ℕ, true, false, not, Bool, ◌⊎◌, ◌||◌, List, [], ◌∷◌, ◌++◌, length, ◌+◌, ◌≤◌, IsTrue, Some, refl, sym, ap, ◌∙◌, inl, inr, ◌↔◌, zero-le, arith}
 use Rattle.std.proofs.lemmas.Bool.{and_parts, both_ways, cases_Bool, or_left, or_right}
 use Rattle.nat_types.specs.declared.gateways.GatewayId.{GatewayId}
 use Rattle.nat_types.specs.declared.gateways.GatewayId.TheVariants.{Zero, One}
 use Rattle.nat_types.specs.declared.notes.Note.{Note}
 use Rattle.nat_types.specs.declared.pairs.Pair.{Pair}
-use Rattle.spec_trace.specs.Past.{is_synced, is_open, goes_on}
+use Rattle.spec_trace.specs.Past.{is_synced, is_open, goes_on, is_private, IsHeldApart}
 use Rattle.spec_pair.specs.Acts.{Act, Do, Take, Hear, HandIn, Ignore, HearAnew, PeerOff, LoadBegin, LoadOwner, LoadPut, LoadDone, LoadSkip, WantPorts, GrantPorts, TakePorts, LosePorts, Send, LoneNew, LoneUse, LoneDrop, Crash, Boot}
 use Rattle.spec_pair.specs.Box.{Box, Letter}
 use Rattle.spec_pair.proofs.Invariant.{bit, gifts, Real, View, Side, Inv}
-use Rattle.spec_pair.specs.Ownership.{Ranges}
+use Rattle.spec_pair.specs.Ownership.{Ranges, keyed}
+use Rattle.spec_pair.proofs.Phase.{owns, owner_slot, alone_in, slot_at}
+use Rattle.spec_pair.proofs.Inversions.{covered_cases, shared_slot, alone_held}
+use Rattle.spec_pair.proofs.Set.{other-owns}
+use Rattle.nat_types.specs.Same.{other}
+use Rattle.nat_types.proofs.Offered.{same-eq}
 use Rattle.spec_pair.specs.Talk.{held, MachineRecord}
 use Rattle.spec_pair.proofs.Traced.{GoesAt}
 use Rattle.spec_pair.specs.World.{HasOwners, Scene, flip, Can, after_act, MachineEvent, seen_by, after_event, after_events, AreAllowed, founding, tables_of, TableHolds, TableTranslates, IsKept, both}
@@ -58,13 +63,15 @@ module _ (r : Ranges) where
 
   pub inv_start : Inv r Zero (founding r)
   inv_start = record {
-    fits = tt;
+    one_port = tt;
+    one_endpoint = tt;
     silent = tt;
     some_synced = inl refl;
     here = record {
       synced_is = refl;
       up_synced = λ z. refl;
       goes = λ u p. (λ h. absurd (cc), λ h. absurd (cc));
+      private = λ u p. (λ h. absurd (cc), λ h. absurd (cc));
       letters = λ u alone l inside. absurd inside;
       barred = λ m p. absurd (cc);
       boots = λ l inside. absurd inside;
@@ -72,13 +79,14 @@ module _ (r : Ranges) where
       peer_at = zero-le;
       later = λ z l inside. absurd inside;
       quiet = λ z. refl;
-      state = λ z. inl record { lone = refl; other_out = refl; proper = λ k. refl; within = λ p h. (and_parts (r.in_ranges p) (r.at_start p) h).0; nowhere = λ k h. refl; one_each = λ k q e h. absurd (cc); covers = λ p o. absurd (cc); sent = refl; unheard = λ u. absurd (cc) };
+      state = λ z. inl record { lone = refl; other_out = refl; proper = λ k. refl; within = λ p h. (and_parts (r.in_ranges p) (r.at_start p) h).0; nowhere = λ k h. refl; one_each = λ k q e alike h. absurd (cc); two = λ k q e ne h. absurd (cc); covers = λ p o. absurd (cc); sent = refl; unheard = λ u. absurd (cc) };
       awaits = λ z. absurd (cc);
     };
     there = record {
       synced_is = refl;
       up_synced = λ z. absurd (cc);
       goes = λ u. absurd (cc);
+      private = λ u. absurd (cc);
       letters = λ u. absurd (cc);
       barred = λ m p. absurd (cc);
       boots = λ l inside. absurd inside;
@@ -91,22 +99,67 @@ module _ (r : Ranges) where
     };
   }
 
-  side_holds : (i : GatewayId) (a b : Box) (ma mb : List Letter) (t : List Note) → Side r i a b ma mb t → (p : Pair) → IsTrue (is_open p t) → IsTrue (is_synced i t) → held (a.table p.key) ≡ Some p.endpoint
-  side_holds i a b ma mb t side p o s = (known_of r i a b ma mb t side (sym side.synced_is ∙ s)).covers p o
+  -- what a gateway's side says of an open pair: it holds the pair, or the other gateway has it alone or marked
+  side_holds : (i : GatewayId) (a b : Box) (ma mb : List Letter) (t : List Note) → Side r i a b ma mb t → Side r (other i) b a mb ma t → (p : Pair) → IsTrue (is_open p t) → a.synced ≡ true
+      → (held (a.table p.key) ≡ Some p.endpoint) ⊎ ((is_synced (other i) t ≡ true) × (is_private (other i) p t ≡ true) × (held (b.table p.key) ≡ Some p.endpoint))
+  side_holds i a b ma mb t here there p o sa = elim (here.state sa) [
+    | inl x ↦ inl (x.covers p o)
+    | inr x ↦ elim (covered_cases (is_synced (x.owner p.key) t) (x.phase p.key) p.endpoint (x.covers p o)) [
+      | inl both ↦ inl (ap held (x.talks.here.slots p.key) ∙ shared_slot (owns x.owner i p.key) (x.phase p.key) p.endpoint both)
+      | inr one ↦ elim (cases_Bool (owns x.owner i p.key)) [
+        | inl own ↦ inl (ap held (x.talks.here.slots p.key ∙ ap (λ c. slot_at c (x.phase p.key)) own) ∙ alone_held (owner_slot (x.phase p.key)) p.endpoint one.2)
+        | inr not_own ↦
+            let its : owns x.owner (other i) p.key ≡ true = other-owns x.owner i p.key ∙ ap not not_own in
+            let theirs : other i ≡ x.owner p.key = same-eq (other i) (x.owner p.key) its in
+            let synced : is_synced (other i) t ≡ true = ap (λ g. is_synced g t) theirs ∙ one.1 in
+            let sb : b.synced ≡ true = sym there.synced_is ∙ synced in
+            let at : b.table p.key ≡ owner_slot (x.phase p.key) = (x.real sb).table_is p.key ∙ x.talks.there.slots p.key ∙ ap (λ c. slot_at c (x.phase p.key)) its in
+            inr (synced, (there.private (there.up_synced sb) p).1 (ap alone_in at ∙ one.2), ap held at ∙ alone_held (owner_slot (x.phase p.key)) p.endpoint one.2)
+      ]
+    ]
+  ]
 
   side_goes : (i : GatewayId) (a b : Box) (ma mb : List Letter) (t : List Note) → Side r i a b ma mb t → IsTrue (is_synced i t) → GoesAt i a.table t
   side_goes i a b ma mb t side s = side.goes (side.up_synced (sym side.synced_is ∙ s))
 
-  kept : (s : Scene) → Inv r Zero s → (p : Pair) → IsTrue (is_open p s.trace) → (i : GatewayId) → IsTrue (is_synced i s.trace) → TableHolds (tables_of s) i p
-  kept s v p o Zero z = side_holds Zero s.mine s.theirs s.my_mail s.their_mail s.trace v.here p o z
-  kept s v p o One z = side_holds One s.theirs s.mine s.their_mail s.my_mail s.trace v.there p o z
+  kept : (s : Scene) → Inv r Zero s → (p : Pair) → IsTrue (is_open p s.trace) → (i : GatewayId) → IsTrue (is_synced i s.trace) → TableHolds (tables_of s) i p ⊎ IsHeldApart (TableHolds (tables_of s)) p s.trace
+  kept s v p o Zero z = elim (side_holds Zero s.mine s.theirs s.my_mail s.their_mail s.trace v.here v.there p o (sym v.here.synced_is ∙ z)) [ inl h ↦ inl h | inr h ↦ inr (One, h.0, h.1, h.2) ]
+  kept s v p o One z = elim (side_holds One s.theirs s.mine s.their_mail s.my_mail s.trace v.there v.here p o (sym v.there.synced_is ∙ z)) [ inl h ↦ inl h | inr h ↦ inr (Zero, h.0, h.1, h.2) ]
+
+  -- of three keys a gateway owns two or none
+  pigeons : (a b c : Bool) → (a ≡ b) ⊎ ((b ≡ c) ⊎ (a ≡ c))
+  pigeons true true c = inl refl
+  pigeons false false c = inl refl
+  pigeons true false true = inr (inr refl)
+  pigeons true false false = inr (inl refl)
+  pigeons false true true = inr (inl refl)
+  pigeons false true false = inr (inr refl)
+
+  side_two : (i : GatewayId) (a b : Box) (ma mb : List Letter) (t : List Note) → Side r i a b ma mb t → a.synced ≡ true → (p q m : Pair) → held (a.table p.key) ≡ Some p.endpoint → held (a.table q.key) ≡ Some q.endpoint → held (a.table m.key) ≡ Some m.endpoint
+      → p.endpoint ≡ q.endpoint → q.endpoint ≡ m.endpoint → (p.key ≡ q.key → ⊥) → (q.key ≡ m.key → ⊥) → (p.key ≡ m.key → ⊥) → ⊥
+  side_two i a b ma mb t side sa p q m hp hq hm pq qm npq nqm npm =
+      let known = known_of r i a b ma mb t side sa in
+      let hq2 : held (a.table q.key) ≡ Some p.endpoint = hq ∙ ap (λ x. Some x) (sym pq) in
+      let hm2 : held (a.table m.key) ≡ Some p.endpoint = hm ∙ ap (λ x. Some x) (sym (pq ∙ qm)) in
+      elim (pigeons (keyed a.owned p.key) (keyed a.owned q.key) (keyed a.owned m.key)) [
+        | inl x ↦ npq (known.one_each p.key q.key p.endpoint x hp hq2)
+        | inr y ↦ elim y [
+          | inl x ↦ nqm (known.one_each q.key m.key p.endpoint x hq2 hm2)
+          | inr x ↦ npm (known.one_each p.key m.key p.endpoint x hp hm2)
+        ]
+      ]
+
+  at_most_two : (s : Scene) → Inv r Zero s → (i : GatewayId) → IsTrue (is_synced i s.trace) → (p q m : Pair) → TableHolds (tables_of s) i p → TableHolds (tables_of s) i q → TableHolds (tables_of s) i m
+      → p.endpoint ≡ q.endpoint → q.endpoint ≡ m.endpoint → (p.key ≡ q.key → ⊥) → (q.key ≡ m.key → ⊥) → (p.key ≡ m.key → ⊥) → ⊥
+  at_most_two s v Zero z p q m = side_two Zero s.mine s.theirs s.my_mail s.their_mail s.trace v.here (sym v.here.synced_is ∙ z) p q m
+  at_most_two s v One z p q m = side_two One s.theirs s.mine s.their_mail s.my_mail s.trace v.there (sym v.there.synced_is ∙ z) p q m
 
   goes : (s : Scene) → Inv r Zero s → (i : GatewayId) → IsTrue (is_synced i s.trace) → (p : Pair) → (IsTrue (goes_on i p s.trace) ↔ TableTranslates (tables_of s) i p)
   goes s v Zero z p = side_goes Zero s.mine s.theirs s.my_mail s.their_mail s.trace v.here z p
   goes s v One z p = side_goes One s.theirs s.mine s.their_mail s.my_mail s.trace v.there z p
 
   pub is_kept : (s : Scene) → Inv r Zero s → IsKept s.trace (tables_of s)
-  is_kept s v = record { fits = v.fits; kept = kept s v; silent = v.silent; goes_on = goes s v }
+  is_kept s v = record { one_port = v.one_port; one_endpoint = v.one_endpoint; at_most_two = at_most_two s v; kept = kept s v; silent = v.silent; goes_on = goes s v }
 
   pub always_kept : (es : List MachineEvent) → AreAllowed r es (founding r) → IsKept (after_events r es (founding r)).trace (tables_of (after_events r es (founding r)))
   always_kept es can = is_kept (after_events r es (founding r)) (inv_run es (founding r) inv_start can)

@@ -29,6 +29,7 @@ mod StepLaws
 mod Batches
 mod Runs
 mod MoreRuns
+mod AloneRuns
 mod Taking
 mod Forged
 mod Counted
@@ -36,4 +37,5 @@ mod Living
 mod Behind
 mod Nexting
 mod Hellos
+mod Telling
 pub mod Offered

@@ -9,8 +9,8 @@ use Rattle.spec_pair.specs.Acts.{Act, Do, Take, Hear, HandIn, Ignore, HearAnew, 
 use Rattle.spec_pair.specs.Box.{Box, In, Letter, StandsNext, nth}
 use Rattle.spec_pair.specs.Live.{IsNext, next_letter, next_sent, outstanding, taken_now, to_do, weight}
 use Rattle.spec_pair.specs.Ownership.{Ranges}
-use Rattle.spec_pair.specs.RecordTable.{Absent, Proposed, Bound, Finding, Facts, AreFacts, act_by_table, act_at_synced, act_at_unsynced, act_unless_promised, put_in}
-use Rattle.spec_pair.specs.Talk.{MachineRecord, Install, Accept, Refuse, Ask, Yes, No, Begin, Put, Done, Want, Grant, Owner, Deed, Propose, Close, Use, Agree, Yield, Reject, Agreed, Rejected, Leave, Stay, Left, Stayed, Pass, Skip, taken_by, pushed_by}
+use Rattle.spec_pair.specs.RecordTable.{Absent, Proposed, Bound, Finding, Facts, AreFacts, act_by_table, act_at_synced, act_at_unsynced, act_unless_promised, parcel, put_in}
+use Rattle.spec_pair.specs.Talk.{MachineRecord, Install, Accept, Refuse, Ask, Yes, No, Begin, Put, Done, Want, Grant, Owner, Tell, Deed, Propose, Close, Use, Mark, MakeAlone, Report, DropAlone, Agree, Yield, Reject, Adopt, Decline, Agreed, Rejected, Rebuffed, Leave, Stay, Left, Parted, Stayed, Pass, Skip, taken_by, pushed_by}
 use Rattle.spec_pair.specs.World.{Can, Outside, Scene, after_act, flip}
 use Rattle.spec_pair.proofs.Taking.{takes_it}
 
@@ -41,6 +41,7 @@ weighs Done = omega arith
 weighs Want = omega arith
 weighs (Grant ports) = omega arith
 weighs (Owner first last) = omega arith
+weighs (Tell k e) = omega arith
 
 -- equal lists of one record have equal weights
 one-is : (p q : MachineRecord) → (p ∷ []) ≡ (q ∷ []) → weight p ≡ weight q
@@ -52,14 +53,22 @@ deed-less : (d : Deed) (q : MachineRecord) → taken_by d ≡ q ∷ [] → to_do
 deed-less (Propose k e) q h = absurd (cc)
 deed-less (Close k e) q h = absurd (cc)
 deed-less (Use k e) q h = absurd (cc)
+deed-less (Mark k e) q h = absurd (cc)
+deed-less (MakeAlone k e) q h = absurd (cc)
+deed-less (Report k e) q h = absurd (cc)
+deed-less (DropAlone k e) q h = absurd (cc)
 deed-less (Agree k e) q h = let w = one-is (Install k e) q h in omega (arith, w)
 deed-less (Yield k e p) q h = let w = one-is (Install k e) q h in omega (arith, w)
 deed-less (Reject k e) q h = let w = one-is (Install k e) q h in omega (arith, w)
+deed-less (Adopt k e) q h = let w = one-is (Tell k e) q h in omega (arith, w)
+deed-less (Decline k e) q h = let w = one-is (Tell k e) q h in omega (arith, w)
 deed-less (Agreed k e) q h = weighs q
 deed-less (Rejected k) q h = weighs q
+deed-less (Rebuffed k e) q h = weighs q
 deed-less (Leave k e) q h = let w = one-is (Ask k) q h in omega (arith, w)
 deed-less (Stay k e) q h = let w = one-is (Ask k) q h in omega (arith, w)
 deed-less (Left k e) q h = weighs q
+deed-less (Parted k e) q h = weighs q
 deed-less (Stayed k e) q h = weighs q
 deed-less (Pass k) q h = let w = one-is (Ask k) q h in omega (arith, w)
 deed-less (Skip r) q h = weighs q
@@ -120,6 +129,7 @@ module _ (r : Ranges) (i : GatewayId) (a : Box) where
     at-synced Want = refl
     at-synced (Grant ports) = either-way a.wants (TakePorts l n ports f.got) (LosePorts l n ports) (Grant ports) refl refl
     at-synced (Owner first last) = refl
+    at-synced (Tell k e) = refl
 
     put-takes : (k : Key) (e : Endpoint) (x : Finding) → taken_now (put_in r i a l n f k e x) ≡ Put k e ∷ []
     put-takes k e Absent = refl
@@ -139,6 +149,7 @@ module _ (r : Ranges) (i : GatewayId) (a : Box) where
     at-unsynced Want = refl
     at-unsynced (Grant ports) = refl
     at-unsynced (Owner first last) = either-way _ (LoadOwner l n first last) (LoadSkip l n (Owner first last)) (Owner first last) refl refl
+    at-unsynced (Tell k e) = either-way _ (LoadPut l n (parcel k e true)) (LoadSkip l n (Tell k e)) (Tell k e) refl refl
 
     unless-promised : (o : Option ℕ) (q : MachineRecord) → taken_now (act_unless_promised r i a l n f o q) ≡ q ∷ []
     unless-promised None q = at-synced q

@@ -9,18 +9,19 @@ use Rattle.nat_types.specs.declared.notes.Note.{Note}
 use Rattle.nat_types.specs.declared.pairs.Endpoint.{Endpoint}
 use Rattle.nat_types.specs.declared.pairs.Key.{Key}
 use Rattle.nat_types.specs.declared.pairs.Pair.{Pair}
-use Rattle.spec_trace.specs.Past.{is_synced, Fits, Silent}
+use Rattle.spec_trace.specs.Past.{is_synced, OnePort, OneEndpoint, Silent}
 use Rattle.spec_pair.specs.Acts.{LoadOwner, LoadBegin, LoadPut, LoadDone, LoadSkip, IsMisplaced}
-use Rattle.spec_pair.specs.Box.{owners, takes_owner, Box, Letter, nth, empty, load, loaded_slot, puts, batch, takes_begin, takes_put, takes_done, In, StandsNext, AreLoadable}
+use Rattle.spec_pair.specs.Box.{owners, takes_owner, Box, Letter, Parcel, record_of, with_pair, HasRoomFor, HasRoom, nth, empty, load, loaded_slot, puts, batch, takes_begin, takes_put, takes_done, In, StandsNext, AreLoadable}
 use Rattle.spec_pair.proofs.Beside.{side_beside, view_beside}
 use Rattle.spec_pair.proofs.Invariant.{Within, Fresh, Naming, Part, Loads, Real, View, Awaits, Side, Inv}
-use Rattle.spec_pair.proofs.Phase.{owns, Phase, closing}
+use Rattle.spec_pair.proofs.Phase.{owns, Phase, closing, covered, alone_in}
 use Rattle.spec_pair.specs.Ownership.{Ranges, Run, keyed, left_to, cut, cuts, in_run, last_named, AreRising, IsRisingRun}
-use Rattle.spec_pair.specs.Talk.{Slot, Free, Live, Held, held, translated, MachineRecord, Put, Owner, set_at, pair_of, note, Done, Begin}
-use Rattle.spec_pair.proofs.Traced.{Covers, LetsGo, GoesAt}
+use Rattle.spec_pair.specs.Talk.{Slot, Free, Live, Held, held, held_on, translated, MachineRecord, Put, Owner, Tell, set_at, note, Done, Begin}
+use Rattle.spec_pair.proofs.Traced.{Covers, LetsGo, GoesAt, PrivateAt, WereAlone, TwoAlone}
 use Rattle.spec_pair.specs.World.{Scene, Can, after_act}
 use Rattle.spec_pair.proofs.Acts.{same-not}
-use Rattle.spec_pair.proofs.Covers.{goes_quiet, goes_in, goes_other, lets_go_retake}
+use Rattle.spec_pair.proofs.Covers.{goes_quiet, goes_in, goes_other, private_quiet, private_out, private_other, lets_go_retake}
+use Rattle.spec_pair.proofs.Inversions.{covered_more, none_some}
 use Rattle.spec_pair.proofs.Lists.{length_last}
 use Rattle.spec_pair.proofs.Lives.{other_synced}
 use Rattle.spec_pair.proofs.Mirror.{mirror}
@@ -29,9 +30,9 @@ use Rattle.spec_pair.proofs.Set.{set_same, set_other}
 flag : {A : Type 0} (b : Bool) → b ≡ true → b ≡ false → A
 flag b h g = absurd (both_ways b g h)
 
-pub load-last : (owned : Key → Bool) (table : Key → Slot) (ps : List Pair) (p : Pair) → load owned table (ps ++ p ∷ []) ≡ set_at (load owned table ps) p.key (loaded_slot owned p.key p.endpoint)
+pub load-last : (owned : Key → Bool) (table : Key → Slot) (ps : List Parcel) (p : Parcel) → load owned table (ps ++ p ∷ []) ≡ with_pair owned (load owned table ps) p.pair
 load-last owned table [] p = refl
-load-last owned table (x ∷ ps) p = load-last owned (set_at table x.key (loaded_slot owned x.key x.endpoint)) ps p
+load-last owned table (x ∷ ps) p = load-last owned (with_pair owned table x.pair) ps p
 
 cuts-last : (owned : ℕ → Bool) (os : List Run) (o : Run) → cuts owned (os ++ o ∷ []) ≡ cut o.first o.last (cuts owned os)
 cuts-last owned [] o = refl
@@ -45,7 +46,7 @@ rising-next : (ranges : ℕ → Bool) (low : ℕ) (front : List Run) (o : Run) (
 rising-next ranges low [] o rest h = h.0
 rising-next ranges low (x ∷ front) o rest h = rising-next ranges x.last front o rest h.1
 
-next_put : (front back : List Pair) (out : List MachineRecord) → nth ((puts (front ++ back) ++ Done ∷ []) ++ out) (length front) ≡ nth ((puts back ++ Done ∷ []) ++ out) 0
+next_put : (front back : List Parcel) (out : List MachineRecord) → nth ((puts (front ++ back) ++ Done ∷ []) ++ out) (length front) ≡ nth ((puts back ++ Done ∷ []) ++ out) 0
 next_put [] back out = refl
 next_put (p ∷ front) back out = next_put front back out
 
@@ -58,14 +59,14 @@ past_owners [] rs out n = let e : 0 + n ≡ n = omega arith in ap (nth (rs ++ ou
 past_owners (o ∷ os) rs out n = let e : suc (length os) + n ≡ suc (length os + n) = omega arith in ap (nth (Owner o.first o.last ∷ (owners os rs ++ out))) e ∙ past_owners os rs out n
 
 -- the next record of the batch is the first of the rest after Begin and the Owners taken so far
-next_name : (front back : List Run) (ps : List Pair) (out : List MachineRecord) → nth (batch (front ++ back) ps ++ out) (suc (length front)) ≡ nth (owners back (puts ps ++ Done ∷ []) ++ out) 0
+next_name : (front back : List Run) (ps : List Parcel) (out : List MachineRecord) → nth (batch (front ++ back) ps ++ out) (suc (length front)) ≡ nth (owners back (puts ps ++ Done ∷ []) ++ out) 0
 next_name front back ps out = next_owner front back (puts ps ++ Done ∷ []) out
 
 -- the next record of the batch is the first of the rest after Begin, the Owners, and the Puts taken so far
-pub next_load : (os : List Run) (front back : List Pair) (out : List MachineRecord) → nth (batch os (front ++ back) ++ out) (suc (length os + length front)) ≡ nth ((puts back ++ Done ∷ []) ++ out) 0
+pub next_load : (os : List Run) (front back : List Parcel) (out : List MachineRecord) → nth (batch os (front ++ back) ++ out) (suc (length os + length front)) ≡ nth ((puts back ++ Done ∷ []) ++ out) 0
 next_load os front back out = past_owners os (puts (front ++ back) ++ Done ∷ []) out (length front) ∙ next_put front back out
 
-length-puts : (ps : List Pair) → length (puts ps ++ Done ∷ []) ≡ suc (length ps)
+length-puts : (ps : List Parcel) → length (puts ps ++ Done ∷ []) ≡ suc (length ps)
 length-puts [] = refl
 length-puts (p ∷ ps) = ap suc (length-puts ps)
 
@@ -77,26 +78,59 @@ loaded_translates : (own : Bool) (e : Endpoint) → translated (cond own (Live e
 loaded_translates true e = refl
 loaded_translates false e = refl
 
+abbrev pair_with : Key → Endpoint → Pair
+pair_with k e = record { key = k; endpoint = e }
+
+abbrev parcel : Pair → Bool → Parcel
+parcel p told = record { pair = p; told = told }
+
 some_record : (a b : MachineRecord) → Some a ≡ Some b → a ≡ b
 some_record a b h = cc
 
--- a Put in the batch is the next pair
-is_put : (back : List Pair) (out : List MachineRecord) (p : Pair) → nth ((puts back ++ Done ∷ []) ++ out) 0 ≡ Some (Put p.key p.endpoint) → (rest : List Pair) × (back ≡ p ∷ rest)
-is_put [] out p h = let e : Done ≡ Put p.key p.endpoint = some_record Done (Put p.key p.endpoint) h in absurd (cc)
-is_put (x ∷ back) out p h =
-    let e : Put x.key x.endpoint ≡ Put p.key p.endpoint = some_record (Put x.key x.endpoint) (Put p.key p.endpoint) h in
-    let k : x.key ≡ p.key = cc in
-    let n : x.endpoint ≡ p.endpoint = cc in
-    (back, ap (λ y. pair_of y x.endpoint ∷ back) k ∙ ap (λ y. pair_of p.key y ∷ back) n)
+loaded_shared : (own : Bool) (e : Endpoint) → alone_in (cond own (Live e) (Held e)) ≡ None
+loaded_shared true e = refl
+loaded_shared false e = refl
 
-is_end : (back : List Pair) (out : List MachineRecord) → nth ((puts back ++ Done ∷ []) ++ out) 0 ≡ Some Done → back ≡ []
+parcel_is : (told told2 : Bool) (p q : Pair) → record_of (record { pair = p; told = told }) ≡ record_of (record { pair = q; told = told2 }) → parcel p told ≡ parcel q told2
+parcel_is true true p q h =
+    let e : Tell p.key p.endpoint ≡ Tell q.key q.endpoint = h in
+    let k : p.key ≡ q.key = cc in
+    let n : p.endpoint ≡ q.endpoint = cc in
+    ap (λ (x : Pair). parcel x true) (ap (λ y. pair_with y p.endpoint) k ∙ ap (λ y. pair_with q.key y) n)
+parcel_is false false p q h =
+    let e : Put p.key p.endpoint ≡ Put q.key q.endpoint = h in
+    let k : p.key ≡ q.key = cc in
+    let n : p.endpoint ≡ q.endpoint = cc in
+    ap (λ (x : Pair). parcel x false) (ap (λ y. pair_with y p.endpoint) k ∙ ap (λ y. pair_with q.key y) n)
+parcel_is true false p q h = let e : Tell p.key p.endpoint ≡ Put q.key q.endpoint = h in absurd (cc)
+parcel_is false true p q h = let e : Put p.key p.endpoint ≡ Tell q.key q.endpoint = h in absurd (cc)
+
+-- a record of a parcel is none of another kind
+not_done : (told : Bool) (p : Pair) → record_of (record { pair = p; told = told }) ≡ Done → ⊥
+not_done true p h = let e : Tell p.key p.endpoint ≡ Done = h in cc
+not_done false p h = let e : Put p.key p.endpoint ≡ Done = h in cc
+
+not_begin : (told : Bool) (p : Pair) → record_of (record { pair = p; told = told }) ≡ Begin → ⊥
+not_begin true p h = let e : Tell p.key p.endpoint ≡ Begin = h in cc
+not_begin false p h = let e : Put p.key p.endpoint ≡ Begin = h in cc
+
+not_owner : (told : Bool) (p : Pair) (a b : ℕ) → record_of (record { pair = p; told = told }) ≡ Owner a b → ⊥
+not_owner true p a b h = let e : Tell p.key p.endpoint ≡ Owner a b = h in cc
+not_owner false p a b h = let e : Put p.key p.endpoint ≡ Owner a b = h in cc
+
+-- a record of a parcel in the batch is that of the next
+is_put : (back : List Parcel) (out : List MachineRecord) (p : Parcel) → nth ((puts back ++ Done ∷ []) ++ out) 0 ≡ Some (record_of p) → (rest : List Parcel) × (back ≡ p ∷ rest)
+is_put [] out p h = absurd (not_done p.told p.pair (sym (some_record Done (record_of p) h)))
+is_put (x ∷ back) out p h = (back, ap (λ (y : Parcel). y ∷ back) (parcel_is x.told p.told x.pair p.pair (some_record (record_of x) (record_of p) h)))
+
+is_end : (back : List Parcel) (out : List MachineRecord) → nth ((puts back ++ Done ∷ []) ++ out) 0 ≡ Some Done → back ≡ []
 is_end [] out h = refl
-is_end (x ∷ back) out h = let e : Put x.key x.endpoint ≡ Done = some_record (Put x.key x.endpoint) Done h in absurd (cc)
+is_end (x ∷ back) out h = absurd (not_done x.told x.pair (some_record (record_of x) Done h))
 
--- the next record after the Owners is a Put or Done
-some_load : (back : List Pair) (out : List MachineRecord) (q : MachineRecord) → nth ((puts back ++ Done ∷ []) ++ out) 0 ≡ Some q → (q ≡ Done) ⊎ ((p : Pair) × (rest : List Pair) × (back ≡ p ∷ rest) × (q ≡ Put p.key p.endpoint))
+-- the next record after the Owners is that of a parcel, or Done
+some_load : (back : List Parcel) (out : List MachineRecord) (q : MachineRecord) → nth ((puts back ++ Done ∷ []) ++ out) 0 ≡ Some q → (q ≡ Done) ⊎ ((p : Parcel) × (rest : List Parcel) × (back ≡ p ∷ rest) × (q ≡ record_of p))
 some_load [] out q h = inl (sym (some_record Done q h))
-some_load (p ∷ back) out q h = inr (p, back, refl, sym (some_record (Put p.key p.endpoint) q h))
+some_load (p ∷ back) out q h = inr (p, back, refl, sym (some_record (record_of p) q h))
 
 -- the next record is an Owner, or no run is left
 some_run : (back : List Run) (rs out : List MachineRecord) (q : MachineRecord) → nth (owners back rs ++ out) 0 ≡ Some q → (back ≡ []) ⊎ ((o : Run) × (rest : List Run) × (back ≡ o ∷ rest) × (q ≡ Owner o.first o.last))
@@ -135,23 +169,27 @@ module _ (r : Ranges) where
   -- the invariant after a step of the loading that leaves the gateway unsynced
   still_loading : (i : GatewayId) (s : Scene) (a2 : Box) (t2 : List Note) (q : MachineRecord) → Inv r i s → Reading i s q → s.mine.synced ≡ false
       → a2.up ≡ s.mine.up → a2.boot ≡ s.mine.boot → a2.synced ≡ false → a2.peer ≡ s.mine.peer → a2.sent ≡ s.mine.sent → a2.promised ≡ s.mine.promised
-      → (g : ((j : GatewayId) → is_synced j t2 ≡ is_synced j s.trace)) → Fits t2 → Silent t2
+      → (g : ((j : GatewayId) → is_synced j t2 ≡ is_synced j s.trace)) → OnePort t2 → OneEndpoint t2 → Silent t2
       → (s.mine.up ≡ true → GoesAt i a2.table t2) → ((table : Key → Slot) → GoesAt (other i) table s.trace → GoesAt (other i) table t2)
-      → ((ph : Key → Phase) → Covers ph s.trace → Covers ph t2) → ((owner : Key → GatewayId) (g : GatewayId) (ph : Key → Phase) → LetsGo owner g ph s.trace → LetsGo owner g ph t2)
+      → (s.mine.up ≡ true → PrivateAt i a2.table t2) → ((table : Key → Slot) → PrivateAt (other i) table s.trace → PrivateAt (other i) table t2)
+      → ((owner : Key → GatewayId) (ph : Key → Phase) → Covers owner ph s.trace → Covers owner ph t2) → ((owner : Key → GatewayId) (g : GatewayId) (ph : Key → Phase) → LetsGo owner g ph s.trace → LetsGo owner g ph t2)
+      → ((ph : Key → Phase) → WereAlone ph s.trace → WereAlone ph t2) → ((owner : Key → GatewayId) (ph : Key → Phase) → TwoAlone owner ph s.trace → TwoAlone owner ph t2)
       → ((x : Reading i s q) → Naming r (other (other i)) s.theirs a2 x.loads.os ⊎ Part r (other (other i)) s.theirs a2 x.loads.os x.loads.ps)
       → Inv r i (record { mine = a2; theirs = s.theirs; my_mail = s.my_mail; their_mail = s.their_mail; trace = t2 })
-  still_loading i s a2 t2 q v x sa up boot sa2 peer sent prom same_synced fits silent goes goes_there covers lets part =
+  still_loading i s a2 t2 q v x sa up boot sa2 peer sent prom same_synced port endpoint silent goes goes_there private private_there covers lets were two part =
       let here : Side r i s.mine s.theirs s.my_mail s.their_mail s.trace = v.here in
       let there : Side r (other i) s.theirs s.mine s.their_mail s.my_mail s.trace = v.there in
       let sb : s.theirs.synced ≡ true = other_synced r i s v sa in
       record {
-        fits = fits;
+        one_port = port;
+        one_endpoint = endpoint;
         silent = silent;
         some_synced = inr sb;
         here = record {
           synced_is = same_synced i ∙ here.synced_is ∙ sa ∙ sym sa2;
           up_synced = λ h. flag a2.synced h sa2;
           goes = λ u. goes (sym up ∙ u);
+          private = λ u. private (sym up ∙ u);
           letters = λ u alone l inside lb lt. subst (Within l) (sym sent) (here.letters (sym up ∙ u) (λ z. flag s.mine.synced z sa) l inside (lb ∙ boot) (lt ∙ peer));
           barred = λ m p l inside lb lt. here.barred m (sym prom ∙ p) l inside (lb ∙ boot) (lt ∙ peer);
           boots = λ l inside. let o : (l.boot ≤ s.mine.boot) × (l.to ≤ s.theirs.boot) = here.boots l inside in (omega (arith, o.0), o.1);
@@ -170,6 +208,7 @@ module _ (r : Ranges) where
           synced_is = same_synced (other i) ∙ there.synced_is;
           up_synced = there.up_synced;
           goes = λ u. goes_there s.theirs.table (there.goes u);
+          private = λ u. private_there s.theirs.table (there.private u);
           letters = there.letters;
           barred = there.barred;
           boots = λ l inside. let o : (l.boot ≤ s.theirs.boot) × (l.to ≤ s.mine.boot) = there.boots l inside in (o.0, omega (arith, o.1));
@@ -179,8 +218,10 @@ module _ (r : Ranges) where
           quiet = there.quiet;
           state = λ h. inr (view_beside r (other i) s.theirs s.mine _ s.my_mail _ s.trace _ x.view
               x.view.letters
-              (covers x.view.phase x.view.covers)
+              (covers x.view.owner x.view.phase x.view.covers)
               (λ g. lets x.view.owner g x.view.phase (x.view.lets g))
+              (were x.view.phase x.view.were)
+              (two x.view.owner x.view.phase x.view.two)
               (λ z. flag a2.synced z sa2)
               (λ m p. ((x.view.owes m p).0, sa2))
               (λ z u p. record { os = x.loads.os; ps = x.loads.ps; rising = x.loads.rising; owned_is = x.loads.owned_is; want_is = x.loads.want_is; batch_is = x.loads.batch_is; heard_is = x.loads.heard_is; inn_is = x.loads.inn_is; are_new = x.loads.are_new; bar = x.loads.bar; table_is = x.loads.table_is; none_closing = x.loads.none_closing; progress = inr (part x) }));
@@ -223,7 +264,7 @@ module _ (r : Ranges) where
   ]
 
   no_begin : {A : Type 0} (i : GatewayId) (s : Scene) (x : Reading i s Begin) → Part r (other (other i)) s.theirs s.mine x.loads.os x.loads.ps → A
-  no_begin i s x g = elim (some_load g.back x.view.out Begin (comes_next i s Begin x g)) [ inl e ↦ absurd (let bad : Begin ≡ Done = e in cc) | inr e ↦ absurd (let bad : Begin ≡ Put e.0.key e.0.endpoint = e.3 in cc) ]
+  no_begin i s x g = elim (some_load g.back x.view.out Begin (comes_next i s Begin x g)) [ inl e ↦ absurd (let bad : Begin ≡ Done = e in cc) | inr e ↦ absurd (not_begin e.0.told e.0.pair (sym e.3)) ]
 
   pub inv_load_begin : (moment : ℕ) (i : GatewayId) (s : Scene) (l : Letter) (n : ℕ) → Inv r i s → Can r i s (LoadBegin l n) → Inv r i (after_act r i moment s (LoadBegin l n))
   inv_load_begin moment i s l n v can =
@@ -235,19 +276,21 @@ module _ (r : Ranges) where
           | inr g ↦ no_begin i s x g
         ]
       ] in
-      still_loading i s (takes_begin (r.at_begin i) s.mine) s.trace Begin v x can.0.0 refl refl can.0.0 refl refl refl (λ j. refl) v.fits v.silent
+      still_loading i s (takes_begin (r.at_begin i) s.mine) s.trace Begin v x can.0.0 refl refl can.0.0 refl refl refl (λ j. refl) v.one_port v.one_endpoint v.silent
       (λ u. goes_quiet i s.mine.table empty s.trace (v.here.goes u) (λ q. ap translated (sym (f.table q))))
-      (λ table g. g) (λ ph c. c) (λ owner g ph z. z)
+      (λ table g. g)
+      (λ u. private_quiet i s.mine.table empty s.trace (v.here.private u) (λ q. ap alone_in (sym (f.table q))))
+      (λ table g. g) (λ owner ph c. c) (λ owner g ph z. z) (λ ph z. z) (λ owner ph z. z)
       (λ y. inl record { front = []; back = y.loads.os; whole = refl; peer = y.peer; taken = ap suc f.taken; loading = refl; wants = f.wants; table = λ q. refl; owned = λ p. ap (λ j. r.at_begin j p) (sym (other-other i)); named = refl })
 
   no_owner : {A : Type 0} (i : GatewayId) (s : Scene) (first last : ℕ) (x : Reading i s (Owner first last)) → Part r (other (other i)) s.theirs s.mine x.loads.os x.loads.ps → A
-  no_owner i s first last x g = elim (some_load g.back x.view.out (Owner first last) (comes_next i s (Owner first last) x g)) [ inl e ↦ absurd (let bad : Owner first last ≡ Done = e in cc) | inr e ↦ absurd (let bad : Owner first last ≡ Put e.0.key e.0.endpoint = e.3 in cc) ]
+  no_owner i s first last x g = elim (some_load g.back x.view.out (Owner first last) (comes_next i s (Owner first last) x g)) [ inl e ↦ absurd (let bad : Owner first last ≡ Done = e in cc) | inr e ↦ absurd (not_owner e.0.told e.0.pair first last (sym e.3)) ]
 
   pub inv_load_owner : (moment : ℕ) (i : GatewayId) (s : Scene) (l : Letter) (n first last : ℕ) → Inv r i s → Can r i s (LoadOwner l n first last) → Inv r i (after_act r i moment s (LoadOwner l n first last))
   inv_load_owner moment i s l n first last v can =
       let x : Reading i s (Owner first last) = reading i s l n (Owner first last) v can.0.0 (can.1 l (inl refl)) can.0.4 in
-      still_loading i s (takes_owner s.mine first last) s.trace (Owner first last) v x can.0.0 refl refl can.0.0 refl refl refl (λ j. refl) v.fits v.silent
-      v.here.goes (λ table g. g) (λ ph c. c) (λ owner g ph z. z)
+      still_loading i s (takes_owner s.mine first last) s.trace (Owner first last) v x can.0.0 refl refl can.0.0 refl refl refl (λ j. refl) v.one_port v.one_endpoint v.silent
+      v.here.goes (λ table g. g) v.here.private (λ table g. g) (λ owner ph c. c) (λ owner g ph z. z) (λ ph z. z) (λ owner ph z. z)
       (λ y. elim y.loads.progress [
         | inl f ↦ flag s.mine.loading can.0.1 f.loading
         | inr z ↦ elim z [
@@ -280,19 +323,24 @@ module _ (r : Ranges) where
     | inr ne ↦ lets_go_retake owner moment g ph t i p.key p.endpoint l (λ own e. absurd (both_ways (same g i) ne e)) s
   ]
 
-  pub inv_load_put : (moment : ℕ) (i : GatewayId) (s : Scene) (l : Letter) (n : ℕ) (p : Pair) → Inv r i s → Can r i s (LoadPut l n p) → Inv r i (after_act r i moment s (LoadPut l n p))
+  pub inv_load_put : (moment : ℕ) (i : GatewayId) (s : Scene) (l : Letter) (n : ℕ) (p : Parcel) → Inv r i s → Can r i s (LoadPut l n p) → Inv r i (after_act r i moment s (LoadPut l n p))
   inv_load_put moment i s l n p v can =
-      let x : Reading i s (Put p.key p.endpoint) = reading i s l n (Put p.key p.endpoint) v can.0.0 (can.1 l (inl refl)) can.0.4 in
-      let slot : Slot = loaded_slot (keyed s.mine.owned) p.key p.endpoint in
-      still_loading i s (takes_put s.mine p) (note i moment (Retaken p) ∷ s.trace) (Put p.key p.endpoint) v x can.0.0 refl refl can.0.0 refl refl refl (λ j. refl) (tt, v.fits) (tt, v.silent)
-      (λ u. goes_in moment i s.mine.table (set_at s.mine.table p.key slot) s.trace p.key p.endpoint (v.here.goes u)
-      (ap translated (set_same s.mine.table p.key slot p.key refl) ∙ loaded_translates (keyed s.mine.owned p.key) p.endpoint)
-      (λ q ne. ap translated (set_other s.mine.table p.key slot q ne))
-      (λ m h. let bad : None ≡ Some m = ap translated (sym can.0.2) ∙ h in absurd (cc)))
-      (λ table g. (goes_other moment (other i) i table s.trace p (same-not i) g).2)
-      (λ ph c. c) (λ owner g ph z. lets_load moment owner g i p ph s.trace (v.here.synced_is ∙ can.0.0) z)
-      (λ y. let g : Part r (other (other i)) s.theirs s.mine y.loads.os y.loads.ps = in_part i s (Put p.key p.endpoint) y can.0.1 (λ a b e. cc) in
-      let m : (rest : List Pair) × (g.back ≡ p ∷ rest) = is_put g.back y.view.out p (comes_next i s (Put p.key p.endpoint) y g) in
+      let x : Reading i s (record_of p) = reading i s l n (record_of p) v can.0.0 (can.1 l (inl refl)) can.0.4 in
+      let slot : Slot = loaded_slot (keyed s.mine.owned) p.pair.key p.pair.endpoint in
+      still_loading i s (takes_put s.mine p.pair) (note i moment (Retaken p.pair) ∷ s.trace) (record_of p) v x can.0.0 refl refl can.0.0 refl refl refl (λ j. refl) (tt, v.one_port) (tt, v.one_endpoint) (tt, v.silent)
+      (λ u. goes_in moment i s.mine.table (set_at s.mine.table p.pair.key slot) s.trace p.pair.key p.pair.endpoint (v.here.goes u)
+      (ap translated (set_same s.mine.table p.pair.key slot p.pair.key refl) ∙ loaded_translates (keyed s.mine.owned p.pair.key) p.pair.endpoint)
+      (λ q ne. ap translated (set_other s.mine.table p.pair.key slot q ne))
+      (λ m h. absurd (none_some (translated (s.mine.table p.pair.key)) m (ap translated can.0.2) h)))
+      (λ table g. (goes_other moment (other i) i table s.trace p.pair (same-not i) g).2)
+      (λ u. private_out moment i s.mine.table (set_at s.mine.table p.pair.key slot) s.trace p.pair.key p.pair.endpoint (v.here.private u)
+      (ap alone_in (set_same s.mine.table p.pair.key slot p.pair.key refl) ∙ loaded_shared (keyed s.mine.owned p.pair.key) p.pair.endpoint)
+      (λ q ne. ap alone_in (set_other s.mine.table p.pair.key slot q ne))
+      (λ m h. absurd (none_some (alone_in (s.mine.table p.pair.key)) m (ap alone_in can.0.2) h)))
+      (λ table g. (private_other moment (other i) i table s.trace p.pair (same-not i) g).1)
+      (λ owner ph c. c) (λ owner g ph z. lets_load moment owner g i p.pair ph s.trace (v.here.synced_is ∙ can.0.0) z) (λ ph z. z) (λ owner ph z. z)
+      (λ y. let g : Part r (other (other i)) s.theirs s.mine y.loads.os y.loads.ps = in_part i s (record_of p) y can.0.1 (λ a b e. not_owner p.told p.pair a b e) in
+      let m : (rest : List Parcel) × (g.back ≡ p ∷ rest) = is_put g.back y.view.out p (comes_next i s (record_of p) y g) in
       let to_own : Key → Bool = keyed (left_to r (other (other i)) y.loads.os) in
       inr record {
         front = g.front ++ p ∷ [];
@@ -303,7 +351,7 @@ module _ (r : Ranges) where
         loading = g.loading;
         wants = g.wants;
         owned = g.owned;
-        table = λ q. ap (cond (same_key p.key q) slot) (g.table q) ∙ ap (λ b. cond (same_key p.key q) (cond b (Live p.endpoint) (Held p.endpoint)) (load to_own empty g.front q)) (g.owned p.key.port.0) ∙ ap (λ (f : Key → Slot). f q) (sym (load-last to_own empty g.front p));
+        table = λ q. ap (cond (same_key p.pair.key q) slot) (g.table q) ∙ ap (λ b. cond (same_key p.pair.key q) (cond b (Live p.pair.endpoint) (Held p.pair.endpoint)) (load to_own empty g.front q)) (g.owned p.pair.key.port.0) ∙ ap (λ (f : Key → Slot). f q) (sym (load-last to_own empty g.front p));
       })
 
   nil_of : (hs ins : List MachineRecord) → hs ≡ [] → ins ≡ [] → [] ≡ hs ++ ins
@@ -314,6 +362,14 @@ module _ (r : Ranges) where
     | inl eq ↦ let gi : g ≡ i = same-eq g i eq in let bad : None ≡ Some e = sym (none k (ap (λ y. owns owner y k) (sym gi) ∙ own)) ∙ cl in absurd (cc)
     | inr ne ↦ l (ap (λ y. cond y true (is_synced g t)) (sym ne) ∙ s) k e own cl
   ]
+
+  -- where the other becomes synced, what it has alone may be open too
+  covers_done : (moment : ℕ) (owner : Key → GatewayId) (i : GatewayId) (ph : Key → Phase) (t : List Note) → is_synced i t ≡ false → Covers owner ph t → Covers owner ph (note i moment Synced ∷ t)
+  covers_done moment owner i ph t off c p o = at (same (owner p.key) i) refl
+    where
+      at : (b : Bool) → same (owner p.key) i ≡ b → covered (cond (same (owner p.key) i) true (is_synced (owner p.key) t)) (ph p.key) ≡ Some p.endpoint
+      at true e = covered_more (cond (same (owner p.key) i) true (is_synced (owner p.key) t)) (ph p.key) p.endpoint (ap (λ b. covered b (ph p.key)) (sym (ap (λ g. is_synced g t) (same-eq (owner p.key) i e) ∙ off)) ∙ c p o)
+      at false e = ap (λ b. covered (cond b true (is_synced (owner p.key) t)) (ph p.key)) e ∙ c p o
 
   pub inv_load_done : (moment : ℕ) (i : GatewayId) (s : Scene) (l : Letter) (n : ℕ) → Inv r i s → Can r i s (LoadDone l n) → Inv r i (after_act r i moment s (LoadDone l n))
   inv_load_done moment i s l n v can =
@@ -368,7 +424,9 @@ module _ (r : Ranges) where
         taken = x.view.taken;
         talks = x.view.talks;
         letters = x.view.letters;
-        covers = x.view.covers;
+        covers = covers_done moment x.view.owner i x.view.phase s.trace (here.synced_is ∙ sa) x.view.covers;
+        were = x.view.were;
+        two = x.view.two;
         lets = λ j. lets_done moment x.view.owner j i x.view.phase s.trace (λ k own. x.loads.none_closing k (ap (λ y. owns x.view.owner y k) (other-other i) ∙ own)) (x.view.lets j);
         real = λ z. real;
         owes = λ m p. absurd (none_promised m p);
@@ -376,13 +434,15 @@ module _ (r : Ranges) where
       } in
       let my_view : View r (other (other i)) a2 s.theirs s.their_mail t2 = mirror r (other i) s.theirs a2 s.their_mail s.my_mail t2 theirs_view sb refl (λ m inside boot to. there.letters (there.up_synced sb) (λ z. x.view.lone) m inside boot to) (λ m p. absurd (cc)) in
       record {
-        fits = (tt, v.fits);
+        one_port = (tt, v.one_port);
+        one_endpoint = (tt, v.one_endpoint);
         silent = (tt, v.silent);
         some_synced = inr sb;
         here = record {
           synced_is = ap (λ b. cond b true (is_synced i s.trace)) (same-self i);
           up_synced = λ h. up;
           goes = here.goes;
+          private = here.private;
           letters = λ u alone. here.letters u (λ z. flag s.mine.synced z sa);
           barred = λ m p. absurd (cc);
           boots = here.boots;
@@ -396,24 +456,34 @@ module _ (r : Ranges) where
         there = side_beside r (other i) s.theirs s.mine _ s.their_mail s.my_mail s.trace _ there refl
             (ap (λ b. cond b true (is_synced (other i) s.trace)) (same-not i) ∙ there.synced_is)
             there.goes
+            there.private
             (λ h. inr theirs_view)
             (λ h u. flag s.theirs.synced sb h);
       }
 
   -- the next pair of the batch is new where it is put
-  next_new : (owned : Key → Bool) (table : Key → Slot) (front : List Pair) (p : Pair) (rest : List Pair) → AreLoadable r owned table (front ++ p ∷ rest) → (load owned table front p.key ≡ Free) × ((q : Key) → held (load owned table front q) ≡ Some p.endpoint → ⊥) × IsTrue (r.in_ranges p.key.port.0)
+  next_new : (owned : Key → Bool) (table : Key → Slot) (front : List Parcel) (p : Parcel) (rest : List Parcel) → AreLoadable r owned table (front ++ p ∷ rest) → (load owned table front p.pair.key ≡ Free) × HasRoom owned (load owned table front) p × IsTrue (r.in_ranges p.pair.key.port.0)
   next_new owned table [] p rest h = (h.0, h.1, h.2)
-  next_new owned table (x ∷ front) p rest h = next_new owned (set_at table x.key (loaded_slot owned x.key x.endpoint)) front p rest h.3
+  next_new owned table (x ∷ front) p rest h = next_new owned (with_pair owned table x.pair) front p rest h.3
+
+  -- a parcel with room isn't out of place
+  placed : (told own : Bool) (table : Key → Slot) (a : Box) (p : Pair) → a.loading ≡ true → IsTrue (keyed r.in_ranges p.key) → a.table p.key ≡ Free → keyed a.owned p.key ≡ own → ((q : Key) → a.table q ≡ table q) → HasRoomFor told own table p.endpoint → IsMisplaced r a (record_of (record { pair = p; told = told })) → ⊥
+  placed true own table a p loading inside free owns same_table room lost =
+      let m : IsMisplaced r a (Tell p.key p.endpoint) = lost in
+      m loading inside free (λ q h. room q (ap (λ c. held_on c (table q)) (sym owns) ∙ ap (held_on (keyed a.owned p.key)) (sym (same_table q)) ∙ h))
+  placed false own table a p loading inside free owns same_table room lost =
+      let m : IsMisplaced r a (Put p.key p.endpoint) = lost in
+      m loading inside free (λ q h. room q (ap held (sym (same_table q)) ∙ h))
 
   never_put : (i : GatewayId) (s : Scene) (q : MachineRecord) (x : Reading i s q) (g : Part r (other (other i)) s.theirs s.mine x.loads.os x.loads.ps) → IsMisplaced r s.mine q → ⊥
   never_put i s q x g lost = elim (some_load g.back x.view.out q (comes_next i s q x g)) [
     | inl e ↦ let m : IsMisplaced r s.mine Done = subst (λ (y : MachineRecord). IsMisplaced r s.mine y) e lost in m g.loading
     | inr e ↦
-        let m : IsMisplaced r s.mine (Put e.0.key e.0.endpoint) = subst (λ (y : MachineRecord). IsMisplaced r s.mine y) e.3 lost in
+        let m : IsMisplaced r s.mine (record_of e.0) = subst (λ (y : MachineRecord). IsMisplaced r s.mine y) e.3 lost in
         let own : Key → Bool = keyed (left_to r (other (other i)) x.loads.os) in
         let all : AreLoadable r own empty (g.front ++ e.0 ∷ e.1) = subst (AreLoadable r own empty) (g.whole ∙ ap (λ z. g.front ++ z) e.2) x.loads.are_new in
-        let is_new : (load own empty g.front e.0.key ≡ Free) × ((q : Key) → held (load own empty g.front q) ≡ Some e.0.endpoint → ⊥) × IsTrue (r.in_ranges e.0.key.port.0) = next_new own empty g.front e.0 e.1 all in
-        m g.loading is_new.2 (g.table e.0.key ∙ is_new.0) (λ q h. is_new.1 q (ap held (sym (g.table q)) ∙ h))
+        let is_new : (load own empty g.front e.0.pair.key ≡ Free) × HasRoom own (load own empty g.front) e.0 × IsTrue (r.in_ranges e.0.pair.key.port.0) = next_new own empty g.front e.0 e.1 all in
+        placed e.0.told (own e.0.pair.key) (load own empty g.front) s.mine e.0.pair g.loading is_new.2 (g.table e.0.pair.key ∙ is_new.0) (g.owned e.0.pair.key.port.0) g.table is_new.1 m
   ]
 
   -- no record out of place comes

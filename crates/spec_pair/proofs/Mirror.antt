@@ -1,5 +1,5 @@
 -- A synced gateway's view of the other, seen from the other.
-use Rattle.std.proofs.Common.{◌≡◌, ℕ, Some, true, false, List, refl, sym, ap, subst, ◌∙◌, inl, inr}
+use Rattle.std.proofs.Common.{◌≡◌, ℕ, Some, true, false, List, refl, sym, subst, ◌∙◌, inl, inr}
 use Rattle.nat_types.specs.Same.{other}
 use Rattle.nat_types.specs.declared.gateways.GatewayId.{GatewayId}
 use Rattle.nat_types.specs.declared.gateways.GatewayId.TheVariants.{Zero, One}
@@ -9,7 +9,7 @@ use Rattle.spec_pair.specs.Box.{Box, Letter, In}
 use Rattle.spec_pair.proofs.Invariant.{Within, Real, View, Inv}
 use Rattle.spec_pair.proofs.Phase.{Phase, Matches, Talks}
 use Rattle.spec_pair.specs.Ownership.{Ranges}
-use Rattle.spec_pair.specs.Talk.{Slot, held, MachineRecord}
+use Rattle.spec_pair.specs.Talk.{Slot, MachineRecord}
 use Rattle.spec_pair.specs.World.{Scene, flip}
 use Rattle.spec_pair.proofs.Grants.{ports_flip}
 
@@ -19,7 +19,6 @@ module _ (owner : Key → GatewayId) where
   matches_same ph i table table2 fl h m = record {
     slots = λ k. h k ∙ m.slots k;
     flights = m.flights;
-    one_each = λ k q e a b. m.one_each k q e (ap held (sym (h k)) ∙ a) (ap held (sym (h q)) ∙ b);
   }
 
   pub talks_flip : (i : GatewayId) (mine theirs theirs2 : Key → Slot) (out inn : List MachineRecord) (ph : Key → Phase) → ((q : Key) → theirs2 q ≡ theirs q) → Talks owner i mine out theirs inn ph → Talks owner (other i) theirs2 inn mine out ph
@@ -29,6 +28,8 @@ module _ (owner : Key → GatewayId) where
     excused_out = λ e. t.excused_in refl;
     excused_in = λ e. t.excused_out (sym e);
     steady = t.steady;
+    one_each = t.one_each;
+    beside = t.beside;
   }
   talks_flip One mine theirs theirs2 out inn ph h t = record {
     here = matches_same ph Zero theirs theirs2 inn h t.there;
@@ -36,6 +37,8 @@ module _ (owner : Key → GatewayId) where
     excused_out = λ e. t.excused_in (sym e);
     excused_in = λ e. t.excused_out refl;
     steady = t.steady;
+    one_each = t.one_each;
+    beside = t.beside;
   }
 
 module _ (r : Ranges) where
@@ -61,11 +64,13 @@ module _ (r : Ranges) where
         letters = λ l inside boot to. subst (Within l) v.sent (letters l inside (boot ∙ real.back) (to ∙ sym real.peer));
         covers = v.covers;
         lets = v.lets;
+        were = v.were;
+        two = v.two;
         real = λ s. record { table_is = λ q. refl; owned_is = λ p. refl; want_is = refl; sent = v.sent; taken = v.taken; peer = real.back; back = real.peer; lone = v.lone };
         owes = λ m p. absurd (none m p);
         loads = λ s up p. let bad : true ≡ false = sym sa ∙ s in absurd (cc);
       }
 
   pub inv_flip : (i : GatewayId) (s : Scene) → Inv r i s → Inv r (other i) (flip s)
-  inv_flip Zero s v = record { fits = v.fits; silent = v.silent; some_synced = elim v.some_synced [ inl x ↦ inr x | inr x ↦ inl x ]; here = v.there; there = v.here }
-  inv_flip One s v = record { fits = v.fits; silent = v.silent; some_synced = elim v.some_synced [ inl x ↦ inr x | inr x ↦ inl x ]; here = v.there; there = v.here }
+  inv_flip Zero s v = record { one_port = v.one_port; one_endpoint = v.one_endpoint; silent = v.silent; some_synced = elim v.some_synced [ inl x ↦ inr x | inr x ↦ inl x ]; here = v.there; there = v.here }
+  inv_flip One s v = record { one_port = v.one_port; one_endpoint = v.one_endpoint; silent = v.silent; some_synced = elim v.some_synced [ inl x ↦ inr x | inr x ↦ inl x ]; here = v.there; there = v.here }

@@ -6,9 +6,9 @@ use Rattle.nat_types.specs.declared.gateways.GatewayId.TheVariants.{Zero, One}
 use Rattle.nat_types.specs.declared.pairs.Key.{Key}
 use Rattle.nat_types.specs.declared.pairs.Pair.{Pair}
 use Rattle.spec_pair.specs.Batch.{AreThose, AreApart, LieWithin}
-use Rattle.spec_pair.specs.Box.{AreBack, is_back, revived}
+use Rattle.spec_pair.specs.Box.{AreBack, Parcel, is_back, revived}
 use Rattle.spec_pair.specs.Ownership.{keyed, Ranges, in_run, left_to}
-use Rattle.spec_pair.specs.Rows.{live_first, held_first, LeadsTo, LeavesPorts, alone, alone_notes, promising, promising_notes, returning, returning_notes, naming, naming_notes, loading, loading_notes, using, using_notes, peer_off, peer_off_notes, pair_p, pair_q, udp, host, slot_on, two_ranges, range_of, six_ports, run_of}
+use Rattle.spec_pair.specs.Rows.{parcel_p, parcel_q, live_first, held_first, LeadsTo, LeavesPorts, alone, alone_notes, promising, promising_notes, returning, returning_notes, naming, naming_notes, loading, loading_notes, using, using_notes, peer_off, peer_off_notes, pair_p, pair_q, udp, host, slot_on, two_ranges, range_of, six_ports, run_of}
 use Rattle.spec_pair.specs.Talk.{Slot, Live, Free, held, Held, Pending}
 use Rattle.spec_pair.specs.World.{Scene, AreAllowed, founding, after_events}
 use Rattle.spec_pair.proofs.Batches.{fixed_leaves, batch_new, batch_mirrored}
@@ -80,9 +80,9 @@ parted_table k = revived (dropped_table k)
 not_parted : (k : Key) → (udp 20000 ≡ k → ⊥) → held (parted_table k) ≡ None
 not_parted k ne = ap (λ c. held (revived (cond (same_key (udp 20001) k) Free (cond (same_key (udp 20001) k) (Live (host 5001)) (cond c (Live (host 5000)) Free))))) (key-false (udp 20000) k ne) ∙ none_else (same_key (udp 20001) k)
 
-parted_those : AreThose parted_table (pair_p ∷ [])
+parted_those : AreThose parted_table (parcel_p ∷ [])
 unfolding same_key
-parted_those = those_one parted_table pair_p refl not_parted
+parted_those = those_one parted_table parcel_p refl not_parted
 
 parted_within : LieWithin two_ranges parted_table
 parted_within = within_one two_ranges parted_table pair_p refl not_parted
@@ -97,7 +97,7 @@ promising-allowed = (
   (
     (at_will, λ l h. absurd h, tt),
     (
-      ((refl, lit< tt, dropped_back, tt, fixed_leaves (in_run 20000 59999) range_of Zero, batch_new two_ranges to_one parted_table (pair_p ∷ []) parted_within parted_those (apart_one pair_p), batch_mirrored two_ranges to_one parted_table (pair_p ∷ []) parted_within parted_those (apart_one pair_p)), λ l h. elim h [ inl e ↦ inl e | inr b ↦ absurd b ], tt),
+      ((refl, lit< tt, dropped_back, tt, fixed_leaves (in_run 20000 59999) range_of Zero, batch_new two_ranges to_one parted_table (parcel_p ∷ []) parted_within parted_those (apart_one to_one parcel_p), batch_mirrored two_ranges to_one parted_table (parcel_p ∷ []) parted_within parted_those (apart_one to_one parcel_p)), λ l h. elim h [ inl e ↦ inl e | inr b ↦ absurd b ], tt),
       (
         ((refl, λ m h. let e : 2 ≡ m = promised_is 2 m h in omega arith), λ l h. absurd h, tt),
         (
@@ -138,22 +138,22 @@ promising_leads = record {
 }
 
 -- two pairs are all pairs of a table that holds them and nothing at the other keys
-those_two : (table : Key → Slot) (p q : Pair) → held (table p.key) ≡ Some p.endpoint → held (table q.key) ≡ Some q.endpoint → ((k : Key) → (p.key ≡ k → ⊥) → (q.key ≡ k → ⊥) → held (table k) ≡ None) → AreThose table (p ∷ q ∷ [])
-those_two table p q at_p at_q none x = (
-  λ h. elim h [
-    | inl e ↦ subst (λ (y : Pair). held (table y.key) ≡ Some y.endpoint) (sym e) at_p
-    | inr more ↦ elim more [ inl e ↦ subst (λ (y : Pair). held (table y.key) ≡ Some y.endpoint) (sym e) at_q | inr b ↦ absurd b ]
+pub those_two : (table : Key → Slot) (x y : Parcel) → held (table x.pair.key) ≡ Some x.pair.endpoint → held (table y.pair.key) ≡ Some y.pair.endpoint → ((k : Key) → (x.pair.key ≡ k → ⊥) → (y.pair.key ≡ k → ⊥) → held (table k) ≡ None) → AreThose table (x ∷ y ∷ [])
+those_two table x y at_x at_y none = (
+  λ z h. elim h [
+    | inl e ↦ subst (λ (w : Parcel). held (table w.pair.key) ≡ Some w.pair.endpoint) (sym e) at_x
+    | inr more ↦ elim more [ inl e ↦ subst (λ (w : Parcel). held (table w.pair.key) ≡ Some w.pair.endpoint) (sym e) at_y | inr b ↦ absurd b ]
   ],
-  λ h. elim (cases_key p.key x.key) [
-    | inl e ↦ inl (some_pair p.key p.endpoint x e (sym at_p ∙ ap (λ k. held (table k)) e ∙ h))
-    | inr np ↦ elim (cases_key q.key x.key) [
-      | inl e ↦ inr (inl (some_pair q.key q.endpoint x e (sym at_q ∙ ap (λ k. held (table k)) e ∙ h)))
-      | inr nq ↦ let bad : None ≡ Some x.endpoint = sym (none x.key np nq) ∙ h in absurd (cc)
+  λ p h. elim (cases_key x.pair.key p.key) [
+    | inl e ↦ (x, inl refl, sym (some_pair x.pair.key x.pair.endpoint p e (sym at_x ∙ ap (λ k. held (table k)) e ∙ h)))
+    | inr nx ↦ elim (cases_key y.pair.key p.key) [
+      | inl e ↦ (y, inr (inl refl), sym (some_pair y.pair.key y.pair.endpoint p e (sym at_y ∙ ap (λ k. held (table k)) e ∙ h)))
+      | inr ny ↦ let bad : None ≡ Some p.endpoint = sym (none p.key nx ny) ∙ h in absurd (cc)
     ]
   ],
 )
 
-within_two : (r : Ranges) (table : Key → Slot) (p q : Pair) → IsTrue (keyed r.in_ranges p.key) → IsTrue (keyed r.in_ranges q.key) → ((k : Key) → (p.key ≡ k → ⊥) → (q.key ≡ k → ⊥) → held (table k) ≡ None) → LieWithin r table
+pub within_two : (r : Ranges) (table : Key → Slot) (p q : Pair) → IsTrue (keyed r.in_ranges p.key) → IsTrue (keyed r.in_ranges q.key) → ((k : Key) → (p.key ≡ k → ⊥) → (q.key ≡ k → ⊥) → held (table k) ≡ None) → LieWithin r table
 within_two r table p q in_p in_q none k e h = elim (cases_key p.key k) [
   | inl at ↦ ap (keyed r.in_ranges) (sym at) ∙ in_p
   | inr np ↦ elim (cases_key q.key k) [
@@ -165,20 +165,20 @@ within_two r table p q in_p in_q none k e h = elim (cases_key p.key k) [
 two_ports : udp 20001 ≡ udp 20000 → ⊥
 two_ports e = let bad : true ≡ false = ap (λ (k : Key). k.port.0 == 20001) e in cc
 
-apart_two : AreApart (pair_p ∷ pair_q ∷ [])
-apart_two = (
-  λ x h. elim h [
-    | inl e ↦ (λ k. two_ports (sym (ap (λ (y : Pair). y.key) e) ∙ k), λ n. two_hosts (sym n ∙ ap (λ (y : Pair). y.endpoint) e))
+apart_two : (own : Key → Bool) → AreApart own (parcel_p ∷ parcel_q ∷ [])
+apart_two own = (
+  λ y h. elim h [
+    | inl e ↦ (λ k. two_ports (sym (ap (λ (z : Parcel). z.pair.key) e) ∙ k), λ n. absurd (two_hosts (sym n ∙ ap (λ (z : Parcel). z.pair.endpoint) e)))
     | inr b ↦ absurd b
   ],
-  ((λ x h. absurd h), tt),
+  ((λ y h. absurd h), tt),
 )
 
 -- gateway 0's table once it is lone again
 abbrev pub lone_table : Key → Slot
-lone_table k = revived (cond (same_key (udp 20001) k) (Pending (host 5001)) (cond (same_key (udp 20000) k) (Live (host 5000)) (cond (same_key (udp 20000) k) (Pending (host 5000)) Free)))
+lone_table k = revived (cond (same_key (udp 20001) k) (Pending false (host 5001)) (cond (same_key (udp 20000) k) (Live (host 5000)) (cond (same_key (udp 20000) k) (Pending false (host 5000)) Free)))
 
-none_waits : (b c : Bool) → is_back (revived (cond b (Pending (host 5001)) (cond c (Live (host 5000)) (cond c (Pending (host 5000)) Free)))) ≡ None
+none_waits : (b c : Bool) → is_back (revived (cond b (Pending false (host 5001)) (cond c (Live (host 5000)) (cond c (Pending false (host 5000)) Free)))) ≡ None
 none_waits true c = refl
 none_waits false true = refl
 none_waits false false = refl
@@ -191,12 +191,12 @@ both_table k = revived (lone_table k)
 
 neither : (k : Key) → (udp 20000 ≡ k → ⊥) → (udp 20001 ≡ k → ⊥) → held (both_table k) ≡ None
 neither k np nq =
-    ap (λ b. held (revived (revived (cond b (Pending (host 5001)) (cond (same_key (udp 20000) k) (Live (host 5000)) (cond (same_key (udp 20000) k) (Pending (host 5000)) Free)))))) (key-false (udp 20001) k nq)
-    ∙ ap (λ c. held (revived (revived (cond c (Live (host 5000)) (cond c (Pending (host 5000)) Free))))) (key-false (udp 20000) k np)
+    ap (λ b. held (revived (revived (cond b (Pending false (host 5001)) (cond (same_key (udp 20000) k) (Live (host 5000)) (cond (same_key (udp 20000) k) (Pending false (host 5000)) Free)))))) (key-false (udp 20001) k nq)
+    ∙ ap (λ c. held (revived (revived (cond c (Live (host 5000)) (cond c (Pending false (host 5000)) Free))))) (key-false (udp 20000) k np)
 
-both_those : AreThose both_table (pair_p ∷ pair_q ∷ [])
+both_those : AreThose both_table (parcel_p ∷ parcel_q ∷ [])
 unfolding same_key
-both_those = those_two both_table pair_p pair_q refl refl neither
+both_those = those_two both_table parcel_p parcel_q refl refl neither
 
 both_within : LieWithin two_ranges both_table
 both_within = within_two two_ranges both_table pair_p pair_q refl refl neither
@@ -211,7 +211,7 @@ returning-allowed = (
   (
     (at_will, λ l h. absurd h, tt),
     (
-      ((refl, lit< tt, lone_back, tt, fixed_leaves (in_run 20000 59999) range_of Zero, batch_new two_ranges to_one both_table (pair_p ∷ pair_q ∷ []) both_within both_those apart_two, batch_mirrored two_ranges to_one both_table (pair_p ∷ pair_q ∷ []) both_within both_those apart_two), λ l h. elim h [ inl e ↦ inl e | inr b ↦ absurd b ], tt),
+      ((refl, lit< tt, lone_back, tt, fixed_leaves (in_run 20000 59999) range_of Zero, batch_new two_ranges to_one both_table (parcel_p ∷ parcel_q ∷ []) both_within both_those (apart_two to_one), batch_mirrored two_ranges to_one both_table (parcel_p ∷ parcel_q ∷ []) both_within both_those (apart_two to_one)), λ l h. elim h [ inl e ↦ inl e | inr b ↦ absurd b ], tt),
       (
         (at_will, λ l h. absurd h, tt),
         (
@@ -235,7 +235,7 @@ returning-allowed = (
   ),
 )
 
-both_are : (b c : Bool) → revived (revived (cond b (Pending (host 5001)) (cond c (Live (host 5000)) (cond c (Pending (host 5000)) Free)))) ≡ cond b (Live (host 5001)) (cond c (Live (host 5000)) Free)
+both_are : (b c : Bool) → revived (revived (cond b (Pending false (host 5001)) (cond c (Live (host 5000)) (cond c (Pending false (host 5000)) Free)))) ≡ cond b (Live (host 5001)) (cond c (Live (host 5000)) Free)
 both_are true c = refl
 both_are false true = refl
 both_are false false = refl
@@ -259,9 +259,9 @@ none_live false = refl
 not_one : (k : Key) → (udp 20000 ≡ k → ⊥) → held (one_table k) ≡ None
 not_one k ne = ap (λ b. held (revived (cond b (Live (host 5000)) Free))) (key-false (udp 20000) k ne)
 
-one_those : AreThose one_table (pair_p ∷ [])
+one_those : AreThose one_table (parcel_p ∷ [])
 unfolding same_key
-one_those = those_one one_table pair_p refl not_one
+one_those = those_one one_table parcel_p refl not_one
 
 one_within : LieWithin six_ports one_table
 one_within = within_one six_ports one_table pair_p refl not_one
@@ -280,7 +280,7 @@ naming-allowed = (
       (
         (at_will, λ l h. absurd h, tt),
         (
-          ((refl, lit< tt, (λ x. ((λ h. absurd h), λ h. let bad : None ≡ Some x.endpoint = sym (none_live (same_key (udp 20000) x.key)) ∙ h in absurd (cc))), ((lit< tt, omega arith, six_low), tt), (λ p. rest_of (in_run 20000 20001 p) (in_run 40000 40003 p)), batch_new six_ports to_other one_table (pair_p ∷ []) one_within one_those (apart_one pair_p), batch_mirrored six_ports to_other one_table (pair_p ∷ []) one_within one_those (apart_one pair_p)), λ l h. elim h [ inl e ↦ inl e | inr b ↦ absurd b ], tt),
+          ((refl, lit< tt, (λ x. ((λ h. absurd h), λ h. let bad : None ≡ Some x.endpoint = sym (none_live (same_key (udp 20000) x.key)) ∙ h in absurd (cc))), ((lit< tt, omega arith, six_low), tt), (λ p. rest_of (in_run 20000 20001 p) (in_run 40000 40003 p)), batch_new six_ports to_other one_table (parcel_p ∷ []) one_within one_those (apart_one to_other parcel_p), batch_mirrored six_ports to_other one_table (parcel_p ∷ []) one_within one_those (apart_one to_other parcel_p)), λ l h. elim h [ inl e ↦ inl e | inr b ↦ absurd b ], tt),
           (
             (at_will, λ l h. absurd h, tt),
             (

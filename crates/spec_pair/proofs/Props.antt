@@ -1,41 +1,62 @@
 -- What is promised is a proposition. So it follows for each world of which the invariant is merely known to hold.
-use Rattle.std.proofs.Common.{inl, inr, ◌≡◌, ℕ, true, List, [], ◌∷◌, ◌++◌, ◌+◌, Some, reverse, sym, ap, subst, ◌∙◌}
+use Rattle.std.proofs.Common.{inl, inr, ◌⊎◌, IsTrue, ◌≡◌, ℕ, true, List, [], ◌∷◌, ◌++◌, ◌+◌, Some, reverse, sym, ap, subst, ◌∙◌}
 use Rattle.std.proofs.Math.Logic.{∥∥₁_elim}
 use Rattle.std.proofs.Props.{props}
 use Rattle.std.proofs.lemmas.Bool.{cases_Bool, both_ways}
 use Rattle.nat_types.specs.declared.gateways.GatewayId.{GatewayId}
 use Rattle.nat_types.specs.declared.gateways.GatewayId.TheVariants.{Zero, One}
 use Rattle.nat_types.specs.declared.notes.NoteKind.{NoteKind}
-use Rattle.nat_types.specs.declared.notes.NoteKind.TheVariants.{Used, Released, Retaken, Synced, Crashed, Booted}
+use Rattle.nat_types.specs.declared.notes.NoteKind.TheVariants.{Used, Released, Retaken, Alone, Synced, Crashed, Booted}
 use Rattle.nat_types.specs.declared.notes.Note.{Note}
-use Rattle.spec_trace.specs.Past.{is_synced, FitsAt, Fits, SilentAt, Silent, Kept, GoesOn}
+use Rattle.nat_types.specs.declared.pairs.Key.{Key}
+use Rattle.nat_types.specs.declared.pairs.Pair.{Pair}
+use Rattle.spec_trace.specs.Past.{is_synced, is_open, is_private, OnePortAt, OnePort, OneEndpointAt, OneEndpoint, SilentAt, Silent, IsHeldApart, Kept, AtMostTwo, GoesOn}
 use Rattle.spec_pair.specs.Box.{Letter, In, StandsNext, nth}
 use Rattle.spec_pair.proofs.Invariant.{Inv, View}
 use Rattle.spec_pair.specs.Ownership.{Ranges}
-use Rattle.spec_pair.specs.Talk.{MachineRecord}
+use Rattle.spec_pair.specs.Talk.{Slot, held, MachineRecord}
 use Rattle.spec_pair.specs.World.{HasOwners, IsWorld, Scene, seen_by, flip, IsKept, tables_of, founding, TableHolds, TableTranslates, box_in}
 use Rattle.spec_pair.proofs.Kept.{is_kept, has_owners, inv_run, inv_start}
 use Rattle.spec_pair.proofs.Loading.{Reading, reading}
 use Rattle.spec_pair.proofs.Mirror.{inv_flip}
+use Rattle.spec_pair.proofs.Inversions.{some_or_none, one_some, none_some}
+use Rattle.spec_pair.proofs.Set.{cases_endpoint}
 use Rattle.spec_trace.specs.Trace as TheTrace
+use Rattle.spec_trace.specs.Plain as plain
+use Rattle.spec_trace.proofs.Offered.{fits_plain, kept_plain}
 
 module _ (r : Ranges) where
-  fits_at_prop : (w : NoteKind) (t : List Note) → IsProp (FitsAt w t)
-  fits_at_prop (Used p) t = hlevel (props)
-  fits_at_prop (Released p) t = hlevel (props)
-  fits_at_prop (Retaken p) t = hlevel (props)
-  fits_at_prop Synced t = hlevel (props)
-  fits_at_prop Crashed t = hlevel (props)
-  fits_at_prop (Booted n) t = hlevel (props)
+  port_at_prop : (w : NoteKind) (t : List Note) → IsProp (OnePortAt w t)
+  port_at_prop (Used p) t = hlevel (props)
+  port_at_prop (Released p) t = hlevel (props)
+  port_at_prop (Retaken p) t = hlevel (props)
+  port_at_prop (Alone p) t = hlevel (props)
+  port_at_prop Synced t = hlevel (props)
+  port_at_prop Crashed t = hlevel (props)
+  port_at_prop (Booted n) t = hlevel (props)
 
-  fits_prop : (t : List Note) → IsProp (Fits t)
-  fits_prop [] = hlevel (props)
-  fits_prop (n ∷ t) = hlevel (fits_at_prop n.what t, fits_prop t, props)
+  port_prop : (t : List Note) → IsProp (OnePort t)
+  port_prop [] = hlevel (props)
+  port_prop (n ∷ t) = hlevel (port_at_prop n.what t, port_prop t, props)
+
+  endpoint_at_prop : (w : NoteKind) (t : List Note) → IsProp (OneEndpointAt w t)
+  endpoint_at_prop (Used p) t = hlevel (props)
+  endpoint_at_prop (Released p) t = hlevel (props)
+  endpoint_at_prop (Retaken p) t = hlevel (props)
+  endpoint_at_prop (Alone p) t = hlevel (props)
+  endpoint_at_prop Synced t = hlevel (props)
+  endpoint_at_prop Crashed t = hlevel (props)
+  endpoint_at_prop (Booted n) t = hlevel (props)
+
+  endpoint_prop : (t : List Note) → IsProp (OneEndpoint t)
+  endpoint_prop [] = hlevel (props)
+  endpoint_prop (n ∷ t) = hlevel (endpoint_at_prop n.what t, endpoint_prop t, props)
 
   silent_at_prop : (i : GatewayId) (w : NoteKind) (t : List Note) → IsProp (SilentAt i w t)
   silent_at_prop i (Used p) t = hlevel (props)
   silent_at_prop i (Released p) t = hlevel (props)
   silent_at_prop i (Retaken p) t = hlevel (props)
+  silent_at_prop i (Alone p) t = hlevel (props)
   silent_at_prop i Synced t = hlevel (props)
   silent_at_prop i Crashed t = hlevel (props)
   silent_at_prop i (Booted n) t = hlevel (props)
@@ -44,15 +65,79 @@ module _ (r : Ranges) where
   silent_prop [] = hlevel (props)
   silent_prop (n ∷ t) = hlevel (silent_at_prop n.by n.what t, silent_prop t, props)
 
-  kept_prop : (s : Scene) → IsProp (IsKept s.trace (tables_of s))
-  kept_prop s = hlevel (fits_prop s.trace, silent_prop s.trace, props)
+  -- what is promised, with Kept said so that it is a proposition
+  record IsMerely (t : List Note) (tables : GatewayId → Key → Slot) : Type 0 where
+    one_port : OnePort t
+    one_endpoint : OneEndpoint t
+    at_most_two : AtMostTwo (TableHolds tables) t
+    kept : (p : Pair) → IsTrue (is_open p t) → (i : GatewayId) → IsTrue (is_synced i t) → (TableHolds tables i p → ⊥) → (IsHeldApart (TableHolds tables) p t → ⊥) → ⊥
+    silent : Silent t
+    goes_on : GoesOn (TableTranslates tables) t
+
+  merely_prop : (s : Scene) → IsProp (IsMerely s.trace (tables_of s))
+  merely_prop s = hlevel (port_prop s.trace, endpoint_prop s.trace, silent_prop s.trace, props)
+
+  merely : (s : Scene) → IsKept s.trace (tables_of s) → IsMerely s.trace (tables_of s)
+  merely s k = record {
+    one_port = k.one_port;
+    one_endpoint = k.one_endpoint;
+    at_most_two = k.at_most_two;
+    kept = λ p o i z none_here none_apart. elim (k.kept p o i z) [ inl h ↦ none_here h | inr h ↦ none_apart h ];
+    silent = k.silent;
+    goes_on = k.goes_on;
+  }
+
+  holds_or_not : (tables : GatewayId → Key → Slot) (i : GatewayId) (p : Pair) → TableHolds tables i p ⊎ (TableHolds tables i p → ⊥)
+  holds_or_not tables i p = elim (some_or_none (held (tables i p.key))) [
+    | inl none ↦ inr (λ h. none_some (held (tables i p.key)) p.endpoint none h)
+    | inr some ↦ elim (cases_endpoint some.0 p.endpoint) [
+      | inl e ↦ inl (some.1 ∙ ap (λ x. Some x) e)
+      | inr ne ↦ inr (λ h. ne (one_some some.0 p.endpoint (sym some.1 ∙ h)))
+    ]
+  ]
+
+  apart_at : (tables : GatewayId → Key → Slot) (p : Pair) (t : List Note) (i : GatewayId) → IsHeldApart (TableHolds tables) p t ⊎ (IsTrue (is_synced i t) → IsTrue (is_private i p t) → TableHolds tables i p → ⊥)
+  apart_at tables p t i = elim (cases_Bool (is_synced i t)) [
+    | inr off ↦ inr (λ a b c. both_ways (is_synced i t) off a)
+    | inl a ↦ elim (cases_Bool (is_private i p t)) [
+      | inr off ↦ inr (λ x b c. both_ways (is_private i p t) off b)
+      | inl b ↦ elim (holds_or_not tables i p) [ inl c ↦ inl (i, a, b, c) | inr off ↦ inr (λ x y c. off c) ]
+    ]
+  ]
+
+  neither : (tables : GatewayId → Key → Slot) (p : Pair) (t : List Note) → (IsTrue (is_synced Zero t) → IsTrue (is_private Zero p t) → TableHolds tables Zero p → ⊥) → (IsTrue (is_synced One t) → IsTrue (is_private One p t) → TableHolds tables One p → ⊥) → IsHeldApart (TableHolds tables) p t → ⊥
+  neither tables p t zero one h = at h.0 h.1 h.2 h.3
+    where
+      at : (i : GatewayId) → IsTrue (is_synced i t) → IsTrue (is_private i p t) → TableHolds tables i p → ⊥
+      at Zero a b c = zero a b c
+      at One a b c = one a b c
+
+  apart_or_not : (tables : GatewayId → Key → Slot) (p : Pair) (t : List Note) → IsHeldApart (TableHolds tables) p t ⊎ (IsHeldApart (TableHolds tables) p t → ⊥)
+  apart_or_not tables p t = elim (apart_at tables p t Zero) [
+    | inl h ↦ inl h
+    | inr zero ↦ elim (apart_at tables p t One) [ inl h ↦ inl h | inr one ↦ inr (neither tables p t zero one) ]
+  ]
+
+  -- which of the two holds is told by the tables and the trace
+  told_kept : (s : Scene) → IsMerely s.trace (tables_of s) → IsKept s.trace (tables_of s)
+  told_kept s m = record {
+    one_port = m.one_port;
+    one_endpoint = m.one_endpoint;
+    at_most_two = m.at_most_two;
+    kept = λ p o i z. elim (holds_or_not (tables_of s) i p) [
+      | inl h ↦ inl h
+      | inr none_here ↦ elim (apart_or_not (tables_of s) p s.trace) [ inl h ↦ inr h | inr none_apart ↦ absurd (m.kept p o i z none_here none_apart) ]
+    ];
+    silent = m.silent;
+    goes_on = m.goes_on;
+  }
 
   -- the invariant holds of each world that can come about
   pub inv_world : (s : Scene) → IsWorld r s → ∥ Inv r Zero s ∥₁
   inv_world s w = ∥∥₁_elim w (hlevel) (λ v. ∣ subst (λ (x : Scene). Inv r Zero x) v.ends (inv_run r v.events (founding r) (inv_start r) v.allowed) ∣₁)
 
   pub promises : (s : Scene) → IsWorld r s → IsKept s.trace (tables_of s)
-  promises s w = ∥∥₁_elim (inv_world s w) (kept_prop s) (is_kept r s)
+  promises s w = told_kept s (∥∥₁_elim (inv_world s w) (merely_prop s) (λ v. merely s (is_kept r s v)))
 
   owners_prop : (s : Scene) → IsProp (HasOwners r s)
   owners_prop s = hlevel (props)
@@ -70,11 +155,23 @@ module _ (r : Ranges) where
 
   -- the promises, of the trace in the order in which its notes were made
   module _ (s : Scene) (trace : List Note) (w : IsWorld r s) (order : s.trace ≡ reverse trace) where
-    pub fits_in_order : TheTrace.Fits trace
-    fits_in_order = subst (λ (t : List Note). Fits t) order (promises s w).fits
+    pub port_in_order : TheTrace.OnePort trace
+    port_in_order = subst (λ (t : List Note). OnePort t) order (promises s w).one_port
+
+    pub endpoint_in_order : TheTrace.OneEndpoint trace
+    endpoint_in_order = subst (λ (t : List Note). OneEndpoint t) order (promises s w).one_endpoint
+
+    pub two_in_order : TheTrace.AtMostTwo (TableHolds (tables_of s)) trace
+    two_in_order = subst (λ (t : List Note). AtMostTwo (TableHolds (tables_of s)) t) order (promises s w).at_most_two
 
     pub kept_in_order : TheTrace.Kept (TableHolds (tables_of s)) trace
     kept_in_order = subst (λ (t : List Note). Kept (TableHolds (tables_of s)) t) order (promises s w).kept
+
+    pub fits_in_order : plain.IsPlain (reverse trace) → TheTrace.Fits trace
+    fits_in_order without = (fits_plain (reverse trace) without).0 (port_in_order, endpoint_in_order)
+
+    pub plain_in_order : plain.IsPlain (reverse trace) → plain.Kept (TableHolds (tables_of s)) (reverse trace)
+    plain_in_order without = (kept_plain (TableHolds (tables_of s)) (reverse trace) without).0 kept_in_order
 
     pub silent_in_order : TheTrace.Silent trace
     silent_in_order = subst (λ (t : List Note). Silent t) order (promises s w).silent

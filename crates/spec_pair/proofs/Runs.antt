@@ -9,9 +9,9 @@ use Rattle.nat_types.specs.declared.pairs.Endpoint.{Endpoint}
 use Rattle.nat_types.specs.declared.pairs.Key.{Key}
 use Rattle.nat_types.specs.declared.pairs.Pair.{Pair}
 use Rattle.spec_pair.specs.Batch.{AreThose, AreApart, LieWithin}
-use Rattle.spec_pair.specs.Box.{AreBack, is_back, revived}
+use Rattle.spec_pair.specs.Box.{AreBack, Parcel, is_back, revived}
 use Rattle.spec_pair.specs.Ownership.{keyed, Ranges, has, in_run, left_to}
-use Rattle.spec_pair.specs.Rows.{live_first, held_first, pair_p, crossing, peer_off, using, wanting, asked_yes_notes, LeavesPorts, granting, loading_notes, granted, udp, revival_notes, asked_no_notes, pair_q, range_of, asked_no, loading, sharing, in_six, six_ports, slot_on, two_ranges, revival, losing_notes, host, peer_off_notes, LeadsTo, crossing_notes, losing, using_notes, asked_yes, doomed_notes, doomed}
+use Rattle.spec_pair.specs.Rows.{parcel_p, live_first, held_first, pair_p, crossing, peer_off, using, wanting, asked_yes_notes, LeavesPorts, granting, loading_notes, granted, udp, revival_notes, asked_no_notes, pair_q, range_of, asked_no, loading, sharing, in_six, six_ports, slot_on, two_ranges, revival, losing_notes, host, peer_off_notes, LeadsTo, crossing_notes, losing, using_notes, asked_yes, doomed_notes, doomed}
 use Rattle.spec_pair.specs.Talk.{Slot, Live, Closing, Free, Doomed, held, Held, pair_of, Pending}
 use Rattle.spec_pair.proofs.Worlds.{allowed_join}
 use Rattle.spec_pair.specs.World.{MachineEvent, Scene, AreAllowed, founding, after_events}
@@ -35,17 +35,20 @@ back_one table p here none x = (
   λ h. elim (cases_key p.key x.key) [ inl e ↦ inl (some_pair p.key p.endpoint x e (sym here ∙ ap (λ k. is_back (table k)) e ∙ h)) | inr ne ↦ let bad : None ≡ Some x.endpoint = sym (none x.key ne) ∙ h in absurd (cc) ],
 )
 
-pub those_one : (table : Key → Slot) (p : Pair) → held (table p.key) ≡ Some p.endpoint → ((k : Key) → (p.key ≡ k → ⊥) → held (table k) ≡ None) → AreThose table (p ∷ [])
-those_one table p here none x = (
-  λ h. elim h [ inl e ↦ subst (λ (y : Pair). held (table y.key) ≡ Some y.endpoint) (sym e) here | inr b ↦ absurd b ],
-  λ h. elim (cases_key p.key x.key) [ inl e ↦ inl (some_pair p.key p.endpoint x e (sym here ∙ ap (λ k. held (table k)) e ∙ h)) | inr ne ↦ let bad : None ≡ Some x.endpoint = sym (none x.key ne) ∙ h in absurd (cc) ],
+pub those_one : (table : Key → Slot) (x : Parcel) → held (table x.pair.key) ≡ Some x.pair.endpoint → ((k : Key) → (x.pair.key ≡ k → ⊥) → held (table k) ≡ None) → AreThose table (x ∷ [])
+those_one table x here none = (
+  λ y h. elim h [ inl e ↦ subst (λ (z : Parcel). held (table z.pair.key) ≡ Some z.pair.endpoint) (sym e) here | inr b ↦ absurd b ],
+  λ p h. elim (cases_key x.pair.key p.key) [
+    | inl e ↦ (x, inl refl, sym (some_pair x.pair.key x.pair.endpoint p e (sym here ∙ ap (λ k. held (table k)) e ∙ h)))
+    | inr ne ↦ let bad : None ≡ Some p.endpoint = sym (none p.key ne) ∙ h in absurd (cc)
+  ],
 )
 
 pub within_one : (r : Ranges) (table : Key → Slot) (p : Pair) → IsTrue (keyed r.in_ranges p.key) → ((k : Key) → (p.key ≡ k → ⊥) → held (table k) ≡ None) → LieWithin r table
 within_one r table p inside none k e h = elim (cases_key p.key k) [ inl at ↦ ap (keyed r.in_ranges) (sym at) ∙ inside | inr ne ↦ let bad : None ≡ Some e = sym (none k ne) ∙ h in absurd (cc) ]
 
-pub apart_one : (p : Pair) → AreApart (p ∷ [])
-apart_one p = ((λ q h. absurd h), tt)
+pub apart_one : (own : Key → Bool) (x : Parcel) → AreApart own (x ∷ [])
+apart_one own x = ((λ y h. absurd h), tt)
 
 -- a slot written twice has what was written last
 over_one : (b : Bool) (x y : Slot) → cond b x (cond b y Free) ≡ cond b x Free
@@ -68,11 +71,11 @@ freed_three : (b : Bool) (x y z : Slot) → cond b Free (cond b x (cond b y (con
 freed_three true x y z = refl
 freed_three false x y z = refl
 
-revived_one : (b : Bool) (e : Endpoint) → revived (cond b (Closing e) (cond b (Live e) (cond b (Pending e) Free))) ≡ cond b (Live e) Free
+revived_one : (b : Bool) (e : Endpoint) → revived (cond b (Closing false e) (cond b (Live e) (cond b (Pending false e) Free))) ≡ cond b (Live e) Free
 revived_one true e = refl
 revived_one false e = refl
 
-pub revived_two : (b c : Bool) (e f : Endpoint) → revived (cond b (Pending e) (cond c (Live f) (cond c (Pending f) Free))) ≡ cond b (Live e) (cond c (Live f) Free)
+pub revived_two : (b c : Bool) (e f : Endpoint) → revived (cond b (Pending false e) (cond c (Live f) (cond c (Pending false f) Free))) ≡ cond b (Live e) (cond c (Live f) Free)
 revived_two true c e f = refl
 revived_two false true e f = refl
 revived_two false false e f = refl
@@ -119,7 +122,7 @@ using-allowed = (
       (
         (at_will, λ l h. absurd h, tt),
         (
-          ((refl, refl, refl, refl, record { up = refl; boot = refl; to = refl; number = refl; record_is = refl }), λ l h. elim h [ inl e ↦ inl e | inr b ↦ absurd b ], tt),
+          ((refl, refl, (false, refl), refl, record { up = refl; boot = refl; to = refl; number = refl; record_is = refl }), λ l h. elim h [ inl e ↦ inl e | inr b ↦ absurd b ], tt),
           (
             ((refl, refl, refl, refl), λ l h. absurd h, tt),
             tt,
@@ -140,7 +143,7 @@ pub using_leads : LeadsTo two_ranges (loading ++ using) (loading_notes ++ using_
 using_leads = record {
   allowed = allowed_join two_ranges loading using (founding two_ranges) loading-allowed using-allowed;
   trace_is = refl;
-  zero_is = λ k. over_one (same_key (udp 20000) k) (Live (host 5000)) (Pending (host 5000));
+  zero_is = λ k. over_one (same_key (udp 20000) k) (Live (host 5000)) (Pending false (host 5000));
   one_is = λ k. refl;
 }
 
@@ -163,7 +166,7 @@ crossing-allowed = (
               (
                 (at_will, λ l h. absurd h, tt),
                 (
-                  ((refl, refl, refl, refl, record { up = refl; boot = refl; to = refl; number = refl; record_is = refl }), λ l h. elim h [ inl e ↦ inl e | inr b ↦ absurd b ], tt),
+                  ((refl, refl, (false, refl), refl, record { up = refl; boot = refl; to = refl; number = refl; record_is = refl }), λ l h. elim h [ inl e ↦ inl e | inr b ↦ absurd b ], tt),
                   (
                     (at_will, λ l h. absurd h, tt),
                     (
@@ -185,8 +188,8 @@ pub crossing_leads : LeadsTo two_ranges (loading ++ crossing) (loading_notes ++ 
 crossing_leads = record {
   allowed = allowed_join two_ranges loading crossing (founding two_ranges) loading-allowed crossing-allowed;
   trace_is = refl;
-  zero_is = λ k. over_one (same_key (udp 20000) k) (Live (host 5000)) (Pending (host 5000));
-  one_is = λ k. over_both (same_key (udp 40000) k) (same_key (udp 20000) k) (Held (host 5000)) (Doomed (host 5000)) (Pending (host 5000));
+  zero_is = λ k. over_one (same_key (udp 20000) k) (Live (host 5000)) (Pending false (host 5000));
+  one_is = λ k. over_both (same_key (udp 40000) k) (same_key (udp 20000) k) (Held (host 5000)) (Doomed (host 5000)) (Pending false (host 5000));
 }
 
 yes-allowed : AreAllowed two_ranges asked_yes Paired
@@ -212,7 +215,7 @@ pub yes_leads : LeadsTo two_ranges (loading ++ using ++ asked_yes) (loading_note
 yes_leads = record {
   allowed = paired-allowed asked_yes yes-allowed;
   trace_is = refl;
-  zero_is = λ k. freed_three (same_key (udp 20000) k) (Closing (host 5000)) (Live (host 5000)) (Pending (host 5000));
+  zero_is = λ k. freed_three (same_key (udp 20000) k) (Closing false (host 5000)) (Live (host 5000)) (Pending false (host 5000));
   one_is = λ k. freed_one (same_key (udp 20000) k) (Held (host 5000));
 }
 
@@ -229,7 +232,7 @@ no-allowed = (
         (
           (at_will, λ l h. absurd h, tt),
           (
-            ((refl, refl, refl, refl, record { up = refl; boot = refl; to = refl; number = refl; record_is = refl }), λ l h. elim h [ inl e ↦ inl e | inr b ↦ absurd b ], tt),
+            ((refl, refl, (false, refl), refl, record { up = refl; boot = refl; to = refl; number = refl; record_is = refl }), λ l h. elim h [ inl e ↦ inl e | inr b ↦ absurd b ], tt),
             tt,
           ),
         ),
@@ -242,16 +245,16 @@ pub no_leads : LeadsTo two_ranges (loading ++ using ++ asked_no) (loading_notes 
 no_leads = record {
   allowed = paired-allowed asked_no no-allowed;
   trace_is = refl;
-  zero_is = λ k. over_three (same_key (udp 20000) k) (Live (host 5000)) (Closing (host 5000)) (Live (host 5000)) (Pending (host 5000));
+  zero_is = λ k. over_three (same_key (udp 20000) k) (Live (host 5000)) (Closing false (host 5000)) (Live (host 5000)) (Pending false (host 5000));
   one_is = λ k. refl;
 }
 
 -- gateway 0's table while the pair is asked for
 abbrev pub closing_table : Key → Slot
-closing_table k = cond (same_key (udp 20000) k) (Closing (host 5000)) (cond (same_key (udp 20000) k) (Live (host 5000)) (cond (same_key (udp 20000) k) (Pending (host 5000)) Free))
+closing_table k = cond (same_key (udp 20000) k) (Closing false (host 5000)) (cond (same_key (udp 20000) k) (Live (host 5000)) (cond (same_key (udp 20000) k) (Pending false (host 5000)) Free))
 
 pub not_closing : (k : Key) → (udp 20000 ≡ k → ⊥) → closing_table k ≡ Free
-not_closing k ne = ap (λ b. cond b (Closing (host 5000)) (cond b (Live (host 5000)) (cond b (Pending (host 5000)) Free))) (key-false (udp 20000) k ne)
+not_closing k ne = ap (λ b. cond b (Closing false (host 5000)) (cond b (Live (host 5000)) (cond b (Pending false (host 5000)) Free))) (key-false (udp 20000) k ne)
 
 closing_back : AreBack closing_table (pair_p ∷ [])
 unfolding same_key
@@ -260,9 +263,9 @@ closing_back = back_one closing_table pair_p refl (λ k ne. ap is_back (not_clos
 abbrev pub revived_table : Key → Slot
 revived_table k = revived (closing_table k)
 
-revived_those : AreThose revived_table (pair_p ∷ [])
+revived_those : AreThose revived_table (parcel_p ∷ [])
 unfolding same_key
-revived_those = those_one revived_table pair_p refl (λ k ne. ap (λ s. held (revived s)) (not_closing k ne))
+revived_those = those_one revived_table parcel_p refl (λ k ne. ap (λ s. held (revived s)) (not_closing k ne))
 
 revived_within : LieWithin two_ranges revived_table
 revived_within = within_one two_ranges revived_table pair_p refl (λ k ne. ap (λ s. held (revived s)) (not_closing k ne))
@@ -281,7 +284,7 @@ revival-allowed = (
       (
         (at_will, λ l h. absurd h, tt),
         (
-          ((refl, lit< tt, closing_back, tt, fixed_leaves (in_run 20000 59999) range_of Zero, batch_new two_ranges to_one revived_table (pair_p ∷ []) revived_within revived_those (apart_one pair_p), batch_mirrored two_ranges to_one revived_table (pair_p ∷ []) revived_within revived_those (apart_one pair_p)), λ l h. elim h [ inl e ↦ inl e | inr b ↦ absurd b ], tt),
+          ((refl, lit< tt, closing_back, tt, fixed_leaves (in_run 20000 59999) range_of Zero, batch_new two_ranges to_one revived_table (parcel_p ∷ []) revived_within revived_those (apart_one to_one parcel_p), batch_mirrored two_ranges to_one revived_table (parcel_p ∷ []) revived_within revived_those (apart_one to_one parcel_p)), λ l h. elim h [ inl e ↦ inl e | inr b ↦ absurd b ], tt),
           (
             (at_will, λ l h. absurd h, tt),
             (
@@ -312,23 +315,23 @@ revival_leads = record {
   one_is = λ k. refl;
 }
 
-none_back : (b c : Bool) (e : Endpoint) → is_back (cond b (Held e) (cond c (Doomed e) (cond c (Pending e) Free))) ≡ None
+none_back : (b c : Bool) (e : Endpoint) → is_back (cond b (Held e) (cond c (Doomed e) (cond c (Pending false e) Free))) ≡ None
 none_back true c e = refl
 none_back false true e = refl
 none_back false false e = refl
 
-none_held : (c : Bool) (e : Endpoint) → held (revived (cond c (Doomed e) (cond c (Pending e) Free))) ≡ None
+none_held : (c : Bool) (e : Endpoint) → held (revived (cond c (Doomed e) (cond c (Pending false e) Free))) ≡ None
 none_held true e = refl
 none_held false e = refl
 
-freed_both : (b c : Bool) (e : Endpoint) → revived (cond b (Held e) (cond c (Doomed e) (cond c (Pending e) Free))) ≡ cond b (Held e) Free
+freed_both : (b c : Bool) (e : Endpoint) → revived (cond b (Held e) (cond c (Doomed e) (cond c (Pending false e) Free))) ≡ cond b (Held e) Free
 freed_both true c e = refl
 freed_both false true e = refl
 freed_both false false e = refl
 
 -- gateway 1's table while its own proposal is given up
 abbrev pub doomed_table : Key → Slot
-doomed_table k = cond (same_key (udp 20000) k) (Held (host 5000)) (cond (same_key (udp 40000) k) (Doomed (host 5000)) (cond (same_key (udp 40000) k) (Pending (host 5000)) Free))
+doomed_table k = cond (same_key (udp 20000) k) (Held (host 5000)) (cond (same_key (udp 40000) k) (Doomed (host 5000)) (cond (same_key (udp 40000) k) (Pending false (host 5000)) Free))
 
 doomed_back : AreBack doomed_table []
 doomed_back x = ((λ h. absurd h), λ h. let bad : None ≡ Some x.endpoint = sym (none_back (same_key (udp 20000) x.key) (same_key (udp 40000) x.key) (host 5000)) ∙ h in absurd (cc))
@@ -337,11 +340,11 @@ abbrev pub freed_table : Key → Slot
 freed_table k = revived (doomed_table k)
 
 not_freed : (k : Key) → (udp 20000 ≡ k → ⊥) → held (freed_table k) ≡ None
-not_freed k ne = ap (λ b. held (revived (cond b (Held (host 5000)) (cond (same_key (udp 40000) k) (Doomed (host 5000)) (cond (same_key (udp 40000) k) (Pending (host 5000)) Free))))) (key-false (udp 20000) k ne) ∙ none_held (same_key (udp 40000) k) (host 5000)
+not_freed k ne = ap (λ b. held (revived (cond b (Held (host 5000)) (cond (same_key (udp 40000) k) (Doomed (host 5000)) (cond (same_key (udp 40000) k) (Pending false (host 5000)) Free))))) (key-false (udp 20000) k ne) ∙ none_held (same_key (udp 40000) k) (host 5000)
 
-freed_those : AreThose freed_table (pair_p ∷ [])
+freed_those : AreThose freed_table (parcel_p ∷ [])
 unfolding same_key
-freed_those = those_one freed_table pair_p refl not_freed
+freed_those = those_one freed_table parcel_p refl not_freed
 
 freed_within : LieWithin two_ranges freed_table
 freed_within = within_one two_ranges freed_table pair_p refl not_freed
@@ -368,7 +371,7 @@ doomed-allowed = (
               (
                 (at_will, λ l h. absurd h, tt),
                 (
-                  ((refl, lit< tt, doomed_back, tt, fixed_leaves (in_run 20000 59999) range_of One, batch_new two_ranges to_zero freed_table (pair_p ∷ []) freed_within freed_those (apart_one pair_p), batch_mirrored two_ranges to_zero freed_table (pair_p ∷ []) freed_within freed_those (apart_one pair_p)), λ l h. elim h [ inl e ↦ inl e | inr b ↦ absurd b ], tt),
+                  ((refl, lit< tt, doomed_back, tt, fixed_leaves (in_run 20000 59999) range_of One, batch_new two_ranges to_zero freed_table (parcel_p ∷ []) freed_within freed_those (apart_one to_zero parcel_p), batch_mirrored two_ranges to_zero freed_table (parcel_p ∷ []) freed_within freed_those (apart_one to_zero parcel_p)), λ l h. elim h [ inl e ↦ inl e | inr b ↦ absurd b ], tt),
                   (
                     (at_will, λ l h. absurd h, tt),
                     (
@@ -406,21 +409,21 @@ doomed_leads = record {
 pub two_hosts : host 5000 ≡ host 5001 → ⊥
 two_hosts e = let bad : true ≡ false = ap (λ (x : Endpoint). nat_lt x.port.0 5001) e in cc
 
-new_host : (b : Bool) → held (cond b (Live (host 5000)) (cond b (Pending (host 5000)) Free)) ≡ Some (host 5001) → ⊥
+new_host : (b : Bool) → held (cond b (Live (host 5000)) (cond b (Pending false (host 5000)) Free)) ≡ Some (host 5001) → ⊥
 new_host true h = two_hosts (cc)
 new_host false h = cc
 
-pub old_kept : (b : Bool) → is_back (cond b (Live (host 5000)) (cond b (Pending (host 5000)) Free)) ≡ None
+pub old_kept : (b : Bool) → is_back (cond b (Live (host 5000)) (cond b (Pending false (host 5000)) Free)) ≡ None
 old_kept true = refl
 old_kept false = refl
 
 -- gateway 0's table while it proposes a second pair
 abbrev pub waiting_table : Key → Slot
-waiting_table k = cond (same_key (udp 20001) k) (Pending (host 5001)) (cond (same_key (udp 20000) k) (Live (host 5000)) (cond (same_key (udp 20000) k) (Pending (host 5000)) Free))
+waiting_table k = cond (same_key (udp 20001) k) (Pending false (host 5001)) (cond (same_key (udp 20000) k) (Live (host 5000)) (cond (same_key (udp 20000) k) (Pending false (host 5000)) Free))
 
 waiting_back : AreBack waiting_table (pair_q ∷ [])
 unfolding same_key
-waiting_back = back_one waiting_table pair_q refl (λ k ne. ap (λ b. is_back (cond b (Pending (host 5001)) (cond (same_key (udp 20000) k) (Live (host 5000)) (cond (same_key (udp 20000) k) (Pending (host 5000)) Free)))) (key-false (udp 20001) k ne) ∙ old_kept (same_key (udp 20000) k))
+waiting_back = back_one waiting_table pair_q refl (λ k ne. ap (λ b. is_back (cond b (Pending false (host 5001)) (cond (same_key (udp 20000) k) (Live (host 5000)) (cond (same_key (udp 20000) k) (Pending false (host 5000)) Free)))) (key-false (udp 20001) k ne) ∙ old_kept (same_key (udp 20000) k))
 
 pub off-allowed : AreAllowed two_ranges peer_off Paired
 unfolding same_key

@@ -36,13 +36,15 @@ module _ (r : Ranges) where
       let here : Side r i s.mine s.theirs s.my_mail s.their_mail s.trace = v.here in
       let there : Side r (other i) s.theirs s.mine s.their_mail s.my_mail s.trace = v.there in
       record {
-        fits = v.fits;
+        one_port = v.one_port;
+        one_endpoint = v.one_endpoint;
         silent = v.silent;
         some_synced = v.some_synced;
         here = record {
           synced_is = here.synced_is;
           up_synced = here.up_synced;
           goes = here.goes;
+          private = here.private;
           letters = λ u alone l inside boot to. elim inside [ inl e ↦ subst (λ (x : Letter). Within x s.mine.sent) (sym e) (letter_within s.mine first count) | inr old ↦ here.letters u alone l old boot to ];
           barred = λ m p l inside boot to n q h. elim inside [ inl e ↦ (let c = can.0.1 m p in let less : n < count = nth_less count (drop first s.mine.sent) n q (ap (λ (x : Letter). nth x.records n) (sym e) ∙ h) in let f : l.first ≡ first = ap (λ (x : Letter). x.first) e in omega arith) | inr old ↦ here.barred m p l old boot to n q h ];
           boots = λ l inside. elim inside [ inl e ↦ subst (λ (x : Letter). (x.boot ≤ s.mine.boot) × (x.to ≤ s.theirs.boot)) (sym e) (le_refl s.mine.boot, here.peer_at) | inr old ↦ here.boots l old ];
@@ -57,6 +59,7 @@ module _ (r : Ranges) where
           synced_is = there.synced_is;
           up_synced = there.up_synced;
           goes = there.goes;
+          private = there.private;
           letters = there.letters;
           barred = there.barred;
           boots = there.boots;
@@ -85,6 +88,8 @@ module _ (r : Ranges) where
                 ])
                 x.covers
                 x.lets
+                x.were
+                x.two
                 x.real
                 x.owes
                 x.loads)

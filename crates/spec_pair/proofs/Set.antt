@@ -8,7 +8,7 @@ use Rattle.nat_types.specs.declared.gateways.GatewayId.TheVariants.{Zero, One}
 use Rattle.nat_types.specs.declared.pairs.Endpoint.{Endpoint}
 use Rattle.nat_types.specs.declared.pairs.Key.{Key}
 use Rattle.spec_pair.proofs.Phase.{owns, has_accept}
-use Rattle.spec_pair.specs.Talk.{MachineRecord, Install, Accept, Refuse, Ask, Yes, No, Begin, Put, Done, Want, Grant, Owner, is_on, on, set_at}
+use Rattle.spec_pair.specs.Talk.{MachineRecord, Install, Accept, Refuse, Ask, Yes, No, Begin, Put, Done, Want, Grant, Owner, Tell, is_on, on, set_at}
 
 pub cases_key : (a b : Key) → (a ≡ b) ⊎ (a ≡ b → ⊥)
 cases_key a b = elim (cases_Bool (same_key a b)) [ inl e ↦ inl (key-eq a b e) | inr e ↦ inr (λ h. both_ways (same_key a b) e (key-true a b h)) ]
@@ -59,6 +59,7 @@ no_accept k (Done ∷ rs) e = no_accept k rs e
 no_accept k (Want ∷ rs) e = no_accept k rs e
 no_accept k (Grant qs ∷ rs) e = no_accept k rs e
 no_accept k (Owner fst lst ∷ rs) e = no_accept k rs e
+no_accept k (Tell q n ∷ rs) e = elim (cases_key k q) [ inl h ↦ cc (on_here k (Tell q n) rs (key-true k q h)) | inr h ↦ no_accept k rs (sym (on_elsewhere k (Tell q n) rs (key-false k q h)) ∙ e) ]
 
 pub same-other : (i j : GatewayId) → same (other i) j ≡ not (same i j)
 same-other Zero Zero = refl
@@ -68,3 +69,26 @@ same-other One One = refl
 
 pub other-owns : (owner : Key → GatewayId) (i : GatewayId) (k : Key) → owns owner (other i) k ≡ not (owns owner i k)
 other-owns owner i k = same-other i (owner k)
+
+pub cases_gateway : (i j : GatewayId) → (i ≡ j) ⊎ (i ≡ j → ⊥)
+cases_gateway Zero Zero = inl refl
+cases_gateway Zero One = inr (λ h. cc)
+cases_gateway One Zero = inr (λ h. cc)
+cases_gateway One One = inl refl
+
+same-apart : (i a b : GatewayId) → (a ≡ b → ⊥) → same i b ≡ not (same i a)
+same-apart Zero Zero Zero ne = absurd (ne refl)
+same-apart Zero Zero One ne = refl
+same-apart Zero One Zero ne = refl
+same-apart Zero One One ne = absurd (ne refl)
+same-apart One Zero Zero ne = absurd (ne refl)
+same-apart One Zero One ne = refl
+same-apart One One Zero ne = refl
+same-apart One One One ne = absurd (ne refl)
+
+-- of two keys of different gateways a gateway owns the one that it doesn't own the other of
+pub apart_owns : (owner : Key → GatewayId) (i : GatewayId) (k q : Key) → (owner k ≡ owner q → ⊥) → owns owner i q ≡ not (owns owner i k)
+apart_owns owner i k q ne = same-apart i (owner k) (owner q) ne
+
+pub alike_owns : (owner : Key → GatewayId) (i : GatewayId) (k q : Key) → owner k ≡ owner q → owns owner i q ≡ owns owner i k
+alike_owns owner i k q e = ap (same i) (sym e)

@@ -1,5 +1,5 @@
 -- Whatever record is at the next number, the act that the record table names takes it.
-use Rattle.std.proofs.Common.{◌≡◌, ◌==◌, ℕ, Bool, true, false, not, ◌&&◌, List, [], ◌∷◌, None, Some, Option, cond, filter, refl, sym, ap, ◌∙◌, inl, inr}
+use Rattle.std.proofs.Common.{◌≡◌, ◌==◌, ℕ, Bool, true, false, not, ◌&&◌, List, [], ◌∷◌, None, Some, Option, cond, filter, refl, sym, ap, subst, ◌∙◌, inl, inr}
 use Rattle.std.proofs.lemmas.Bool.{cases_Bool, both_ways, and_from, and_parts, eqb-true}
 use Rattle.nat_types.specs.Same.{same}
 use Rattle.nat_types.specs.declared.gateways.GatewayId.{GatewayId}
@@ -7,19 +7,15 @@ use Rattle.nat_types.specs.declared.gateways.GatewayId.TheVariants.{Zero, One}
 use Rattle.nat_types.specs.declared.pairs.Endpoint.{Endpoint}
 use Rattle.nat_types.specs.declared.pairs.Key.{Key}
 use Rattle.addresses.specs.declared.transport.Protocol.TheVariants.{Icmp, Tcp, Udp}
-use Rattle.spec_pair.specs.Acts.{IsMisplaced, AreGot, Take, LoadOwner, LoadDone, LoadSkip, TakePorts, LosePorts}
+use Rattle.spec_pair.specs.Acts.{IsMisplaced, AreGot, Take, LoadOwner, LoadPut, LoadDone, LoadSkip, TakePorts, LosePorts}
 use Rattle.spec_pair.specs.Box.{Box, StandsNext, Letter}
 use Rattle.spec_pair.specs.Ownership.{has, Ranges, keyed}
-use Rattle.spec_pair.specs.RecordTable.{Absent, Proposed, Bound, Finding, Finds, Facts, AreFacts, is_free, key_of, accepted, refused, asked, agreed_to, denied, proposed, installed, is_senders, becomes_owned, has_no_entry, act_at_synced, act_at_unsynced, act_unless_promised, act_by_table, put_in, DoesTake}
-use Rattle.spec_pair.specs.Talk.{Slot, Free, Pending, Doomed, Live, Closing, Held, MachineRecord, Install, Accept, Refuse, Ask, Yes, No, Begin, Put, Done, Want, Grant, Owner, Deed, Skip, Yield, Reject, held, MayDo, taken_by}
+use Rattle.spec_pair.specs.RecordTable.{Absent, Proposed, Bound, Finding, Finds, Facts, AreFacts, is_free, key_of, accepted, refused, asked, agreed_to, denied, proposed, installed, told, is_senders, becomes_owned, has_no_entry, act_at_synced, act_at_unsynced, act_unless_promised, act_by_table, parcel, put_in, DoesTake}
+use Rattle.spec_pair.specs.Talk.{Slot, Free, Pending, Doomed, Live, Closing, Held, Alone, MachineRecord, Install, Accept, Refuse, Ask, Yes, No, Begin, Put, Done, Want, Grant, Owner, Tell, Deed, Skip, Yield, Reject, Adopt, Decline, Leave, Stay, held, MayDo, taken_by, IsUnboundOn}
 
 free_is : (s : Slot) → is_free s ≡ true → s ≡ Free
 free_is Free h = refl
-free_is (Pending e) h = cc
-free_is (Doomed e) h = cc
-free_is (Live e) h = cc
-free_is (Closing e) h = cc
-free_is (Held e) h = cc
+free_is s h = cc
 
 keep_if : (b c d : Bool) → (b ≡ true → d ≡ true) → (cond b true (c && d)) ≡ (cond b true c && d)
 keep_if true c d h = sym (h refl)
@@ -53,45 +49,40 @@ module _ (own : Key → Bool) (i : GatewayId) (table : Key → Slot) where
   DoesIt d q = MayDo own i table d × (taken_by d ≡ q ∷ [])
 
   accepts : (k : Key) (s : Slot) → table k ≡ s → DoesIt (accepted k s) (Accept k)
-  accepts k Free h = (λ e o x. cc, refl)
-  accepts k (Pending n) h = (h, refl)
-  accepts k (Doomed n) h = (λ e o x. cc, refl)
-  accepts k (Live n) h = (λ e o x. cc, refl)
-  accepts k (Closing n) h = (λ e o x. cc, refl)
-  accepts k (Held n) h = (λ e o x. cc, refl)
+  accepts k (Pending m n) h = ((m, h), refl)
+  accepts k s h = (λ m e o x. cc, refl)
 
   refuses : (k : Key) (s : Slot) → table k ≡ s → DoesIt (refused k s) (Refuse k)
-  refuses k Free h = (λ e o x. elim x [ inl y ↦ cc | inr y ↦ cc ], refl)
-  refuses k (Pending n) h = ((n, inl h), refl)
+  refuses k (Pending true n) h = (h, refl)
+  refuses k (Pending false n) h = ((n, inl h), refl)
   refuses k (Doomed n) h = ((n, inr h), refl)
-  refuses k (Live n) h = (λ e o x. elim x [ inl y ↦ cc | inr y ↦ cc ], refl)
-  refuses k (Closing n) h = (λ e o x. elim x [ inl y ↦ cc | inr y ↦ cc ], refl)
-  refuses k (Held n) h = (λ e o x. elim x [ inl y ↦ cc | inr y ↦ cc ], refl)
+  refuses k Free h = (λ m e o x. elim x [ inl y ↦ cc | inr y ↦ cc ], refl)
+  refuses k (Live n) h = (λ m e o x. elim x [ inl y ↦ cc | inr y ↦ cc ], refl)
+  refuses k (Closing b n) h = (λ m e o x. elim x [ inl y ↦ cc | inr y ↦ cc ], refl)
+  refuses k (Held n) h = (λ m e o x. elim x [ inl y ↦ cc | inr y ↦ cc ], refl)
+  refuses k (Alone n) h = (λ m e o x. elim x [ inl y ↦ cc | inr y ↦ cc ], refl)
+
+  answers : (rests : Bool) (k : Key) (n : Endpoint) → table k ≡ Held n → DoesIt (cond rests (Leave k n) (Stay k n)) (Ask k)
+  answers true k n h = (h, refl)
+  answers false k n h = (h, refl)
 
   asks : (rests : Bool) (k : Key) (s : Slot) → table k ≡ s → DoesIt (asked rests k s) (Ask k)
-  asks rests k Free h = (λ e x. cc, refl)
-  asks rests k (Pending n) h = (λ e x. cc, refl)
-  asks rests k (Doomed n) h = (λ e x. cc, refl)
-  asks rests k (Live n) h = (λ e x. cc, refl)
-  asks rests k (Closing n) h = (λ e x. cc, refl)
-  asks true k (Held n) h = (h, refl)
-  asks false k (Held n) h = (h, refl)
+  asks rests k (Held n) h = answers rests k n h
+  asks rests k s h = (λ e x. cc, refl)
 
   agrees : (k : Key) (s : Slot) → table k ≡ s → DoesIt (agreed_to k s) (Yes k)
-  agrees k Free h = (λ e o x. cc, refl)
-  agrees k (Pending n) h = (λ e o x. cc, refl)
-  agrees k (Doomed n) h = (λ e o x. cc, refl)
-  agrees k (Live n) h = (λ e o x. cc, refl)
-  agrees k (Closing n) h = (h, refl)
-  agrees k (Held n) h = (λ e o x. cc, refl)
+  agrees k (Closing true n) h = (h, refl)
+  agrees k (Closing false n) h = (h, refl)
+  agrees k Free h = (λ m e o x. cc, refl)
+  agrees k (Pending b n) h = (λ m e o x. cc, refl)
+  agrees k (Doomed n) h = (λ m e o x. cc, refl)
+  agrees k (Live n) h = (λ m e o x. cc, refl)
+  agrees k (Held n) h = (λ m e o x. cc, refl)
+  agrees k (Alone n) h = (λ m e o x. cc, refl)
 
   denies : (k : Key) (s : Slot) → table k ≡ s → DoesIt (denied k s) (No k)
-  denies k Free h = (λ e o x. cc, refl)
-  denies k (Pending n) h = (λ e o x. cc, refl)
-  denies k (Doomed n) h = (λ e o x. cc, refl)
-  denies k (Live n) h = (λ e o x. cc, refl)
-  denies k (Closing n) h = (h, refl)
-  denies k (Held n) h = (λ e o x. cc, refl)
+  denies k (Closing m n) h = ((m, h), refl)
+  denies k s h = (λ m e o x. cc, refl)
 
   proposes : (k : Key) (e : Endpoint) (f : Finding) → table k ≡ Free → Finds table e f → DoesIt (proposed i k e f) (Install k e)
   proposes k e Absent free found = ((free, found), refl)
@@ -99,7 +90,7 @@ module _ (own : Key → Bool) (i : GatewayId) (table : Key → Slot) where
     where
       at : (j : GatewayId) → i ≡ j → DoesIt (cond (same j One) (Yield k e q) (Reject k e)) (Install k e)
       at Zero is = (tt, refl)
-      at One is = ((is, free, found), refl)
+      at One is = ((is, free, found.0), refl)
   proposes k e Bound free found = (tt, refl)
 
 module _ (r : Ranges) (i : GatewayId) (a : Box) (l : Letter) (n : ℕ) (f : Facts) where
@@ -111,6 +102,16 @@ module _ (r : Ranges) (i : GatewayId) (a : Box) (l : Letter) (n : ℕ) (f : Fact
     where
       at : (b : Bool) → (is_senders r a k && is_free (a.table k)) ≡ b → DoesIt own i a.table (cond b (proposed i k e f.found) (Reject k e)) (Install k e)
       at true h = proposes own i a.table k e f.found (free_is (a.table k) (and_parts (is_senders r a k) (is_free (a.table k)) h).1) found
+      at false h = (tt, refl)
+
+  tells : (k : Key) (e : Endpoint) → a.synced ≡ true → AreFacts r a (Tell k e) f → DoesIt own i a.table (told r a k e f.clear) (Tell k e)
+  tells k e synced facts = at ((is_senders r a k && is_free (a.table k)) && f.clear) refl
+    where
+      at : (b : Bool) → ((is_senders r a k && is_free (a.table k)) && f.clear) ≡ b → DoesIt own i a.table (cond b (Adopt k e) (Decline k e)) (Tell k e)
+      at true h =
+          let p = and_parts (is_senders r a k && is_free (a.table k)) f.clear h in
+          let q = and_parts (is_senders r a k) (is_free (a.table k)) p.0 in
+          ((free_is (a.table k) q.1, subst (λ (b : Bool). IsUnboundOn (not b && keyed a.owned k) a.table e) synced (facts.0 p.1)), refl)
       at false h = (tt, refl)
 
   module _ (synced : a.synced ≡ true) (together : a.lone ≡ false) where
@@ -134,6 +135,7 @@ module _ (r : Ranges) (i : GatewayId) (a : Box) (l : Letter) (n : ℕ) (f : Fact
     takes_synced Want facts next = ((synced, together, facts.0, facts.1, next), refl, refl)
     takes_synced (Grant ports) facts next = grants ports a.wants refl facts next
     takes_synced (Owner first last) facts next = by_deed (Owner first last) (Skip (Owner first last)) (tt, refl) next
+    takes_synced (Tell k e) facts next = by_deed (Tell k e) (told r a k e f.clear) (tells k e synced facts) next
 
     unless_promised : (o : Option ℕ) (q : MachineRecord) → a.promised ≡ o → AreFacts r a q f → StandsNext a l n q → DoesTake r i a l (act_unless_promised r i a l n f o q)
     unless_promised None q is facts next = takes_synced q facts next
@@ -149,11 +151,23 @@ module _ (r : Ranges) (i : GatewayId) (a : Box) (l : Letter) (n : ℕ) (f : Fact
         let p = and_parts a.loading (keyed r.in_ranges k && is_free (a.table k)) h in
         let q = and_parts (keyed r.in_ranges k) (is_free (a.table k)) p.1 in
         ((unsynced, p.0, free_is (a.table k) q.1, found, next, q.0), refl, refl)
-    puts_it k e (Proposed at) true h found next = skips_it (Put k e) (λ y inside free none. none at (ap held found)) next
+    puts_it k e (Proposed at) true h found next = skips_it (Put k e) (λ y inside free none. none at (ap held found.0)) next
     puts_it k e Bound true h found next = skips_it (Put k e) (λ y inside free none. found.0 none) next
     puts_it k e x false h found next = skips_it (Put k e)
         (λ y inside free none. both_ways (a.loading && (keyed r.in_ranges k && is_free (a.table k))) h
         (and_from a.loading (keyed r.in_ranges k && is_free (a.table k)) y (and_from (keyed r.in_ranges k) (is_free (a.table k)) inside (ap is_free free)))) next
+
+    tells_it : (k : Key) (e : Endpoint) (b : Bool) → (a.loading && ((keyed r.in_ranges k && is_free (a.table k)) && f.clear)) ≡ b → AreFacts r a (Tell k e) f → StandsNext a l n (Tell k e)
+        → DoesTake r i a l (cond b (LoadPut l n (parcel k e true)) (LoadSkip l n (Tell k e)))
+    tells_it k e true h facts next =
+        let p = and_parts a.loading ((keyed r.in_ranges k && is_free (a.table k)) && f.clear) h in
+        let c = and_parts (keyed r.in_ranges k && is_free (a.table k)) f.clear p.1 in
+        let q = and_parts (keyed r.in_ranges k) (is_free (a.table k)) c.0 in
+        ((unsynced, p.0, free_is (a.table k) q.1, subst (λ (b : Bool). IsUnboundOn (not b && keyed a.owned k) a.table e) unsynced (facts.0 c.1), next, q.0), refl, refl)
+    tells_it k e false h facts next = skips_it (Tell k e)
+        (λ y inside free none. both_ways (a.loading && ((keyed r.in_ranges k && is_free (a.table k)) && f.clear)) h
+        (and_from a.loading ((keyed r.in_ranges k && is_free (a.table k)) && f.clear) y (and_from (keyed r.in_ranges k && is_free (a.table k)) f.clear (and_from (keyed r.in_ranges k) (is_free (a.table k)) inside (ap is_free free))
+        (facts.1 (subst (λ (b : Bool). IsUnboundOn (not b && keyed a.owned k) a.table e) (sym unsynced) none))))) next
 
     dones : (b : Bool) → a.loading ≡ b → StandsNext a l n Done → DoesTake r i a l (cond b (LoadDone l n) (LoadSkip l n Done))
     dones true h next = ((unsynced, h, next), refl, refl)
@@ -181,6 +195,7 @@ module _ (r : Ranges) (i : GatewayId) (a : Box) (l : Letter) (n : ℕ) (f : Fact
     takes_unsynced Done facts next = dones a.loading refl next
     takes_unsynced Want facts next = skips_it Want tt next
     takes_unsynced (Grant ports) facts next = skips_it (Grant ports) tt next
+    takes_unsynced (Tell k e) facts next = tells_it k e (a.loading && ((keyed r.in_ranges k && is_free (a.table k)) && f.clear)) refl facts next
     takes_unsynced (Owner first last) facts next = names_it first last (a.loading && (f.is_empty && f.rises)) refl facts next
 
   pub takes_it : (q : MachineRecord) → (a.synced ≡ true → a.lone ≡ false) → StandsNext a l n q → AreFacts r a q f → DoesTake r i a l (act_by_table r i a l n f q)

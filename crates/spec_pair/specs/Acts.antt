@@ -7,32 +7,32 @@ use Rattle.nat_types.specs.declared.notes.Note.{Note}
 use Rattle.nat_types.specs.declared.pairs.Endpoint.{Endpoint}
 use Rattle.nat_types.specs.declared.pairs.Key.{Key}
 use Rattle.nat_types.specs.declared.pairs.Pair.{Pair}
-use Rattle.spec_pair.specs.Box.{AreLoadable, grants_ports, takes, booted, revived, hands_in, AreBack, put_off, does, Box, skips, retakes, with_table, AreMirrored, takes_begin, takes_done, takes_owner, StandsNext, empty, hears, wants_ports, takes_put, Letter, takes_ports, letter, hears_anew, crashed, IsVacant}
+use Rattle.spec_pair.specs.Box.{AreLoadable, grants_ports, takes, booted, revived, hands_in, AreBack, put_off, does, Box, skips, retakes, with_table, AreMirrored, takes_begin, takes_done, takes_owner, StandsNext, empty, hears, wants_ports, takes_put, Letter, takes_ports, letter, hears_anew, crashed, IsVacant, Parcel, HasRoom, record_of}
 use Rattle.spec_pair.specs.Ownership.{left_to, Ranges, keyed, Run, AreRising, IsRisingRun, has, AreDistinct, LeaveRest}
-use Rattle.spec_pair.specs.Talk.{pair_of, MachineRecord, Refuse, Owner, Grant, Yes, Install, MayDo, Want, Accept, No, set_at, Begin, Ask, Live, Deed, Done, Free, taken_by, note, IsUnbound, noted_by, Put, translated}
+use Rattle.spec_pair.specs.Talk.{pair_of, MachineRecord, Refuse, Owner, Grant, Yes, Install, MayDo, Want, Accept, No, set_at, Begin, Ask, Live, Deed, Done, Free, taken_by, note, IsUnbound, IsUnboundOn, noted_by, Put, Tell, translated}
 
 -- an act of a gateway, with its free choices
 pub data Act : Type 0 where
   -- synced and not lone: the gateway does a deed that takes no record, or one that takes the next record of a letter
   Do : (d : Deed) → Act
   Take : (l : Letter) (offset : ℕ) (r : MachineRecord) (d : Deed) → Act
-  -- Synced, the gateway hears a letter of a greater boot of the peer: the pairs `back` translate again, the runs `os`
-  -- are named in its batch, and the pairs `ps` are put. Where `part` holds, the batch is promised, and Done may be sent
+  -- Synced, the gateway hears a letter of a greater boot of the peer: it takes the pairs `back` over, the runs `os` are
+  -- named in its batch, and the pairs of `xs` are put. Where `part` holds, the batch is promised, and Done may be sent
   -- only after HandIn.
-  Hear : (l : Letter) (back : List Pair) (os : List Run) (ps : List Pair) (part : Bool) → Act
+  Hear : (l : Letter) (back : List Pair) (os : List Run) (xs : List Parcel) (part : Bool) → Act
   -- all records that were promised may be sent now
   HandIn : Act
   -- a record comes while the own batch is promised: the gateway takes it, and nothing else changes
   Ignore : (l : Letter) (offset : ℕ) (r : MachineRecord) → Act
   -- unsynced, the gateway hears a letter of a greater boot of the peer
   HearAnew : (l : Letter) → Act
-  -- synced, the gateway gets the operator's word that the peer's boot of this number is off; the pairs `back` translate
-  -- again
+  -- synced, the gateway gets the operator's word that the peer's boot of this number is off, and takes the pairs `back`
+  -- over
   PeerOff : (number : ℕ) (back : List Pair) → Act
   -- unsynced, the gateway takes the records of a batch, and passes over all others
   LoadBegin : (l : Letter) (offset : ℕ) → Act
   LoadOwner : (l : Letter) (offset : ℕ) (first last : ℕ) → Act
-  LoadPut : (l : Letter) (offset : ℕ) (p : Pair) → Act
+  LoadPut : (l : Letter) (offset : ℕ) (x : Parcel) → Act
   LoadDone : (l : Letter) (offset : ℕ) → Act
   LoadSkip : (l : Letter) (offset : ℕ) (r : MachineRecord) → Act
   -- The gateway asks for ports; takes a Want and grants some ports; takes a Grant, of which the ports `got` become
@@ -53,11 +53,11 @@ pub data Act : Type 0 where
 -- the letter that the act reads, if any
 abbrev pub read_by : Act → List Letter
 read_by (Take l n r d) = l ∷ []
-read_by (Hear l back os ps part) = l ∷ []
+read_by (Hear l back os xs part) = l ∷ []
 read_by (HearAnew l) = l ∷ []
 read_by (LoadBegin l n) = l ∷ []
 read_by (LoadOwner l n first last) = l ∷ []
-read_by (LoadPut l n p) = l ∷ []
+read_by (LoadPut l n x) = l ∷ []
 read_by (LoadDone l n) = l ∷ []
 read_by (LoadSkip l n r) = l ∷ []
 read_by (GrantPorts l n ports) = l ∷ []
@@ -75,9 +75,9 @@ letters_by a x = []
 abbrev pub act_notes : GatewayId → ℕ → Act → List Note
 act_notes i moment (Do d) = noted_by i moment d
 act_notes i moment (Take l n r d) = noted_by i moment d
-act_notes i moment (Hear l back os ps part) = retakes i moment back
+act_notes i moment (Hear l back os xs part) = retakes i moment back
 act_notes i moment (PeerOff number back) = retakes i moment back
-act_notes i moment (LoadPut l n p) = note i moment (Retaken p) ∷ []
+act_notes i moment (LoadPut l n x) = note i moment (Retaken x.pair) ∷ []
 act_notes i moment (LoadDone l n) = note i moment Synced ∷ []
 act_notes i moment (LoneNew k e) = note i moment (Retaken (pair_of k e)) ∷ []
 act_notes i moment (LoneUse k e) = note i moment (Used (pair_of k e)) ∷ []
@@ -115,6 +115,9 @@ module _ (r : Ranges) where
   IsMisplaced a (Owner first last) =
       a.loading ≡ true → ((k : Key) → a.table k ≡ Free) →
       IsRisingRun r.in_ranges a.named first last → ⊥
+  IsMisplaced a (Tell k e) =
+      a.loading ≡ true → IsTrue (keyed r.in_ranges k) → a.table k ≡ Free
+      → IsUnboundOn (keyed a.owned k) a.table e → ⊥
 
   -- whether gateway i, whose box is `a`, may do the act, by what it knows itself
   abbrev pub MayAct : GatewayId → Box → Act → Type 0
@@ -123,20 +126,20 @@ module _ (r : Ranges) where
   MayAct i a (Take l n q d) =
       (a.synced ≡ true) × (a.lone ≡ false) × MayDo (keyed a.owned) i a.table d
       × (taken_by d ≡ q ∷ []) × StandsNext a l n q
-  MayAct i a (Hear l back os ps part) = (a.synced ≡ true) × (a.peer < l.boot) × AreBack a.table back
+  MayAct i a (Hear l back os xs part) = (a.synced ≡ true) × (a.peer < l.boot) × AreBack a.table back
       × AreRising r.in_ranges 0 os × LeaveRest r i a.owned os
-      × AreLoadable r (keyed (left_to r (other i) os)) empty ps
-      × AreMirrored (keyed (left_to r (other i) os)) (λ k. revived (a.table k)) ps
+      × AreLoadable r (keyed (left_to r (other i) os)) empty xs
+      × AreMirrored (keyed (left_to r (other i) os)) (λ k. revived (a.table k)) xs
   MayAct i a (HearAnew l) = (a.up ≡ true) × (a.synced ≡ false) × (a.peer < l.boot)
   MayAct i a (PeerOff number back) = (a.synced ≡ true) × AreBack a.table back
   MayAct i a (LoadBegin l n) = (a.synced ≡ false) × StandsNext a l n Begin
   MayAct i a (LoadOwner l n first last) =
       (a.synced ≡ false) × (a.loading ≡ true) × ((k : Key) → a.table k ≡ Free)
       × IsRisingRun r.in_ranges a.named first last × StandsNext a l n (Owner first last)
-  MayAct i a (LoadPut l n p) =
-      (a.synced ≡ false) × (a.loading ≡ true) × (a.table p.key ≡ Free)
-      × IsUnbound a.table p.endpoint × StandsNext a l n (Put p.key p.endpoint)
-      × IsTrue (keyed r.in_ranges p.key)
+  MayAct i a (LoadPut l n x) =
+      (a.synced ≡ false) × (a.loading ≡ true) × (a.table x.pair.key ≡ Free)
+      × HasRoom (keyed a.owned) a.table x × StandsNext a l n (record_of x)
+      × IsTrue (keyed r.in_ranges x.pair.key)
   MayAct i a (LoadDone l n) = (a.synced ≡ false) × (a.loading ≡ true) × StandsNext a l n Done
   MayAct i a (LoadSkip l n q) = (a.synced ≡ false) × StandsNext a l n q × IsMisplaced a q
   MayAct i a WantPorts = (a.synced ≡ true) × (a.lone ≡ false) × (a.wants ≡ false)
@@ -166,12 +169,12 @@ module _ (r : Ranges) where
   abbrev pub box_after : GatewayId → Box → Act → Box
   box_after i a (Do d) = does a d
   box_after i a (Take l n q d) = takes a d
-  box_after i a (Hear l back os ps part) = hears a l.boot os ps part
+  box_after i a (Hear l back os xs part) = hears a l.boot os xs part
   box_after i a (HearAnew l) = hears_anew a l.boot
   box_after i a (PeerOff number back) = put_off a number
   box_after i a (LoadBegin l n) = takes_begin (r.at_begin i) a
   box_after i a (LoadOwner l n first last) = takes_owner a first last
-  box_after i a (LoadPut l n p) = takes_put a p
+  box_after i a (LoadPut l n x) = takes_put a x.pair
   box_after i a (LoadDone l n) = takes_done a
   box_after i a (LoadSkip l n q) = skips a
   box_after i a WantPorts = wants_ports a

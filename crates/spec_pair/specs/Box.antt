@@ -9,7 +9,7 @@ use Rattle.nat_types.specs.declared.pairs.Endpoint.{Endpoint}
 use Rattle.nat_types.specs.declared.pairs.Key.{Key}
 use Rattle.nat_types.specs.declared.pairs.Pair.{Pair}
 use Rattle.spec_pair.specs.Ownership.{Ranges, keyed, Run, no_port, cut, has}
-use Rattle.spec_pair.specs.Talk.{table_after, MachineRecord, Owner, Grant, Want, set_at, Begin, Live, Doomed, Deed, Closing, Done, Free, note, IsUnbound, Put, Slot, held, pushed_by, Pending, Held}
+use Rattle.spec_pair.specs.Talk.{table_after, MachineRecord, Owner, Grant, Want, set_at, Begin, Live, Doomed, Deed, Closing, Done, Free, note, IsUnbound, IsUnboundOn, Put, Tell, Slot, held, pushed_by, Pending, Held, Alone}
 
 -- A gateway's box: what the other gateway and the trace can tell of it. A box has no timer, no packet and no reason.
 pub record Box : Type 0 where
@@ -79,10 +79,19 @@ nth (x ∷ xs) (suc n) = nth xs n
 abbrev pub empty : Key → Slot
 empty k = Free
 
--- a Put for each pair, in order
-abbrev pub puts : List Pair → List MachineRecord
+-- a pair of a batch, and whether it goes as a Tell: its endpoint may have another pair before it, on the other side
+pub record Parcel : Type 0 where
+  pub pair : Pair
+  pub told : Bool
+
+-- the record of a parcel
+abbrev pub record_of : Parcel → MachineRecord
+record_of x = cond x.told (Tell x.pair.key x.pair.endpoint) (Put x.pair.key x.pair.endpoint)
+
+-- the record of each parcel, in order
+abbrev pub puts : List Parcel → List MachineRecord
 puts [] = []
-puts (p ∷ ps) = Put p.key p.endpoint ∷ puts ps
+puts (x ∷ xs) = record_of x ∷ puts xs
 
 -- an Owner for each run, in order, and then the records `rs`
 abbrev pub owners : List Run → List MachineRecord → List MachineRecord
@@ -90,17 +99,21 @@ owners [] rs = rs
 owners (o ∷ os) rs = Owner o.first o.last ∷ owners os rs
 
 -- the batch, the records by which the other is loaded: Begin, the runs of owned ports, the pairs, Done
-abbrev pub batch : List Run → List Pair → List MachineRecord
-batch os ps = Begin ∷ owners os (puts ps ++ Done ∷ [])
+abbrev pub batch : List Run → List Parcel → List MachineRecord
+batch os xs = Begin ∷ owners os (puts xs ++ Done ∷ [])
 
 -- the slot of a loaded pair: Live where `owned` says that the port of the key is owned, else Held
 abbrev pub loaded_slot : (Key → Bool) → Key → Endpoint → Slot
 loaded_slot owned k e = cond (owned k) (Live e) (Held e)
 
--- the table with these pairs put into it
-abbrev pub load : (Key → Bool) → (Key → Slot) → List Pair → Key → Slot
+-- the table with this pair put into it
+abbrev pub with_pair : (Key → Bool) → (Key → Slot) → Pair → Key → Slot
+with_pair owned table p = set_at table p.key (loaded_slot owned p.key p.endpoint)
+
+-- the table with the pairs of these parcels put into it
+abbrev pub load : (Key → Bool) → (Key → Slot) → List Parcel → Key → Slot
 load owned table [] = table
-load owned table (p ∷ ps) = load owned (set_at table p.key (loaded_slot owned p.key p.endpoint)) ps
+load owned table (x ∷ xs) = load owned (with_pair owned table x.pair) xs
 
 -- the slot that the other is to load for a pair, or for none
 abbrev pub mirrored : (Key → Bool) → Key → Option Endpoint → Slot
@@ -108,36 +121,47 @@ mirrored owned k None = Free
 mirrored owned k (Some e) = loaded_slot owned k e
 
 -- the pairs, loaded by a gateway that owns the keys `own`, give the mirror of the table
-abbrev pub AreMirrored : (Key → Bool) → (Key → Slot) → List Pair → Type 0
-AreMirrored own table ps = (k : Key) → load own empty ps k ≡ mirrored own k (held (table k))
+abbrev pub AreMirrored : (Key → Bool) → (Key → Slot) → List Parcel → Type 0
+AreMirrored own table xs = (k : Key) → load own empty xs k ≡ mirrored own k (held (table k))
+
+-- the table has no pair of the endpoint, or, for a Tell, none on its side
+abbrev pub HasRoomFor : Bool → Bool → (Key → Slot) → Endpoint → Type 0
+HasRoomFor true own table e = IsUnboundOn own table e
+HasRoomFor false own table e = IsUnbound table e
+
+-- The pair of a parcel may stand beside those that the table has. `owned` says which keys are to be owned.
+abbrev pub HasRoom : (Key → Bool) → (Key → Slot) → Parcel → Type 0
+HasRoom owned table x = HasRoomFor x.told (owned x.pair.key) table x.pair.endpoint
 
 module _ (r : Ranges) where
   -- each pair is new where it is put, and its port is in the ranges
-  abbrev pub AreLoadable : (Key → Bool) → (Key → Slot) → List Pair → Type 0
+  abbrev pub AreLoadable : (Key → Bool) → (Key → Slot) → List Parcel → Type 0
   AreLoadable owned table [] = Unit {0}
-  AreLoadable owned table (p ∷ ps) =
-      (table p.key ≡ Free) × IsUnbound table p.endpoint × IsTrue (keyed r.in_ranges p.key)
-      × AreLoadable owned (set_at table p.key (loaded_slot owned p.key p.endpoint)) ps
+  AreLoadable owned table (x ∷ xs) =
+      (table x.pair.key ≡ Free) × HasRoom owned table x × IsTrue (keyed r.in_ranges x.pair.key)
+      × AreLoadable owned (with_pair owned table x.pair) xs
 
--- a slot after the peer's restart: a pair that was proposed or asked to be closed goes on translating
+-- a slot after the peer's restart: a pair that was proposed, asked to be closed or alone goes on translating
 abbrev pub revived : Slot → Slot
 revived Free = Free
-revived (Pending e) = Live e
+revived (Pending m e) = Live e
 revived (Doomed e) = Free
 revived (Live e) = Live e
-revived (Closing e) = Live e
+revived (Closing m e) = Live e
 revived (Held e) = Held e
+revived (Alone e) = Live e
 
--- the endpoint of a pair that begins to translate at the peer's restart
+-- the endpoint of a pair that the gateway takes over at the peer's restart
 abbrev pub is_back : Slot → Option Endpoint
 is_back Free = None
-is_back (Pending e) = Some e
+is_back (Pending m e) = Some e
 is_back (Doomed e) = None
 is_back (Live e) = None
-is_back (Closing e) = Some e
+is_back (Closing m e) = Some e
 is_back (Held e) = None
+is_back (Alone e) = Some e
 
--- these are exactly the pairs that begin to translate at the peer's restart
+-- these are exactly the pairs that the gateway takes over at the peer's restart
 abbrev pub AreBack : (Key → Slot) → List Pair → Type 0
 AreBack table back =
     (p : Pair) → (In p back → is_back (table p.key) ≡ Some p.endpoint)
@@ -182,8 +206,8 @@ does a d = box_with a (table_after a.table d) (a.sent ++ pushed_by d) a.taken
 abbrev pub takes : Box → Deed → Box
 takes a d = box_with a (table_after a.table d) (a.sent ++ pushed_by d) (suc a.taken)
 
--- The box after its known boot of the peer becomes `boot`: the session begins anew, and pairs that were proposed or
--- asked to be closed are revived.
+-- The box after its known boot of the peer becomes `boot`: the session begins anew, and pairs that were proposed, asked
+-- to be closed or alone are revived.
 abbrev pub resets : Box → ℕ → Bool → List MachineRecord → Option ℕ → Box
 resets a boot lone sent promised = record a {
   lone = lone;
@@ -197,9 +221,9 @@ resets a boot lone sent promised = record a {
 
 -- The box after a synced gateway hears a greater boot of the peer: it pushes its batch. Where `part` says so, the batch
 -- is promised, and all of it but Done may be sent at first.
-abbrev pub hears : Box → ℕ → List Run → List Pair → Bool → Box
-hears a boot os ps part =
-    resets a boot false (batch os ps) (cond part (Some (suc (length os + length ps))) None)
+abbrev pub hears : Box → ℕ → List Run → List Parcel → Bool → Box
+hears a boot os xs part =
+    resets a boot false (batch os xs) (cond part (Some (suc (length os + length xs))) None)
 
 -- the box after the operator says that the peer's boot of this number is off: the gateway is lone
 abbrev pub put_off : Box → ℕ → Box
@@ -276,11 +300,9 @@ abbrev pub takes_ports : Box → List ℕ → Box
 takes_ports a got =
     owns_ports a a.sent (suc a.taken) (λ p. cond (has p got) true (a.owned p)) false a.named
 
--- the box after it takes a Put: the pair is Live on a port that it is to own, else Held
+-- the box after it takes a Put or a Tell of a batch: the pair is Live on a port that it is to own, else Held
 abbrev pub takes_put : Box → Pair → Box
-takes_put a p =
-    box_with a (set_at a.table p.key (loaded_slot (keyed a.owned) p.key p.endpoint)) a.sent
-    (suc a.taken)
+takes_put a p = box_with a (with_pair (keyed a.owned) a.table p) a.sent (suc a.taken)
 
 -- the letter with the session's records from number `first` on, at most `count` of them
 abbrev pub letter : Box → ℕ → ℕ → Letter

@@ -9,3 +9,4 @@ pub mod Batch
 pub mod Rows
 pub mod Mapped
 pub mod Live
+pub mod AloneRows

@@ -1,8 +1,8 @@
 -- What is left to do for the records that were pushed, and which record a gateway may take next.
 use Rattle.std.specs.Prelude.{Bool, List, Some, [], drop, false, nat_lt, length, true, ℕ, ◌+◌, ◌≤◌, ◌∷◌, ◌≡◌}
 use Rattle.spec_pair.specs.Acts.{Act, Do, Take, Hear, HandIn, Ignore, HearAnew, PeerOff, LoadBegin, LoadOwner, LoadPut, LoadDone, LoadSkip, WantPorts, GrantPorts, TakePorts, LosePorts, Send, LoneNew, LoneUse, LoneDrop, Crash, Boot}
-use Rattle.spec_pair.specs.Box.{Letter, letter, nth}
-use Rattle.spec_pair.specs.Talk.{MachineRecord, Install, Accept, Refuse, Ask, Yes, No, Begin, Put, Done, Want, Grant, Owner}
+use Rattle.spec_pair.specs.Box.{Letter, letter, nth, record_of}
+use Rattle.spec_pair.specs.Talk.{MachineRecord, Install, Accept, Refuse, Ask, Yes, No, Begin, Put, Done, Want, Grant, Owner, Tell}
 use Rattle.spec_pair.specs.World.{Scene}
 
 -- how many takings a record brings about: its own, and that of its answer if it has one
@@ -19,6 +19,7 @@ weight Done = 1
 weight Want = 2
 weight (Grant ports) = 1
 weight (Owner first last) = 1
+weight (Tell k e) = 2
 
 -- how many takings the records of a list bring about
 abbrev pub to_do : List MachineRecord → ℕ
@@ -29,14 +30,14 @@ to_do (q ∷ qs) = weight q + to_do qs
 abbrev pub taken_now : Act → List MachineRecord
 taken_now (Do d) = []
 taken_now (Take l n q d) = q ∷ []
-taken_now (Hear l back os ps part) = []
+taken_now (Hear l back os xs part) = []
 taken_now HandIn = []
 taken_now (Ignore l n q) = q ∷ []
 taken_now (HearAnew l) = []
 taken_now (PeerOff number back) = []
 taken_now (LoadBegin l n) = Begin ∷ []
 taken_now (LoadOwner l n first last) = Owner first last ∷ []
-taken_now (LoadPut l n p) = Put p.key p.endpoint ∷ []
+taken_now (LoadPut l n x) = record_of x ∷ []
 taken_now (LoadDone l n) = Done ∷ []
 taken_now (LoadSkip l n q) = q ∷ []
 taken_now WantPorts = []

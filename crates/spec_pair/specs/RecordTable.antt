@@ -8,29 +8,34 @@ use Rattle.nat_types.specs.declared.gateways.GatewayId.TheVariants.{One}
 use Rattle.nat_types.specs.declared.pairs.Endpoint.{Endpoint}
 use Rattle.nat_types.specs.declared.pairs.Key.{Key}
 use Rattle.spec_pair.specs.Acts.{Act, Take, Ignore, GrantPorts, TakePorts, LosePorts, LoadBegin, LoadOwner, LoadPut, LoadDone, LoadSkip, AreSpare, AreGot, MayAct, box_after, read_by}
-use Rattle.spec_pair.specs.Box.{Box, Letter}
+use Rattle.spec_pair.specs.Box.{Box, Letter, Parcel}
 use Rattle.spec_pair.specs.Ownership.{Ranges, keyed, IsRisingRun, AreDistinct}
-use Rattle.spec_pair.specs.Talk.{Slot, Free, Pending, Doomed, Live, Closing, Held, MachineRecord, Install, Accept, Refuse, Ask, Yes, No, Begin, Put, Done, Want, Grant, Owner, Deed, Agree, Yield, Reject, Agreed, Rejected, Leave, Stay, Left, Stayed, Pass, Skip, IsUnbound, pair_of}
+use Rattle.spec_pair.specs.Talk.{Slot, Free, Pending, Doomed, Live, Closing, Held, Alone, MachineRecord, Install, Accept, Refuse, Ask, Yes, No, Begin, Put, Done, Want, Grant, Owner, Tell, Deed, Agree, Yield, Reject, Adopt, Decline, Agreed, Rejected, Rebuffed, Leave, Stay, Left, Parted, Stayed, Pass, Skip, IsUnbound, IsUnboundOn, pair_of}
 
 -- where a table has an endpoint, proposals that were given up left out
 pub data Finding : Type 0 where
   Absent : Finding
-  -- the table has an own proposal for the endpoint, at this key
+  -- the table has an own proposal for the endpoint, at this key, that isn't marked, and no Held pair of the endpoint
   Proposed : (at : Key) → Finding
-  -- the table has the endpoint at a key, in another state
+  -- the table has the endpoint otherwise
   Bound : Finding
 
 -- the finding is true of the table and the endpoint
 abbrev pub Finds : (Key → Slot) → Endpoint → Finding → Type 0
 Finds table e Absent = IsUnbound table e
-Finds table e (Proposed at) = table at ≡ Pending e
-Finds table e Bound = (IsUnbound table e → ⊥) × ((at : Key) → table at ≡ Pending e → ⊥)
+Finds table e (Proposed at) = (table at ≡ Pending false e) × IsUnboundOn false table e
+Finds table e Bound =
+    (IsUnbound table e → ⊥)
+    × ((at : Key) → table at ≡ Pending false e → IsUnboundOn false table e → ⊥)
 
 -- the facts that a gateway finds out before it takes a record
 pub record Facts : Type 0 where
   -- where its table has the endpoint of an Install or a Put
   pub found : Finding
-  -- the pair of an Ask is idle, or came by Install and was never used here since
+  -- the table has no pair of the endpoint of a Tell on its side: at a synced gateway no Held one, and at one that loads
+  -- none on ports of the same gateway
+  pub clear : Bool
+  -- the pair of an Ask is idle, or came by Install or Tell and was never used here since
   pub rests : Bool
   -- the gateway's table is empty; and the run of an Owner is in the ranges and above the last run named
   pub is_empty : Bool
@@ -42,24 +47,30 @@ pub record Facts : Type 0 where
 -- whether a slot is Free
 abbrev pub is_free : Slot → Bool
 is_free Free = true
-is_free (Pending e) = false
+is_free (Pending m e) = false
 is_free (Doomed e) = false
 is_free (Live e) = false
-is_free (Closing e) = false
+is_free (Closing m e) = false
 is_free (Held e) = false
+is_free (Alone e) = false
 
 -- the key of a protocol and a port number
 abbrev pub key_of : Protocol → ℕ → Key
 key_of protocol p = record { protocol = protocol; port = record { 0 = p } }
 
+-- the parcel of a Put, or of a Tell
+abbrev pub parcel : Key → Endpoint → Bool → Parcel
+parcel k e told = record { pair = pair_of k e; told = told }
+
 -- A synced gateway's deed at an Accept, by the slot at the record's key. The deeds at Refuse, Ask, Yes and No follow.
 abbrev pub accepted : Key → Slot → Deed
-accepted k (Pending e) = Agreed k e
+accepted k (Pending m e) = Agreed k e
 accepted k s = Skip (Accept k)
 
 -- a synced gateway's deed at a Refuse, by the slot at the record's key
 abbrev pub refused : Key → Slot → Deed
-refused k (Pending e) = Rejected k
+refused k (Pending false e) = Rejected k
+refused k (Pending true e) = Rebuffed k e
 refused k (Doomed e) = Rejected k
 refused k s = Skip (Refuse k)
 
@@ -70,12 +81,13 @@ asked rests k s = Pass k
 
 -- a synced gateway's deed at a Yes, by the slot at its key
 abbrev pub agreed_to : Key → Slot → Deed
-agreed_to k (Closing e) = Left k e
+agreed_to k (Closing false e) = Left k e
+agreed_to k (Closing true e) = Parted k e
 agreed_to k s = Skip (Yes k)
 
 -- a synced gateway's deed at a No, by the slot at its key
 abbrev pub denied : Key → Slot → Deed
-denied k (Closing e) = Stayed k e
+denied k (Closing m e) = Stayed k e
 denied k s = Skip (No k)
 
 -- The deed at an Install whose key is the sender's and has no entry. Absent: it is accepted. Proposed: gateway 1
@@ -93,6 +105,8 @@ module _ (r : Ranges) where
   AreFacts a (Owner first last) f =
       (IsTrue f.is_empty ↔ ((k : Key) → a.table k ≡ Free))
       × (IsTrue f.rises ↔ IsRisingRun r.in_ranges a.named first last)
+  AreFacts a (Tell k e) f =
+      IsTrue f.clear ↔ IsUnboundOn (not a.synced && keyed a.owned k) a.table e
   AreFacts a Want f = AreDistinct f.spare × AreSpare a f.spare
   AreFacts a (Grant ports) f = AreGot r a ports f.got
   AreFacts a q f = Unit {0}
@@ -105,6 +119,12 @@ module _ (r : Ranges) where
   abbrev pub installed : GatewayId → Box → Key → Endpoint → Finding → Deed
   installed i a k e found =
       cond (is_senders a k && is_free (a.table k)) (proposed i k e found) (Reject k e)
+
+  -- the deed at a Tell: where its key isn't the sender's or has an entry, or its endpoint has a Held pair, it is
+  -- refused
+  abbrev pub told : Box → Key → Endpoint → Bool → Deed
+  told a k e clear =
+      cond ((is_senders a k && is_free (a.table k)) && clear) (Adopt k e) (Decline k e)
 
   -- whether no protocol has an entry at the port
   abbrev pub has_no_entry : Box → ℕ → Bool
@@ -129,11 +149,12 @@ module _ (r : Ranges) where
     act_at_synced Want = GrantPorts l n f.spare
     act_at_synced (Grant ports) = cond a.wants (TakePorts l n ports f.got) (LosePorts l n ports)
     act_at_synced (Owner first last) = Take l n (Owner first last) (Skip (Owner first last))
+    act_at_synced (Tell k e) = Take l n (Tell k e) (told a k e f.clear)
 
     -- the act at a Put, after Begin, on a free key: the pair is loaded where the table has its endpoint nowhere, else
     -- it is passed over
     abbrev pub put_in : Key → Endpoint → Finding → Act
-    put_in k e Absent = LoadPut l n (pair_of k e)
+    put_in k e Absent = LoadPut l n (parcel k e false)
     put_in k e (Proposed at) = LoadSkip l n (Put k e)
     put_in k e Bound = LoadSkip l n (Put k e)
 
@@ -149,6 +170,10 @@ module _ (r : Ranges) where
         cond (a.loading && (f.is_empty && f.rises))
         (LoadOwner l n first last)
         (LoadSkip l n (Owner first last))
+    act_at_unsynced (Tell k e) =
+        cond (a.loading && ((keyed r.in_ranges k && is_free (a.table k)) && f.clear))
+        (LoadPut l n (parcel k e true))
+        (LoadSkip l n (Tell k e))
     act_at_unsynced q = LoadSkip l n q
 
     -- the act at a synced gateway: while its batch is promised, a record that comes changes nothing

@@ -10,7 +10,7 @@ use Rattle.nat_types.specs.declared.pairs.Key.{Key}
 use Rattle.nat_types.specs.declared.pairs.Pair.{Pair}
 use Rattle.addresses.specs.declared.transport.Protocol.TheVariants.{Udp}
 use Rattle.spec_pair.specs.Acts.{Act, LoneNew, LoneDrop, LoadOwner, HandIn, Send, WantPorts, Take, TakePorts, LoadBegin, LoadPut, PeerOff, Hear, HearAnew, LoneUse, Do, Crash, GrantPorts, Boot, LoadDone}
-use Rattle.spec_pair.specs.Box.{Letter, empty}
+use Rattle.spec_pair.specs.Box.{Letter, Parcel, empty}
 use Rattle.spec_pair.specs.Ownership.{Ranges, moving, in_run, Run, fixed}
 use Rattle.spec_pair.specs.Talk.{Live, Held, Owner, Agree, Begin, note, Stayed, set_at, Ask, Yield, MachineRecord, Accept, Propose, Reject, Grant, Done, Stay, Want, No, Left, Rejected, Use, Agreed, Yes, pair_of, Slot, Refuse, Install, Close, Put, Leave}
 use Rattle.spec_pair.specs.World.{MachineEvent, after_events, AreAllowed, founding}
@@ -105,6 +105,10 @@ loading_notes = note One 0 (Booted 1) ∷ note One 1 Synced ∷ []
 -- a pair that gateway 0 makes
 abbrev pub pair_p : Pair
 pair_p = pair_of (udp 20000) (host 5000)
+
+-- the parcel of that pair, as a Put
+abbrev pub parcel_p : Parcel
+parcel_p = record { pair = pair_p; told = false }
 
 -- gateway 0's proposal of that pair
 abbrev pub install : Letter
@@ -236,11 +240,11 @@ revival =
     ∷ one_at 30011 Crash
     ∷ one_at 0 (Boot 2)
     ∷ one_at 0 (Send 0 0)
-    ∷ zero_at 30031 (Hear hello_2 (pair_p ∷ []) [] (pair_p ∷ []) false)
+    ∷ zero_at 30031 (Hear hello_2 (pair_p ∷ []) [] (parcel_p ∷ []) false)
     ∷ zero_at 30031 (Send 0 3)
     ∷ one_at 1 (HearAnew batch_2)
     ∷ one_at 1 (LoadBegin batch_2 0)
-    ∷ one_at 1 (LoadPut batch_2 1 pair_p)
+    ∷ one_at 1 (LoadPut batch_2 1 parcel_p)
     ∷ one_at 1 (LoadDone batch_2 2)
     ∷ []
 
@@ -268,11 +272,11 @@ doomed =
     ∷ zero_at 22 Crash
     ∷ zero_at 0 (Boot 2)
     ∷ zero_at 0 (Send 0 0)
-    ∷ one_at 13 (Hear hello_2 [] [] (pair_p ∷ []) false)
+    ∷ one_at 13 (Hear hello_2 [] [] (parcel_p ∷ []) false)
     ∷ one_at 13 (Send 0 3)
     ∷ zero_at 1 (HearAnew batch_2)
     ∷ zero_at 1 (LoadBegin batch_2 0)
-    ∷ zero_at 1 (LoadPut batch_2 1 pair_p)
+    ∷ zero_at 1 (LoadPut batch_2 1 parcel_p)
     ∷ zero_at 1 (LoadDone batch_2 2)
     ∷ []
 
@@ -290,6 +294,10 @@ doomed_notes =
 -- a second pair of gateway 0
 abbrev pub pair_q : Pair
 pair_q = pair_of (udp 20001) (host 5001)
+
+-- the parcel of that pair, as a Put
+abbrev pub parcel_q : Parcel
+parcel_q = record { pair = pair_q; told = false }
 
 -- A proposal waits for its answer when gateway 1 crashes. The operator says that gateway 1's boot 1 is off: gateway 0
 -- is lone, and uses the pair.
@@ -342,11 +350,11 @@ abbrev pub promising : List MachineEvent
 promising =
     one_at 0 (Boot 1)
     ∷ one_at 0 (Send 0 0)
-    ∷ zero_at 30030 (Hear hello [] [] (pair_p ∷ []) true)
+    ∷ zero_at 30030 (Hear hello [] [] (parcel_p ∷ []) true)
     ∷ zero_at 30030 (Send 0 2)
     ∷ one_at 1 (HearAnew first_part)
     ∷ one_at 1 (LoadBegin first_part 0)
-    ∷ one_at 1 (LoadPut first_part 1 pair_p)
+    ∷ one_at 1 (LoadPut first_part 1 parcel_p)
     ∷ zero_at 30040 HandIn
     ∷ zero_at 30040 (Send 2 1)
     ∷ one_at 2 (LoadDone last_part 0)
@@ -367,12 +375,12 @@ abbrev pub returning : List MachineEvent
 returning =
     one_at 0 (Boot 2)
     ∷ one_at 0 (Send 0 0)
-    ∷ zero_at 50 (Hear hello_2 [] [] (pair_p ∷ pair_q ∷ []) false)
+    ∷ zero_at 50 (Hear hello_2 [] [] (parcel_p ∷ parcel_q ∷ []) false)
     ∷ zero_at 50 (Send 0 4)
     ∷ one_at 1 (HearAnew batch_3)
     ∷ one_at 1 (LoadBegin batch_3 0)
-    ∷ one_at 1 (LoadPut batch_3 1 pair_p)
-    ∷ one_at 1 (LoadPut batch_3 2 pair_q)
+    ∷ one_at 1 (LoadPut batch_3 1 parcel_p)
+    ∷ one_at 1 (LoadPut batch_3 2 parcel_q)
     ∷ one_at 1 (LoadDone batch_3 3)
     ∷ []
 
@@ -441,12 +449,12 @@ naming =
     ∷ zero_at 10 (LoneUse pair_p.key pair_p.endpoint)
     ∷ one_at 0 (Boot 1)
     ∷ one_at 0 (Send 0 0)
-    ∷ zero_at 20 (Hear hello [] (run_of 20000 20001 ∷ []) (pair_p ∷ []) false)
+    ∷ zero_at 20 (Hear hello [] (run_of 20000 20001 ∷ []) (parcel_p ∷ []) false)
     ∷ zero_at 20 (Send 0 4)
     ∷ one_at 1 (HearAnew whole_batch)
     ∷ one_at 1 (LoadBegin whole_batch 0)
     ∷ one_at 1 (LoadOwner whole_batch 1 20000 20001)
-    ∷ one_at 1 (LoadPut whole_batch 2 pair_p)
+    ∷ one_at 1 (LoadPut whole_batch 2 parcel_p)
     ∷ one_at 1 (LoadDone whole_batch 3)
     ∷ []
 

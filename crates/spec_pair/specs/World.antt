@@ -6,7 +6,7 @@ use Rattle.nat_types.specs.declared.gateways.GatewayId.TheVariants.{Zero, One}
 use Rattle.nat_types.specs.declared.notes.Note.{Note}
 use Rattle.nat_types.specs.declared.pairs.Key.{Key}
 use Rattle.nat_types.specs.declared.pairs.Pair.{Pair}
-use Rattle.spec_trace.specs.Past.{Fits, Silent, Kept, GoesOn}
+use Rattle.spec_trace.specs.Past.{OnePort, OneEndpoint, Silent, Kept, AtMostTwo, GoesOn}
 use Rattle.spec_pair.specs.Acts.{MayAct, Crash, Act, box_after, PeerOff, letters_by, read_by, act_notes}
 use Rattle.spec_pair.specs.Box.{never, Box, In, Letter, founder}
 use Rattle.spec_pair.specs.Ownership.{Ranges}
@@ -91,7 +91,9 @@ TableTranslates tables i p = translated (tables i p.key) ≡ Some p.endpoint
 
 -- What is promised of the trace and the two tables of each scene that can come about.
 pub record IsKept (t : List Note) (tables : GatewayId → Key → Slot) : Type 0 where
-  pub fits : Fits t
+  pub one_port : OnePort t
+  pub one_endpoint : OneEndpoint t
+  pub at_most_two : AtMostTwo (TableHolds tables) t
   pub kept : Kept (TableHolds tables) t
   pub silent : Silent t
   pub goes_on : GoesOn (TableTranslates tables) t

@@ -4,26 +4,31 @@ ghost use Rattle.std.specs.Prelude.{◌≡◌, ◌≤◌, ◌<◌, ◌+◌, leng
 ghost use Rattle.nat_types.specs.Same.{other, same};
 ghost use Rattle.nat_types.specs.declared.gateways.GatewayId.{GatewayId};
 ghost use Rattle.nat_types.specs.declared.notes.Note.{Note};
+ghost use Rattle.nat_types.specs.declared.pairs.Endpoint.{Endpoint};
 ghost use Rattle.nat_types.specs.declared.pairs.Key.{Key};
 ghost use Rattle.nat_types.specs.declared.pairs.Pair.{Pair};
 ghost use Rattle.spec_trace.specs.Past.{is_synced};
-ghost use Rattle.spec_trace.specs.Trace.{Fits, GoesOn, Kept, Silent};
+ghost use Rattle.spec_trace.specs.Plain as plain;
+ghost use Rattle.spec_trace.specs.Trace.{AtMostTwo, Fits, GoesOn, Kept, OneEndpoint, OnePort, Silent};
 ghost use Rattle.spec_pair.specs.Acts.{Act, AreGot, Hear, HearAnew, MayAct, Send, box_after, letters_by, act_notes};
 ghost use Rattle.spec_pair.specs.Batch.{AreApart, AreThose, LieWithin};
-ghost use Rattle.spec_pair.specs.Box.{AreBack, AreMirrored, AreLoadable, AreSame, revived, Box, In, StandsNext, Letter, empty, nth};
+ghost use Rattle.spec_pair.specs.Box.{AreBack, AreMirrored, AreLoadable, AreSame, revived, Box, In, Parcel, StandsNext, Letter, empty, nth};
 ghost use Rattle.spec_pair.specs.Live.{AreTogether, IsNext, hello_of, hello_sent, unheard, next_letter, next_sent, outstanding};
 ghost use Rattle.spec_pair.specs.Ownership.{AreRising, LeaveRest, Ranges, Run, keyed, left_to, fixed, in_runs, moving};
 ghost use Rattle.spec_pair.specs.Rows.{live_first, held_first, LeadsTo, LeavesPorts, alone, alone_notes, promising, promising_notes, naming, naming_notes, returning, returning_notes, six_ports, asked_no, asked_no_notes, asked_yes, asked_yes_notes, crossing, crossing_notes, doomed, doomed_notes, granting, host, loading, loading_notes, losing, losing_notes, peer_off, peer_off_notes, slot_on, revival, revival_notes, sharing, two_ranges, using, using_notes, wanting};
-ghost use Rattle.spec_pair.specs.RecordTable.{AreFacts, DoesTake, Facts, act_by_table, becomes_owned};
+ghost use Rattle.spec_pair.specs.RecordTable.{AreFacts, DoesTake, Facts, act_by_table, becomes_owned, told};
 ghost use Rattle.spec_pair.specs.Step.{IsOff, IsStep, ReadsOnly, WasSent};
-ghost use Rattle.spec_pair.specs.Talk.{Free, Held, Live, MachineRecord, Slot};
+ghost use Rattle.spec_pair.specs.AloneRows.{made_alone, made_alone_notes, meeting, meeting_notes, pair_b, pair_c, reloading, reloading_notes, tell_crosses, tell_crosses_notes, going_on, going_on_notes, taking_back, taking_back_notes, dying, dying_notes};
+ghost use Rattle.spec_pair.specs.Talk.{Adopt, Alone, Free, Held, Live, MachineRecord, Pending, Slot, Tell};
 ghost use Rattle.spec_pair.specs.World.{AreAllowed, Can, EndsBy, MachineEvent, HasOwners, TableHolds, IsKept, IsWorld, Scene, TableTranslates, box_in, after_act, after_event, flip, mail_in, after_events, seen_by, founding, tables_of, with_step};
 
-/// The headline, for any loss, repetition and reordering of datagrams and any crashes and boots that are allowed. No
-/// outside port of an open pair serves another endpoint, no endpoint gets another port, every open pair is held by each
-/// synced gateway, no unsynced gateway uses a pair, and each synced gateway translates with the pairs that it used or
-/// took over. No port is owned by two synced gateways, and once both have taken all that was pushed each port of the
-/// ranges has an owner.
+/// The headline, for any loss, repetition and reordering of datagrams, for ever too, any crashes and boots that are
+/// allowed, and while both gateways make pairs by themselves too. No outside port of an open pair serves another
+/// endpoint; no endpoint gets another port, save where one of the two pairs was alone, and no gateway holds more than
+/// two pairs of it; every open pair is held by each synced gateway, or, while it is private to one of them, by that
+/// one; no unsynced gateway uses a pair, and each synced gateway translates with the pairs that are in use there. No
+/// port is owned by two synced gateways, and once both have taken all that was pushed each port of the ranges has an
+/// owner.
 pub fn the_pair_keeps()
     ensures kept { (r : Ranges) (events : List MachineEvent)
         → AreAllowed r events (founding r) →
@@ -53,8 +58,12 @@ pub fn promises()
 /// A scene that can come about keeps what is promised, said of its trace in the order in which the notes were made. A
 /// gateway's box is synced exactly where the trace says so.
 pub fn promises_in_order()
-    ensures fits { (r : Ranges) (s : Scene) (trace : List Note) → IsWorld r s →
-        s.trace ≡ reverse trace → Fits trace }
+    ensures one_port { (r : Ranges) (s : Scene) (trace : List Note) → IsWorld r s →
+        s.trace ≡ reverse trace → OnePort trace }
+    ensures one_endpoint { (r : Ranges) (s : Scene) (trace : List Note) → IsWorld r s →
+        s.trace ≡ reverse trace → OneEndpoint trace }
+    ensures at_most_two { (r : Ranges) (s : Scene) (trace : List Note) → IsWorld r s →
+        s.trace ≡ reverse trace → AtMostTwo (TableHolds (tables_of s)) trace }
     ensures kept { (r : Ranges) (s : Scene) (trace : List Note) → IsWorld r s →
         s.trace ≡ reverse trace → Kept (TableHolds (tables_of s)) trace }
     ensures silent { (r : Ranges) (s : Scene) (trace : List Note) → IsWorld r s →
@@ -64,6 +73,16 @@ pub fn promises_in_order()
     ensures synced { (r : Ranges) (s : Scene) (trace : List Note) (i : GatewayId)
         → IsWorld r s →
         s.trace ≡ reverse trace → (box_in s i).synced ≡ is_synced i (reverse trace) }
+{}
+
+/// Where no pair was ever alone, the promises are those of two gateways that make no pair without the other: the trace
+/// fits, and each open pair, by the words as they are without the note Alone, is held by each synced gateway.
+pub fn promises_without_alone()
+    ensures fits { (r : Ranges) (s : Scene) (trace : List Note) → IsWorld r s →
+        s.trace ≡ reverse trace → plain.IsPlain (reverse trace) → Fits trace }
+    ensures kept { (r : Ranges) (s : Scene) (trace : List Note) → IsWorld r s →
+        s.trace ≡ reverse trace → plain.IsPlain (reverse trace) →
+        plain.Kept (TableHolds (tables_of s)) (reverse trace) }
 {}
 
 /// Where the other gateway is synced, the record that gateway i may take next is the one that the other pushed at that
@@ -159,6 +178,15 @@ pub fn any_record_is_taken()
         AreGot r a ports (filter (becomes_owned r a) ports) }
 {}
 
+/// A Tell that stands next at a synced gateway is never refused: only a forged datagram has one that is.
+pub fn tells_are_taken()
+    ensures { (r : Ranges) (s : Scene) (i : GatewayId) (l : Letter) (offset : ℕ) (k : Key)
+        (e : Endpoint) (f : Facts) → IsWorld r s → let v = seen_by i s in
+        v.mine.synced ≡ true → v.mine.lone ≡ false → In l v.their_mail →
+        StandsNext v.mine l offset (Tell k e) → AreFacts r v.mine (Tell k e) f →
+        told r v.mine k e f.clear ≡ Adopt k e }
+{}
+
 /// Nothing is stuck: where a record that the other pushed stands next, the other may send it, the act that the record
 /// table names may then be done and takes it, and less is left to do. So without loss all is taken in the end.
 pub fn never_stuck()
@@ -184,7 +212,7 @@ pub fn hears_next()
         v.mine.synced ≡ false → v.mine.peer < v.theirs.boot →
         Can r i (hello_sent v) (HearAnew (hello_of v)) }
     ensures heard { (r : Ranges) (i : GatewayId) (v : Scene) (back : List Pair) (os : List Run)
-        (ps : List Pair) (part : Bool) → v.mine.synced ≡ true → v.mine.peer < v.theirs.boot →
+        (ps : List Parcel) (part : Bool) → v.mine.synced ≡ true → v.mine.peer < v.theirs.boot →
         AreBack v.mine.table back → AreRising r.in_ranges 0 os → LeaveRest r i v.mine.owned os →
         AreLoadable r (keyed (left_to r (other i) os)) empty ps →
         AreMirrored (keyed (left_to r (other i) os)) (λ k. revived (v.mine.table k)) ps →
@@ -193,7 +221,7 @@ pub fn hears_next()
         v.mine.peer < v.theirs.boot →
         unheard (after_act r i moment (hello_sent v) (HearAnew (hello_of v))) < unheard v }
     ensures fewer_heard { (r : Ranges) (i : GatewayId) (moment : ℕ) (v : Scene)
-        (back : List Pair) (os : List Run) (ps : List Pair) (part : Bool) →
+        (back : List Pair) (os : List Run) (ps : List Parcel) (part : Bool) →
         v.mine.peer < v.theirs.boot →
         unheard (after_act r i moment (hello_sent v) (Hear (hello_of v) back os ps part))
         < unheard v }
@@ -225,13 +253,14 @@ pub fn unsynced_is_behind()
         v.theirs.taken < length v.mine.sent }
 {}
 
-/// A list of the pairs of a table, each once and on ports of the ranges, may be put into a batch. Each pair is new
-/// where it is loaded, and a gateway that owns the ports `own` has the mirrored table in the end.
+/// A list of the pairs of a table, each once and on ports of the ranges, may be put into a batch, where the second
+/// pair of an endpoint goes as a Tell. Each pair has room where it is loaded, and a gateway that owns the ports `own`
+/// has the mirrored table in the end.
 pub fn batch_loads()
-    ensures loads { (r : Ranges) (own : Key → Bool) (table : Key → Slot) (ps : List Pair) →
-        LieWithin r table → AreThose table ps → AreApart ps → AreLoadable r own empty ps }
-    ensures mirrors { (r : Ranges) (own : Key → Bool) (table : Key → Slot) (ps : List Pair) →
-        LieWithin r table → AreThose table ps → AreApart ps → AreMirrored own table ps }
+    ensures loads { (r : Ranges) (own : Key → Bool) (table : Key → Slot) (xs : List Parcel) →
+        LieWithin r table → AreThose table xs → AreApart own xs → AreLoadable r own empty xs }
+    ensures mirrors { (r : Ranges) (own : Key → Bool) (table : Key → Slot) (xs : List Parcel) →
+        LieWithin r table → AreThose table xs → AreApart own xs → AreMirrored own table xs }
 {}
 
 /// Where ports move and the runs are the owned ports, the runs leave the rest of the ranges to the other gateway.
@@ -273,6 +302,32 @@ pub fn rows_lead()
     ensures peer_off { LeadsTo two_ranges (loading ++ using ++ peer_off)
         (loading_notes ++ using_notes ++ peer_off_notes)
         (slot_on 20001 (Live (host 5001)) ∷ live_first) [] }
+{}
+
+/// Whole runs in which pairs are made without the other's answer. Both gateways make a pair alone and tell the other
+/// (`met`); pairs of one endpoint, of which the second goes as a Tell in the next batch (`two_ports`); a Tell that
+/// crosses a proposal for its endpoint (`tell_crosses`); proposals that are marked, and refused then (`go_on`); a pair
+/// whose deletion was asked for, and that is marked before the Yes comes (`taken_back`); a pair that is lost with its
+/// box (`untold`).
+pub fn alone_rows_lead()
+    ensures met { LeadsTo two_ranges (loading ++ made_alone ++ meeting pair_b)
+        (loading_notes ++ made_alone_notes ++ meeting_notes pair_b)
+        (slot_on 40000 (Held (host 6000)) ∷ live_first)
+        (slot_on 40000 (Live (host 6000)) ∷ held_first) }
+    ensures two_ports { LeadsTo two_ranges (loading ++ made_alone ++ meeting pair_c ++ reloading)
+        (loading_notes ++ made_alone_notes ++ meeting_notes pair_c ++ reloading_notes)
+        (slot_on 40000 (Held (host 5000)) ∷ live_first)
+        (slot_on 40000 (Live (host 5000)) ∷ held_first) }
+    ensures tell_crosses { LeadsTo two_ranges (loading ++ made_alone ++ tell_crosses)
+        (loading_notes ++ made_alone_notes ++ tell_crosses_notes) live_first
+        (slot_on 40000 Free ∷ held_first) }
+    ensures go_on { LeadsTo two_ranges (loading ++ going_on) (loading_notes ++ going_on_notes)
+        (slot_on 20000 (Alone (host 5000)) ∷ []) (slot_on 40000 (Alone (host 5000)) ∷ []) }
+    ensures taken_back { LeadsTo two_ranges (loading ++ using ++ taking_back)
+        (loading_notes ++ using_notes ++ taking_back_notes) live_first held_first }
+    ensures untold { LeadsTo two_ranges (loading ++ made_alone ++ dying)
+        (loading_notes ++ made_alone_notes ++ dying_notes)
+        (slot_on 20000 (Pending false (host 5001)) ∷ []) (slot_on 20000 (Held (host 5001)) ∷ []) }
 {}
 
 /// Whole runs with six ports that move. While a Grant is on its way its ports are nobody's; then they are the asker's.

@@ -22,11 +22,11 @@ use Rattle.link.specs.Reading.{reading}
 use Rattle.link.proofs.Offered.{all_taken, reading_takes}
 use Rattle.resync.specs.Loading.{Load, loaded}
 use Rattle.spec_binding.specs.Books.{Book, empty_book, is_lone, is_synced, IsBook, load_of}
-use Rattle.spec_binding.specs.Ledgers.{Ledger, alone_ledger, ledger_after, release_all, may_ask, restarted_ledger, rests_for, taken_ledger}
+use Rattle.spec_binding.specs.Ledgers.{Ledger, alone_ledger, ledger_after, release_all, may_ask, restarted_ledger, rests_for, taken_ledger, go_on_all, sought_keys}
 use Rattle.spec_binding.specs.Resets.{back_in, begun_anew, restart_link, restart_notes, restarted, retaken}
-use Rattle.spec_binding.specs.Rows.{after, answered, load_taken, noted_by, row_of, taken_answer, taken_book, taken_ended, taken_what, unsynced_after, idle_row}
+use Rattle.spec_binding.specs.Rows.{after, answered, load_taken, noted_by, row_of, taken_answer, taken_book, taken_ended, taken_what, unsynced_after, idle_row, alone_row, is_full}
 use Rattle.spec_binding.specs.Uses.{Accounts}
-use Rattle.spec_binding.proofs.Offered.{alone-keeps, fed-keeps, idle-keeps, restart-keeps, taken-keeps, change-leaves, alone-accounts, fed-accounts, later-accounts, let-go-accounts, restarted-accounts, taken-accounts}
+use Rattle.spec_binding.proofs.Offered.{alone-keeps, fed-keeps, idle-keeps, restart-keeps, taken-keeps, change-leaves, alone-accounts, fed-accounts, later-accounts, let-go-accounts, restarted-accounts, taken-accounts, alone-row-keeps, go-on-accounts}
 use Rattle.waiting.specs.declared.waits.Ended.TheVariants.{AllPairs, One}
 use Rattle.waiting.specs.declared.waits.WaitsFor.TheVariants as wait
 use Rattle.packet_rules.specs.declared.readings.Reading.{Reading}
@@ -42,17 +42,18 @@ use Rattle.vrrp_states.specs.Table.{Event as RouterEvent}
 use Rattle.spec_step.specs.declared.events.Event.{Event}
 use Rattle.spec_step.specs.declared.events.Event.TheVariants.{Frame, Datagram as Comes, Tick, Stop, PeerOff, Side as SideIs}
 use Rattle.spec_step.specs.Machine.{AreBytes, HasBytes, KeepsBytes}
-use Rattle.spec_step.specs.Parts.{acted, all_framed, all_idle_done, answered_by, arp_taken, datagram_in, datagram_read, framed, frames_of, handed_in, has_synced, heard_by, heard_unless, idle_done, idle_taken, link_answered, link_ticked, old_dropped, record_done, record_shown, record_told, records_done, released, reset, started, wait_ended, with_link, word_taken}
+use Rattle.spec_step.specs.Parts.{acted, all_framed, all_idle_done, answered_by, arp_taken, datagram_in, datagram_read, framed, frames_of, handed_in, has_synced, heard_by, heard_unless, idle_done, idle_taken, link_answered, link_ticked, old_dropped, record_done, record_shown, record_told, records_done, released, reset, started, wait_ended, with_link, word_taken, all_sought_done, alone_taken, gone_alone, peer_told, sought_done}
 use Rattle.spec_step.specs.Rests.{AreBy, Rests}
-use Rattle.spec_step.specs.Shown.{GatewayAndOutput, Shown, id_of, is_running, scene, station_on, with_notes, with_station}
+use Rattle.spec_step.specs.Shown.{GatewayAndOutput, Shown, id_of, is_running, scene, station_on, with_notes, with_station, is_apart}
 use Rattle.spec_step.specs.Routers.{BothAct, RouterActs}
 use Rattle.spec_step.specs.GivingWay.{GivingWay, left, turn_of}
 use Rattle.spec_step.specs.Steps.{Does, FrameDoes, IsStepOn, clock_after, ended_on, stopped, ticked, word_by, word_refusal}
 use Rattle.spec_step.specs.Verdict.{reading_on}
 use Rattle.spec_step.proofs.Turning.{back_as, turn-by}
-use Rattle.spec_step.proofs.Idle.{idle-at-once}
+use Rattle.spec_step.proofs.Idle.{idle-at-once, sought-at-once}
 use Rattle.spec_step.proofs.Packets.{Reads, kept-filter, read-formed}
 use Rattle.spec_step.proofs.Passing.{IsSound}
+use Rattle.spec_step.proofs.Plain.{let-go-stays-plain, restarted-stays-plain, retaken-are-plain, taken-stays-plain, went-on-stays-plain}
 use Rattle.spec_step.proofs.Resting.{Rested, Resting, by-join, flow-rests, framed-rests, noted-own, released-rests, resting-noted, resting-nothing, resting-then, resting-unseen, echo-rests, error-rests, refused-rests}
 use Rattle.spec_step.proofs.Stepping.{begun_on}
 
@@ -104,7 +105,7 @@ frame-rests reads s side bytes (Err reason) s2 read are does = subst (λ (x : Ga
 
 -- ---- records
 
-taken-id : (b : Book) (rests : Bool) (r : Record) → (taken_book b rests r).id ≡ b.id
+pub taken-id : (b : Book) (rests : Bool) (r : Record) → (taken_book b rests r).id ≡ b.id
 taken-id b rests r = at (is_synced b.stage)
   where
     load : (o : Option Load) → (load_taken b r o).id ≡ b.id
@@ -133,7 +134,7 @@ record-rests reads s r formed =
     let s2 = scene g2 told in
     let s3 = scene (record_shown g r) told in
     let first : Resting s s2 = resting-noted s (taken_ledger g.moment g.ledger r) (answered g.link (taken_answer b rests r)) notes
-    (noted-own b.id g.moment (taken_what b rests r)) (taken-id b rests r) (λ is. taken-keeps b rests r is formed)
+    (noted-own b.id g.moment (taken_what b rests r)) (taken-stays-plain b rests r b.id g.moment) (taken-id b rests r) (λ is. taken-keeps b rests r is formed)
     (λ before is a. taken-accounts g.moment g.ledger before r is a) in
     resting-then s s3 (record_done s r)
     (resting-then s s2 s3 first (routed-rests g2.moment g2 told (has_synced g g2 && is_running g2)))
@@ -156,10 +157,10 @@ restart-own b now = at (is_synced b.stage)
     at true = retaken-own b.id now (back_in b.entries)
     at false = tt
 
-restarted-id : (b : Book) → (restarted b).id ≡ b.id
+pub restarted-id : (b : Book) → (restarted b).id ≡ b.id
 restarted-id b = at (is_synced b.stage)
   where
-    at : (t : Bool) → (let x : Book = cond t (begun_anew b) (empty_book b.id b.zero b.one b.limit) in x).id ≡ b.id
+    at : (t : Bool) → (let x : Book = cond t (begun_anew b) (empty_book b.id b.zero b.one b.limit b.alone) in x).id ≡ b.id
     at true = refl
     at false = refl
 
@@ -172,7 +173,7 @@ reset-rests reads s =
     let notes = restart_notes b g.moment in
     let mid = scene (record g { ledger = restarted_ledger g.ledger; link = restart_link b g.link }) (with_notes s.told notes) in
     let first : Resting s mid = resting-noted s (restarted_ledger g.ledger) (restart_link b g.link) notes
-    (restart-own b g.moment) (restarted-id b) (λ is. restart-keeps b is)
+    (restart-own b g.moment) (restarted-stays-plain b g.moment) (restarted-id b) (λ is. restart-keeps b is)
     (λ before is a. restarted-accounts g.moment g.ledger before is a) in
     resting-then s mid (reset s) first (released-rests reads mid AllPairs)
 
@@ -204,7 +205,7 @@ taken-rests reads s n synced =
     let notes = retaken b.id g.moment (back_in b.entries) in
     let mid = scene (record g { ledger = alone_ledger g.moment g.ledger; link = closed_at g.link n }) (with_notes s.told notes) in
     let first : Resting s mid = resting-noted s (alone_ledger g.moment g.ledger) (closed_at g.link n) notes
-    (retaken-own b.id g.moment (back_in b.entries)) refl (λ is. alone-keeps b is synced)
+    (retaken-own b.id g.moment (back_in b.entries)) (record { alone = refl; plain = λ never. retaken-are-plain b.id g.moment (back_in b.entries) }) refl (λ is. alone-keeps b is synced)
     (λ before is a. alone-accounts g.moment g.ledger before is a) in
     resting-then s mid (word_taken s n) first (released-rests reads mid AllPairs)
 
@@ -221,7 +222,7 @@ word-rests reads s n (Some reason) is = resting-nothing s
 let-go-own : (now : ℕ) (ks : List Key) (l : Ledger) (e : Link) → AreBy l.book.id now (release_all now ks l e).notes × ((release_all now ks l e).ledger.book.id ≡ l.book.id)
 let-go-own now [] l e = (tt, refl)
 let-go-own now (k ∷ ks) l e =
-    let row = idle_row l.book (may_ask now e) k in
+    let row = idle_row l.book (may_ask now l.book e) k in
     let l2 = ledger_after now row.change l in
     let rest = let-go-own now ks l2 (answered e row.answer) in
     let same = (change-leaves l.book row.change).id in (
@@ -232,7 +233,7 @@ let-go-own now (k ∷ ks) l e =
 
 all-idle-keep : (s : GatewayAndOutput) (ks : List Key) → IsBook s.shown.ledger.book → IsBook (all_idle_done s ks).shown.ledger.book
 all-idle-keep s [] is = is
-all-idle-keep s (k ∷ ks) is = all-idle-keep (idle_done s k) ks (idle-keeps s.shown.ledger.book (may_ask s.shown.moment s.shown.link) k is)
+all-idle-keep s (k ∷ ks) is = all-idle-keep (idle_done s k) ks (idle-keeps s.shown.ledger.book (may_ask s.shown.moment s.shown.ledger.book s.shown.link) k is)
 
 idle-rests : (s : GatewayAndOutput) → Resting s (idle_taken s)
 idle-rests s =
@@ -242,9 +243,47 @@ idle-rests s =
     let own = let-go-own g.moment ks l g.link in
     let same = idle-at-once s ks in
     subst (λ (x : GatewayAndOutput). Resting s x) (sym same)
-    (resting-noted s r.ledger r.link r.notes own.0 own.1
+    (resting-noted s r.ledger r.link r.notes own.0 (let-go-stays-plain g.moment ks l g.link) own.1
     (λ is. subst (λ (x : GatewayAndOutput). IsBook x.shown.ledger.book) same (all-idle-keep s ks is))
     (λ before is a. let-go-accounts g.moment l g.link before is a))
+
+go-on-own : (apart : Bool) (now : ℕ) (ks : List Key) (l : Ledger) (e : Link) → AreBy l.book.id now (go_on_all apart now ks l e).notes × ((go_on_all apart now ks l e).ledger.book.id ≡ l.book.id)
+go-on-own apart now [] l e = (tt, refl)
+go-on-own apart now (k ∷ ks) l e =
+    let row = alone_row l.book apart (is_full e) k in
+    let l2 = ledger_after now row.change l in
+    let rest = go-on-own apart now ks l2 (answered e row.answer) in
+    let same = (change-leaves l.book row.change).id in (
+      by-join l.book.id now (noted_by l.book.id now row.what) (go_on_all apart now ks l2 (answered e row.answer)).notes (noted-own l.book.id now row.what)
+          (subst (λ (i : GatewayId). AreBy i now (go_on_all apart now ks l2 (answered e row.answer)).notes) same rest.0),
+      rest.1 ∙ same,
+    )
+
+pub all-sought-keep : (apart : Bool) (s : GatewayAndOutput) (ks : List Key) → IsBook s.shown.ledger.book → IsBook (all_sought_done apart s ks).shown.ledger.book
+all-sought-keep apart s [] is = is
+all-sought-keep apart s (k ∷ ks) is = all-sought-keep apart (sought_done apart s k) ks (alone-row-keeps s.shown.ledger.book apart (is_full s.shown.link) k is)
+
+all-sought-rest : (apart : Bool) (s : GatewayAndOutput) (ks : List Key) → is_apart s.shown ≡ apart → Resting s (all_sought_done apart s ks)
+all-sought-rest apart s ks is_so =
+    let g = s.shown in let l = g.ledger in
+    let r = go_on_all apart g.moment ks l g.link in
+    let own = go-on-own apart g.moment ks l g.link in
+    let same = sought-at-once s apart ks in
+    subst (λ (x : GatewayAndOutput). Resting s x) (sym same)
+    (resting-noted s r.ledger r.link r.notes own.0 (went-on-stays-plain g apart ks is_so) own.1
+    (λ is. subst (λ (x : GatewayAndOutput). IsBook x.shown.ledger.book) same (all-sought-keep apart s ks is))
+    (λ before is a. go-on-accounts g.moment apart ks l g.link before is a))
+
+-- the ledger accounts for the trace after what is between the idle pairs of a tick and the link
+pub alone-rests : Reads → (s : GatewayAndOutput) → Resting s (alone_taken s)
+alone-rests reads s = at (is_apart s.shown) refl
+  where
+    at : (t : Bool) → is_apart s.shown ≡ t → Resting s (let x : GatewayAndOutput = cond t (gone_alone s) (peer_told s) in x)
+    at true apart =
+        let keys = sought_keys true s.shown.ledger.book.entries in
+        let marked = all_sought_done true s keys in
+        resting-then s marked (gone_alone s) (all-sought-rest true s keys apart) (released-rests reads marked AllPairs)
+    at false together = all-sought-rest false s (sought_keys false s.shown.ledger.book.entries) together
 
 old-rests : (s : GatewayAndOutput) → Resting s (old_dropped s)
 old-rests s = resting-unseen s (old_dropped s) refl refl refl (λ k. kept-filter _ s.shown.kept k)
@@ -263,6 +302,14 @@ turn-rests s s2 takes =
     back true = resting-unseen s _ refl refl refl (λ k. k)
     back false = resting-unseen s _ refl refl refl (λ k. k)
 
+-- the ledger accounts for a tick up to its idle pairs
+pub idle-rests-from : (s : GatewayAndOutput) (now : ℕ) (turned middle : GatewayAndOutput) → GivingWay (ticked s now) turned → BothAct turned table.Tick middle → Resting (ticked s now) (idle_taken (old_dropped middle))
+idle-rests-from s now turned middle gives both =
+    let young = old_dropped middle in
+    resting-then (ticked s now) turned (idle_taken young) (turn-rests (ticked s now) turned gives)
+    (resting-then turned middle (idle_taken young) (both-rest turned table.Tick middle both)
+    (resting-then middle young (idle_taken young) (old-rests middle) (idle-rests young)))
+
 -- ---- an event's own parts
 
 does-rest : Reads → (s : GatewayAndOutput) (event : Event) (done : GatewayAndOutput) → Does s event done → HasBytes event → Resting (begun_on s event) done
@@ -271,13 +318,9 @@ does-rest reads s (Comes bytes) done does has =
     subst (λ (x : GatewayAndOutput). Resting s x) (sym does) (datagram-rests reads s bytes.now (reading bytes.now) refl has)
 does-rest reads s (Tick now) done does has =
     let start = ticked s now in
-    let turned = does.0 in
-    let middle = does.1 in
-    let young = old_dropped middle in
+    let idle = idle_taken (old_dropped does.1) in
     subst (λ (x : GatewayAndOutput). Resting start x) (sym does.4)
-    (resting-then start turned (idle_taken young) (turn-rests start turned does.2)
-    (resting-then turned middle (idle_taken young) (both-rest turned table.Tick middle does.3)
-    (resting-then middle young (idle_taken young) (old-rests middle) (idle-rests young))))
+    (resting-then start idle (alone_taken idle) (idle-rests-from s now does.0 does.1 does.2 does.3) (alone-rests reads idle))
 does-rest reads s Stop done does has =
     let middle = does.0 in
     subst (λ (x : GatewayAndOutput). Resting s x) (sym does.2)
@@ -299,6 +342,7 @@ fed-rests s = λ is.
       own = tt;
       moment = refl;
       id = refl;
+      stays = record { alone = refl; plain = λ never. tt };
       accounts = λ before a. fed-accounts g.moment g.ledger before (drop n b.coming) a;
       sound = record { book = fed-keeps b (take n b.coming) (drop n b.coming) is.book (sym (take-append-drop n b.coming)); kept = is.kept };
     }
@@ -331,11 +375,12 @@ end-rests (SideIs side up) done = resting-nothing done
 record Leads (s start : GatewayAndOutput) : Type 0 where
   notes : start.told.notes ≡ s.told.notes
   id : id_of start.shown ≡ id_of s.shown
+  alone : start.shown.ledger.book.alone ≡ s.shown.ledger.book.alone
   sound : IsSound s.shown → IsSound start.shown
   accounts : (before : List Note) → Accounts s.shown.moment s.shown.ledger before → Accounts start.shown.moment start.shown.ledger before
 
 leads-here : (s : GatewayAndOutput) → Leads s s
-leads-here s = record { notes = refl; id = refl; sound = λ is. is; accounts = λ before a. a }
+leads-here s = record { notes = refl; id = refl; alone = refl; sound = λ is. is; accounts = λ before a. a }
 
 -- the clock never runs back
 no-earlier : (moment now : ℕ) → moment ≤ clock_after moment now
@@ -347,6 +392,7 @@ begun-leads s (Comes bytes) = leads-here s
 begun-leads s (Tick now) = record {
   notes = refl;
   id = refl;
+  alone = refl;
   sound = λ is. record { book = is.book; kept = is.kept };
   accounts = λ before a. later-accounts s.shown.moment (clock_after s.shown.moment now) s.shown.ledger before (no-earlier s.shown.moment now) a;
 }
@@ -370,5 +416,7 @@ step-rests reads s event s2 step has book kept =
       own = subst (λ (i : GatewayId). AreBy i s2.shown.moment x.notes) start.id
           (subst (λ (m : ℕ). AreBy (id_of (begun_on s event).shown) m x.notes) (sym x.moment) x.own);
       id = x.id ∙ start.id;
+      alone = x.stays.alone ∙ start.alone;
+      plain = λ never. x.stays.plain (start.alone ∙ never);
       accounts = λ before a. x.accounts before (start.accounts before a);
     }

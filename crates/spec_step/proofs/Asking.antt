@@ -28,7 +28,7 @@ use Rattle.output.specs.Output.{Sent}
 use Rattle.spec_step.specs.Others.{Asking, Cause, Drops, IsCause, IsDue, IsHost, IsItsWait, IsNew, IsNextHop, IsOnward, MayGoBy, Sends, Waits, all_noted, firsts, has_come, hops_of, other_frames, packets_asked, request_of, requests, targets, waiting_by, within_limit, is_other}
 use Rattle.spec_step.specs.Machine.{AreBytes, KeepsBytes}
 use Rattle.spec_step.specs.Parts.{by_row, wanted_by, wanted_for}
-use Rattle.spec_step.specs.Shown.{GatewayAndOutput, Shown, id_of, station_on}
+use Rattle.spec_step.specs.Shown.{GatewayAndOutput, Shown, id_of, is_apart, station_on}
 use Rattle.spec_step.specs.Truly.{IsSetUp, AtHand, Known, known_of, packets_of}
 use Rattle.spec_step.proofs.Freeing.{Comes-of, comes-then, filter-all, filter-left, filter-none}
 use Rattle.spec_step.proofs.Limits.{IsByWait, KeepsHops, TakesNone, asks-before, count-noted, hops-stay, limit-count, limit-same, noted-taken, noted-then}
@@ -360,7 +360,7 @@ quiet-by s s2 frames notes entries kept known stations wired = record {
   wired = wired;
 }
 
-row-quiet : (s : GatewayAndOutput) (row : Transition) → RowRoots s.shown.ledger.book row → IsQuiet s (by_row s row)
+pub row-quiet : (s : GatewayAndOutput) (row : Transition) → RowRoots s.shown.ledger.book row → IsQuiet s (by_row s row)
 row-quiet s row roots = record {
   frames = refl;
   notes = noted_by (id_of s.shown) s.shown.moment row.what;
@@ -381,8 +381,9 @@ nothing-asks hand s = quiet-asks hand s s (nothing-quiet s)
 pub wanted-quiet : (s : GatewayAndOutput) (e : Endpoint) → IsQuiet s (wanted_by s e)
 wanted-quiet s e =
     let b = s.shown.ledger.book in
+    let apart = is_apart s.shown in
     let full = is_full s.shown.link in
-    row-quiet s (wish_of b full e).row (wish-roots b full e)
+    row-quiet s (wish_of b apart full e).row (wish-roots b apart full e)
 
 pub wanted-for-quiet : (s : GatewayAndOutput) (flow : Flow) (by : Translation) → IsQuiet s (wanted_for s flow by)
 wanted-for-quiet s flow (Outward p) = wanted-quiet s (source_of flow)

@@ -32,9 +32,9 @@ use Rattle.link.specs.Reading.{reading}
 use Rattle.link.proofs.Offered.{length-takeable, reading_takes}
 use Rattle.spec_binding.specs.declared.changes.Transition.{Transition}
 use Rattle.spec_binding.specs.Books.{Book, is_lone, is_synced}
-use Rattle.spec_binding.specs.Ledgers.{Ledger, alone_ledger, may_ask, restarted_ledger, rests_for, taken_ledger}
+use Rattle.spec_binding.specs.Ledgers.{Ledger, alone_ledger, may_ask, restarted_ledger, rests_for, taken_ledger, sought_keys}
 use Rattle.spec_binding.specs.Resets.{back_in, restart_link, restart_notes, retaken}
-use Rattle.spec_binding.specs.Rows.{answered, carry_row, idle_row, is_full, noted_by, taken_answer, taken_ended, taken_what, wish_of}
+use Rattle.spec_binding.specs.Rows.{answered, carry_row, idle_row, is_full, noted_by, taken_answer, taken_ended, taken_what, wish_of, alone_row}
 use Rattle.waiting.specs.declared.waits.Ended.{Ended}
 use Rattle.waiting.specs.declared.waits.Ended.TheVariants.{AllPairs, One}
 use Rattle.waiting.specs.declared.waits.WaitsFor.{WaitsFor}
@@ -61,14 +61,15 @@ use Rattle.spec_step.specs.declared.events.Event.TheVariants.{Frame, Datagram as
 use Rattle.spec_step.specs.declared.plans.Plan.{Plan}
 use Rattle.spec_step.specs.declared.plans.Plan.TheVariants.{Send, Ask, AskAgain, Wait as WaitFor}
 use Rattle.spec_step.specs.Machine.{AreBytes, HasBytes}
-use Rattle.spec_step.specs.Parts.{all_framed, all_idle_done, all_taken, answered_by, arp_taken, asked_again, by_plan, by_row, by_verdict, carried_all, carried_by, datagram_in, datagram_read, flags_in, flow_taken, framed, frames_of, handed_in, has_synced, heard_by, heard_unless, idle_done, idle_taken, keeping, link_answered, link_ticked, neighbour_asked, old_dropped, record_done, record_shown, record_told, records_done, released, renewed_behind, request_by, reset, retaken_by, started, taken_again, wait_ended, waiting, wanted_by, wanted_for, with_link, word_taken, by_error_plan, by_error_verdict, error_taken, echo_taken, length_in, refused}
+use Rattle.spec_step.specs.Parts.{all_framed, all_idle_done, all_taken, answered_by, arp_taken, asked_again, by_plan, by_row, by_verdict, carried_all, carried_by, datagram_in, datagram_read, flags_in, flow_taken, framed, frames_of, handed_in, has_synced, heard_by, heard_unless, idle_done, idle_taken, keeping, link_answered, link_ticked, neighbour_asked, old_dropped, record_done, record_shown, record_told, records_done, released, renewed_behind, request_by, reset, retaken_by, started, taken_again, wait_ended, waiting, wanted_by, wanted_for, with_link, word_taken, by_error_plan, by_error_verdict, error_taken, echo_taken, length_in, refused, all_sought_done, alone_taken, gone_alone, peer_told, sought_done}
 use Rattle.spec_step.specs.Rests.{most_notes}
-use Rattle.spec_step.specs.Shown.{GatewayAndOutput, Shown, id_of, is_running, scene, station_on, with_notes, with_station}
+use Rattle.spec_step.specs.Shown.{GatewayAndOutput, Shown, id_of, is_apart, is_running, scene, station_on, with_notes, with_station}
 use Rattle.spec_step.specs.Routers.{BothAct, RouterActs}
 use Rattle.spec_step.specs.GivingWay.{GivingWay, left, turn_of}
 use Rattle.spec_step.specs.Steps.{Does, FrameDoes, IsStepOn, ended_on, ticked, word_by, word_refusal}
 use Rattle.spec_step.specs.Verdict.{exit_by, hop_by, plan_of, reading_on, error_hop, error_plan}
 use Rattle.spec_step.proofs.Turning.{back_as, turn-by}
+use Rattle.spec_step.proofs.WhileApart.{few-sought, idle-apart, idle-taken-few, tell-silent}
 use Rattle.spec_step.proofs.Own.{Said, echo-by, refusal-by, refused-by, said_scene}
 use Rattle.icmp.specs.declared.packets.ErrorFlow.{ErrorFlow}
 
@@ -108,7 +109,7 @@ row-adds : (s : GatewayAndOutput) (row : Transition) → Adds 1 0 s (by_row s ro
 row-adds s row = adds-noted 1 s (by_row s row) (noted_by (id_of s.shown) s.shown.moment row.what) (noted-one (id_of s.shown) s.shown.moment row.what) refl refl
 
 wanted-adds : (s : GatewayAndOutput) (e : Endpoint) → Adds 1 0 s (wanted_by s e)
-wanted-adds s e = row-adds s (wish_of s.shown.ledger.book (is_full s.shown.link) e).row
+wanted-adds s e = row-adds s (wish_of s.shown.ledger.book (is_apart s.shown) (is_full s.shown.link) e).row
 
 carried-adds : (s : GatewayAndOutput) (k : Key) (p : Carried) → Adds 1 0 s (carried_by s k p)
 carried-adds s k p =
@@ -494,7 +495,7 @@ few-idle lone now (e ∷ es) (l ∷ ls) = at (is_idle_row lone now e l) (idle_ke
 all-idle-adds : (s : GatewayAndOutput) (ks : List Key) → Adds (length ks) 0 s (all_idle_done s ks)
 all-idle-adds s [] = adds-none s s refl refl
 all-idle-adds s (k ∷ ks) =
-    let one = row-adds s (idle_row s.shown.ledger.book (may_ask s.shown.moment s.shown.link) k) in
+    let one = row-adds s (idle_row s.shown.ledger.book (may_ask s.shown.moment s.shown.ledger.book s.shown.link) k) in
     let rest = all-idle-adds (idle_done s k) ks in
     record { notes = omega (arith, one.notes, rest.notes); kept = omega (arith, one.kept, rest.kept) }
 
@@ -512,6 +513,48 @@ old-adds s = record {
     length-filter_both (is_young s.shown.moment) (λ (w : HeldPacket). not (is_young s.shown.moment w)) (λ w. refl) s.shown.kept,
   );
 }
+
+all-marked-adds : (s : GatewayAndOutput) (ks : List Key) → Adds (length ks) 0 s (all_sought_done true s ks)
+all-marked-adds s [] = adds-none s s refl refl
+all-marked-adds s (k ∷ ks) =
+    let one = row-adds s (alone_row s.shown.ledger.book true (is_full s.shown.link) k) in
+    let rest = all-marked-adds (sought_done true s k) ks in
+    record { notes = omega (arith, one.notes, rest.notes); kept = omega (arith, one.kept, rest.kept) }
+
+all-told-adds : (s : GatewayAndOutput) (ks : List Key) → Adds 0 0 s (all_sought_done false s ks)
+all-told-adds s [] = adds-none s s refl refl
+all-told-adds s (k ∷ ks) =
+    let row = alone_row s.shown.ledger.book false (is_full s.shown.link) k in
+    let silent : length (noted_by (id_of s.shown) s.shown.moment row.what) ≤ 0 =
+    omega (arith, ap (λ (o : Option NoteKind). length (noted_by (id_of s.shown) s.shown.moment o)) (tell-silent s.shown.ledger.book (is_full s.shown.link) k)) in
+    let one = adds-noted 0 s (by_row s row) (noted_by (id_of s.shown) s.shown.moment row.what) silent refl refl in
+    let rest = all-told-adds (sought_done false s k) ks in
+    record { notes = omega (arith, one.notes, rest.notes); kept = omega (arith, one.kept, rest.kept) }
+
+-- the idle pairs of a tick, and what is between them and the link
+alone-within : (c : ℕ) (s : GatewayAndOutput) → Within c (length s.shown.ledger.book.entries + 3 * c) s (alone_taken (idle_taken s))
+alone-within c s = at (is_apart (idle_taken s).shown) refl
+  where
+    marked-adds : is_apart (idle_taken s).shown ≡ true → (let idle = idle_taken s in Adds (length s.shown.ledger.book.entries) 0 s (all_sought_done true idle (sought_keys true idle.shown.ledger.book.entries)))
+    marked-adds apart =
+        let idle = idle_taken s in
+        let one = all-marked-adds idle (sought_keys true idle.shown.ledger.book.entries) in
+        let few = idle-taken-few s (sym (idle-apart s) ∙ apart) in
+        record {
+          notes = omega (arith, one.notes, few, few-sought true idle.shown.ledger.book.entries);
+          kept = omega (arith, one.kept, (idle-adds s).kept);
+        }
+
+    at : (t : Bool) → is_apart (idle_taken s).shown ≡ t → Within c (length s.shown.ledger.book.entries + 3 * c) s (let idle : GatewayAndOutput = idle_taken s in let x : GatewayAndOutput = cond t (gone_alone idle) (peer_told idle) in x)
+    at true apart =
+        let idle = idle_taken s in
+        let marked = all_sought_done true idle (sought_keys true idle.shown.ledger.book.entries) in
+        within-then c (length s.shown.ledger.book.entries) (3 * c) s marked (gone_alone idle) (within-adds c (length s.shown.ledger.book.entries) s marked (marked-adds apart)) (released-within c marked AllPairs)
+    at false apart =
+        let idle = idle_taken s in
+        let told = all-told-adds idle (sought_keys false idle.shown.ledger.book.entries) in
+        let idles = idle-adds s in
+        within-adds c (length s.shown.ledger.book.entries + 3 * c) s (peer_told idle) (record { notes = omega (arith, idles.notes, told.notes); kept = omega (arith, idles.kept, told.kept) })
 
 -- ---- an event's own parts
 
@@ -540,11 +583,12 @@ does-few s (Tick now) done does has =
     let turned = does.0 in
     let middle = does.1 in
     let young = old_dropped middle in
-    let idle = idle-adds young in
     let first = turn-few start turned does.2 in
+    let kept : length young.shown.kept ≤ length s.shown.kept = omega (arith, first.adds.kept, (both-add turned table.Tick middle does.3).kept, (old-adds middle).kept) in
+    let rest = alone-within (length s.shown.kept) young kept in
     let book = ap (λ (l : Ledger). length l.book.entries) (both-book turned table.Tick middle does.3) in
     let before = ap (λ (l : Ledger). length l.book.entries) first.same in
-    omega (arith, first.adds.notes, (both-add turned table.Tick middle does.3).notes, idle.notes, book, before, ap (λ (z : GatewayAndOutput). length z.told.notes) does.4)
+    omega (arith, first.adds.notes, (both-add turned table.Tick middle does.3).notes, rest.0, book, before, ap (λ (z : GatewayAndOutput). length z.told.notes) does.4)
 does-few s Stop done does has =
     let middle = does.0 in
     omega (arith, (both-add s table.Stop middle does.1).notes, ap (λ (z : GatewayAndOutput). length z.told.notes) does.2)

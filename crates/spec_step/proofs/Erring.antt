@@ -14,8 +14,8 @@ use Rattle.nat_types.specs.declared.pairs.Pair.{Pair}
 use Rattle.icmp.specs.declared.packets.ErrorFlow.{ErrorFlow}
 use Rattle.ipv4.specs.declared.flows.Flow.{Flow}
 use Rattle.bindings.specs.declared.entries.Entry.{Entry}
-use Rattle.bindings.specs.Entries.{HasDistinctKeys, entry_of, serves, slot_of, translates}
-use Rattle.bindings.proofs.Offered.{entry-serves, found-slot}
+use Rattle.bindings.specs.Entries.{HasDistinctKeys, entry_of, slot_of, translates}
+use Rattle.bindings.proofs.Offered.{entry-serves, entry-slot}
 use Rattle.spec_binding.specs.Books.{IsBook, is_synced}
 use Rattle.spec_binding.specs.Uses.{IsTranslated}
 use Rattle.waiting.specs.declared.waits.WaitsFor.TheVariants as wait
@@ -130,10 +130,13 @@ in-serves es e p is = at (entry_of es e) refl is
     same-end x there same = ap (λ (q : Pair). q.endpoint) (sym same) ∙ (entry-serves es e x there).1
 
     state-of : (x : Entry) → entry_of es e ≡ Some x → (s : EntryState) → pair_in s x.pair ≡ Ok p → p.endpoint ≡ e
-    state-of x there state.Pending is = absurd (cc)
+    state-of x there (state.Pending true) is = let same : x.pair ≡ p = cc in same-end x there same
+    state-of x there (state.Pending false) is = absurd (cc)
     state-of x there state.Doomed is = absurd (cc)
     state-of x there state.Live is = let same : x.pair ≡ p = cc in same-end x there same
-    state-of x there state.Closing is = absurd (cc)
+    state-of x there (state.Closing true) is = let same : x.pair ≡ p = cc in same-end x there same
+    state-of x there (state.Closing false) is = absurd (cc)
+    state-of x there state.Alone is = let same : x.pair ≡ p = cc in same-end x there same
     state-of x there state.Held is = let same : x.pair ≡ p = cc in same-end x there same
 
     at : (o : Option Entry) → entry_of es e ≡ o → pair_at o ≡ Ok p → p.endpoint ≡ e
@@ -163,16 +166,19 @@ in-there es e p keys is = at (entry_of es e) refl is
     made : (x : Entry) → entry_of es e ≡ Some x → x.pair ≡ p → translates x.state ≡ true → IsTranslated es p
     made x there same live = record {
       entry = x;
-      found = ap (λ (q : Pair). slot_of es q.key) (sym same) ∙ found-slot (serves e) es x keys there;
+      found = ap (λ (q : Pair). slot_of es q.key) (sym same) ∙ entry-slot es e x keys there;
       pair = same;
       translates = live;
     }
 
     state-of : (x : Entry) → entry_of es e ≡ Some x → (s : EntryState) → x.state ≡ s → pair_in s x.pair ≡ Ok p → IsTranslated es p
-    state-of x there state.Pending st is = absurd (cc)
+    state-of x there (state.Pending true) st is = let same : x.pair ≡ p = cc in made x there same (ap translates st)
+    state-of x there (state.Pending false) st is = absurd (cc)
     state-of x there state.Doomed st is = absurd (cc)
     state-of x there state.Live st is = let same : x.pair ≡ p = cc in made x there same (ap translates st)
-    state-of x there state.Closing st is = absurd (cc)
+    state-of x there (state.Closing true) st is = let same : x.pair ≡ p = cc in made x there same (ap translates st)
+    state-of x there (state.Closing false) st is = absurd (cc)
+    state-of x there state.Alone st is = let same : x.pair ≡ p = cc in made x there same (ap translates st)
     state-of x there state.Held st is = let same : x.pair ≡ p = cc in made x there same (ap translates st)
 
     at : (o : Option Entry) → entry_of es e ≡ o → pair_at o ≡ Ok p → IsTranslated es p

@@ -14,7 +14,7 @@ filter-same f g same [] = refl
 filter-same f g same (x ∷ xs) =
     ap (λ b. cond b (x ∷ filter f xs) (filter f xs)) (same x) ∙ ap (λ ys. cond (g x) (x ∷ ys) ys) (filter-same f g same xs)
 
-filter-both : {X : Type 0} (f g : X → Bool) (xs : List X) → filter g (filter f xs) ≡ filter (λ x. f x && g x) xs
+pub filter-both : {X : Type 0} (f g : X → Bool) (xs : List X) → filter g (filter f xs) ≡ filter (λ x. f x && g x) xs
 filter-both f g [] = refl
 filter-both f g (x ∷ xs) = at (f x) (g x) refl (filter-both f g xs)
   where

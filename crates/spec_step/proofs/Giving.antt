@@ -15,7 +15,7 @@ use Rattle.spec_step.specs.declared.events.Event.TheVariants.{Tick}
 use Rattle.spec_step.specs.declared.turns.Turn.{Turn}
 use Rattle.spec_step.specs.declared.turns.Turn.TheVariants.{Leaves, Returns, Stays}
 use Rattle.spec_step.specs.GivingWay.{TakesTurn, turn_of}
-use Rattle.spec_step.specs.Parts.{datagram_in, handed_in, idle_taken, link_ticked, old_dropped}
+use Rattle.spec_step.specs.Parts.{datagram_in, handed_in, idle_taken, link_ticked, old_dropped, alone_taken}
 use Rattle.spec_step.specs.Routers.{BothAct}
 use Rattle.spec_step.specs.Settled.{AreIdle, HaveBegun, IsSettled}
 use Rattle.spec_step.specs.Shown.{GatewayAndOutput, Shown, has_side_out, is_up, is_whole, scene}
@@ -23,6 +23,7 @@ use Rattle.spec_step.specs.Steps.{IsStepOn, clock_after, ticked}
 use Rattle.spec_step.proofs.Idle.{idle-at-once}
 use Rattle.spec_step.proofs.Lines.{both-shown}
 use Rattle.spec_step.proofs.Settling.{step-settles}
+use Rattle.spec_step.proofs.Standing.{alone-stands}
 use Rattle.spec_step.proofs.Turning.{back_as, turn-by}
 
 -- the time of the clock, and whether the gateway is away, stay the same
@@ -43,6 +44,9 @@ idle-lasts s =
     let l = s.shown.ledger in
     let once = idle-at-once s (idle_keys_in (is_lone l.book.stage) s.shown.moment l.book.entries l.lives) in
     record { moment = ap (λ (x : GatewayAndOutput). x.shown.moment) once; away = ap (λ (x : GatewayAndOutput). x.shown.away) once }
+
+pub alone-lasts : (s : GatewayAndOutput) → Lasts s (alone_taken s)
+alone-lasts s = let stands = alone-stands s in record { moment = stands.moment; away = stands.away }
 
 pub ended-lasts : (s : GatewayAndOutput) → Lasts s (link_ticked s)
 ended-lasts s = at (is_due_on_tick (handed_in s.shown).link s.shown.moment)
@@ -87,11 +91,13 @@ tick-ticks s now s2 step =
     let turned = does.0 in
     let middle = does.1 in
     let young = old_dropped middle in
-    let rest = lasts-then turned middle (link_ticked (idle_taken young)) (both-last turned middle table.Tick does.3)
-    (lasts-then middle (idle_taken young) (link_ticked (idle_taken young))
-    (lasts-then middle young (idle_taken young) (record { moment = refl; away = refl }) (idle-lasts young))
-    (ended-lasts (idle_taken young))) in
-    let same : s2 ≡ link_ticked (idle_taken young) = step.sends ∙ ap (λ (x : GatewayAndOutput). link_ticked x) does.4 in
+    let idle = idle_taken young in
+    let last = alone_taken idle in
+    let rest = lasts-then turned middle (link_ticked last) (both-last turned middle table.Tick does.3)
+    (lasts-then middle last (link_ticked last)
+    (lasts-then middle idle last (lasts-then middle young idle (record { moment = refl; away = refl }) (idle-lasts young)) (alone-lasts idle))
+    (ended-lasts last)) in
+    let same : s2 ≡ link_ticked last = step.sends ∙ ap (λ (x : GatewayAndOutput). link_ticked x) does.4 in
     let t = turn_of (ticked s now).shown in
     record {
       moment = ap (λ (x : GatewayAndOutput). x.shown.moment) same ∙ rest.moment ∙ turned-moment (ticked s now) turned t does.2;

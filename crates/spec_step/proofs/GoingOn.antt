@@ -9,13 +9,15 @@ use Rattle.addresses.specs.Transport.{parity_of}
 use Rattle.nat_types.specs.declared.gateways.Side.{Side}
 use Rattle.nat_types.specs.declared.pairs.Endpoint.{Endpoint}
 use Rattle.nat_types.specs.declared.pairs.EntryState.{EntryState}
-use Rattle.nat_types.specs.declared.pairs.EntryState.TheVariants.{Pending, Doomed, Live, Closing, Held}
+use Rattle.nat_types.specs.declared.pairs.EntryState.TheVariants.{Pending, Doomed, Live, Closing, Alone, Held}
 use Rattle.nat_types.specs.declared.pairs.Pair.{Pair}
 use Rattle.icmp.specs.declared.packets.ErrorFlow.{ErrorFlow}
 use Rattle.ipv4.specs.declared.flows.Flow.{Flow}
 use Rattle.ipv4.specs.declared.packets.Packet.{Packet as Datagram}
 use Rattle.bindings.specs.declared.entries.Entry.{Entry}
-use Rattle.bindings.specs.Entries.{entry_in, entry_of, translates}
+use Rattle.bindings.specs.Entries.{entry_in, entry_of, held_entry_of, translates}
+use Rattle.bindings.proofs.Offered.{entry-serves, entry-slot}
+use Rattle.std.specs.Option.{option_or}
 use Rattle.bindings.specs.Ports.{in_bounds, in_either, is_free_in, is_open_in, highest_of, lowest_of}
 use Rattle.bindings.specs.declared.entries.PortBounds.{PortBounds}
 use Rattle.port_range.proofs.Offered.{Between, chosen-none}
@@ -26,7 +28,7 @@ use Rattle.spec_binding.specs.declared.changes.PortRequest.{PortRequest}
 use Rattle.spec_binding.specs.declared.changes.Want as want
 use Rattle.spec_binding.specs.declared.changes.Want.{Want}
 use Rattle.spec_binding.specs.Books.{Book, IsBook, is_lone, is_synced, owns}
-use Rattle.spec_binding.specs.Rows.{is_at_limit, is_full, known_wish, new_pair, new_wish, port_for, proposal, quiet, row, unknown_wish, wish, wish_by, wish_of}
+use Rattle.spec_binding.specs.Rows.{is_at_limit, is_full, known_wish, new_pair, new_wish, paired_wish, port_for, quiet, row, unknown_wish, wish, wish_by, wish_of}
 use Rattle.spec_binding.proofs.Offered.{chosen-says}
 use Rattle.waiting.specs.declared.waits.WaitsFor as wait
 use Rattle.waiting.specs.Packets.{has_place}
@@ -51,41 +53,49 @@ use Rattle.spec_step.specs.declared.plans.Plan.{Plan}
 use Rattle.spec_step.specs.declared.plans.Plan.TheVariants.{Send, Ask, AskAgain, Wait}
 use Rattle.spec_step.specs.declared.plans.Reply.{Reply}
 use Rattle.spec_step.specs.declared.plans.Reply.TheVariants as reply
-use Rattle.spec_step.specs.GoingOn.{HasAllPairs, HasNoPort, HaveErrorPairs, HavePairs, MayGoOn, MayPassOn, NeedsPair, NeedsPort, Translates}
-use Rattle.spec_step.specs.Shown.{Shown, is_up, station_on}
+use Rattle.spec_step.specs.GoingOn.{GoesByOwn, HasAllPairs, HasNoPort, HaveErrorPairs, HavePairs, IsOwnWhereTwo, MayGoOn, MayPassOn, NeedsPair, NeedsPort, Translates}
+use Rattle.spec_step.specs.Shown.{Shown, is_apart, is_up, station_on}
 use Rattle.spec_step.specs.Verdict.{error_by, error_on, error_plan, exit_by, fits_at, hop_back, hop_to, if_fits, if_reply_fits, look_for, next_back, next_by, next_to, outcome_by, outcome_read, outcome_reply, pair_at, pair_in, pair_in_of, pair_out, plan_by, plan_from, plan_of, plan_on, plan_to, plan_via, reading_on, reply_to, reply_via, target_pair, verdict}
+use Rattle.spec_step.proofs.Sends.{AreFound, IsOwn, plan-sends}
+use Rattle.spec_step.proofs.Translating.{pair-is}
 use Rattle.spec_step.proofs.Reasons.{IsFine, direction-fine, error-direction-fine, is_of_choice, reading-fine, reads-up, then-fine}
 
 -- ---- pairs that are found
 
 pair-in : (state : EntryState) (p : Pair) → translates state ≡ true → pair_in state p ≡ Ok p
-pair-in Pending p is = absurd (cc)
+pair-in (Pending true) p is = refl
+pair-in (Pending false) p is = absurd (cc)
 pair-in Doomed p is = absurd (cc)
 pair-in Live p is = refl
-pair-in Closing p is = absurd (cc)
+pair-in (Closing true) p is = refl
+pair-in (Closing false) p is = absurd (cc)
+pair-in Alone p is = refl
 pair-in Held p is = refl
 
 pair-found : (o : Option Entry) (p : Pair) → Translates o p → pair_at o ≡ Ok p
 pair-found o p t = ap pair_at t.is ∙ pair-in t.entry.state t.entry.pair t.translating ∙ ap Ok t.pair
 
 wish-known : (state : EntryState) (p : Pair) → translates state ≡ true → (known_wish p state).answer ≡ want.TheVariants.Port p.key.port
-wish-known Pending p is = absurd (cc)
+wish-known (Pending true) p is = refl
+wish-known (Pending false) p is = absurd (cc)
 wish-known Doomed p is = absurd (cc)
 wish-known Live p is = refl
-wish-known Closing p is = absurd (cc)
+wish-known (Closing true) p is = refl
+wish-known (Closing false) p is = absurd (cc)
+wish-known Alone p is = refl
 wish-known Held p is = refl
 
 -- a synced gateway answers an endpoint's wish by the entry of the endpoint
 look-synced : (g : Shown) (flow : Flow) → is_synced g.ledger.book.stage ≡ true
-    → look_for g flow ≡ (wish_by g.ledger.book (is_full g.link) (source_of flow) (entry_of g.ledger.book.entries (source_of flow))).answer
+    → look_for g flow ≡ (wish_by g.ledger.book (is_apart g) (is_full g.link) (source_of flow) (entry_of g.ledger.book.entries (source_of flow))).answer
 look-synced g flow synced =
     let b = g.ledger.book in let e = source_of flow in
-    ap (λ (t : Bool). (let r : PortRequest = cond t (wish_by b (is_full g.link) e (entry_of b.entries e)) (wish want.TheVariants.NotNow quiet) in r).answer) synced
+    ap (λ (t : Bool). (let r : PortRequest = cond t (wish_by b (is_apart g) (is_full g.link) e (entry_of b.entries e)) (wish want.TheVariants.NotNow quiet) in r).answer) synced
 
 look-found : (g : Shown) (flow : Flow) (p : Pair) → is_synced g.ledger.book.stage ≡ true → Translates (entry_of g.ledger.book.entries (source_of flow)) p → look_for g flow ≡ want.TheVariants.Port p.key.port
 look-found g flow p synced t =
     look-synced g flow synced
-    ∙ ap (λ (o : Option Entry). (wish_by g.ledger.book (is_full g.link) (source_of flow) o).answer) t.is
+    ∙ ap (λ (o : Option Entry). (wish_by g.ledger.book (is_apart g) (is_full g.link) (source_of flow) o).answer) t.is
     ∙ wish-known t.entry.state t.entry.pair t.translating
     ∙ ap (λ (q : Pair). want.TheVariants.Port q.key.port) t.pair
 
@@ -181,10 +191,13 @@ via-fine : (g : Shown) (by : Translation) (to : Ip) → IsFine (plan_via g by to
 via-fine g by to = hop-fine g by (hop_to g by to) (next_to g by to)
 
 in-fine : (state : EntryState) (p : Pair) → IsFine (pair_in state p)
-in-fine Pending p = refl
+in-fine (Pending true) p = tt
+in-fine (Pending false) p = refl
 in-fine Doomed p = refl
 in-fine Live p = tt
-in-fine Closing p = refl
+in-fine (Closing true) p = tt
+in-fine (Closing false) p = refl
+in-fine Alone p = tt
 in-fine Held p = tt
 
 pair-fine : (o : Option Entry) → IsFine (pair_at o)
@@ -342,33 +355,40 @@ record Unknown (b : Book) (e : Endpoint) (r : Reason) : Type 0 where
   choice : Choice b e r
 
 known-refused : (state : EntryState) (p : Pair) (r : Reason) → refused_want (known_wish p state).answer ≡ Some r → ⊥
-known-refused Pending p r is = absurd (cc)
+known-refused (Pending true) p r is = absurd (cc)
+known-refused (Pending false) p r is = absurd (cc)
 known-refused Doomed p r is = absurd (cc)
 known-refused Live p r is = absurd (cc)
-known-refused Closing p r is = absurd (cc)
+known-refused (Closing true) p r is = absurd (cc)
+known-refused (Closing false) p r is = absurd (cc)
+known-refused Alone p r is = absurd (cc)
 known-refused Held p r is = absurd (cc)
 
-new-refused : (b : Book) (full : Bool) (e : Endpoint) (r : Reason) (o : Option Port) → refused_want (new_wish b full e o).answer ≡ Some r → (o ≡ None) × (why.NoPort ≡ r)
-new-refused b full e r None is = (refl, cc)
-new-refused b full e r (Some port) is = absurd (at (is_lone b.stage) full (row (Add (entry_in Live (new_pair e port))) None (Some (Retaken (new_pair e port)))) (proposal (new_pair e port)) is)
-  where
-    at : (lone full : Bool) (one two : Transition) → refused_want (let x : PortRequest = cond lone (wish (want.TheVariants.Port port) one) (cond full (wish want.TheVariants.NotNow quiet) (wish want.TheVariants.Wait two)) in x).answer ≡ Some r → ⊥
-    at true full one two is = absurd (cc)
-    at false true one two is = absurd (cc)
-    at false false one two is = absurd (cc)
+paired-refused : (apart full : Bool) (p : Pair) (r : Reason) → refused_want (paired_wish apart full p).answer ≡ Some r → ⊥
+paired-refused true full p r is = absurd (cc)
+paired-refused false true p r is = absurd (cc)
+paired-refused false false p r is = absurd (cc)
 
-unknown-refused : (b : Book) (full : Bool) (e : Endpoint) (r : Reason) → refused_want (unknown_wish b full e).answer ≡ Some r → Choice b e r
-unknown-refused b full e r is = at (is_at_limit b e.address) refl is
+new-refused : (b : Book) (apart full : Bool) (e : Endpoint) (r : Reason) (o : Option Port) → refused_want (new_wish b apart full e o).answer ≡ Some r → (o ≡ None) × (why.NoPort ≡ r)
+new-refused b apart full e r None is = (refl, cc)
+new-refused b apart full e r (Some port) is = absurd (at (is_lone b.stage) (row (Add (entry_in Live (new_pair e port))) None (Some (Retaken (new_pair e port)))) is)
   where
-    at : (t : Bool) → is_at_limit b e.address ≡ t → refused_want (let x : PortRequest = cond t (wish want.TheVariants.HostLimit quiet) (new_wish b full e (port_for b e)) in x).answer ≡ Some r → Choice b e r
+    at : (lone : Bool) (one : Transition) → refused_want (let x : PortRequest = cond lone (wish (want.TheVariants.Port port) one) (paired_wish apart full (new_pair e port)) in x).answer ≡ Some r → ⊥
+    at true one is = absurd (cc)
+    at false one is = paired-refused apart full (new_pair e port) r is
+
+unknown-refused : (b : Book) (apart full : Bool) (e : Endpoint) (r : Reason) → refused_want (unknown_wish b apart full e).answer ≡ Some r → Choice b e r
+unknown-refused b apart full e r is = at (is_at_limit b e.address) refl is
+  where
+    at : (t : Bool) → is_at_limit b e.address ≡ t → refused_want (let x : PortRequest = cond t (wish want.TheVariants.HostLimit quiet) (new_wish b apart full e (port_for b e)) in x).answer ≡ Some r → Choice b e r
     at true there is = limited there cc
-    at false there is = let new = new-refused b full e r (port_for b e) is in without there new.0 new.1
+    at false there is = let new = new-refused b apart full e r (port_for b e) is in without there new.0 new.1
 
-wish-refused : (b : Book) (full : Bool) (e : Endpoint) (r : Reason) → refused_want (wish_of b full e).answer ≡ Some r → Unknown b e r
-wish-refused b full e r is = at (is_synced b.stage) (entry_of b.entries e) refl is
+wish-refused : (b : Book) (apart full : Bool) (e : Endpoint) (r : Reason) → refused_want (wish_of b apart full e).answer ≡ Some r → Unknown b e r
+wish-refused b apart full e r is = at (is_synced b.stage) (entry_of b.entries e) refl is
   where
-    at : (t : Bool) (o : Option Entry) → entry_of b.entries e ≡ o → refused_want (let x : PortRequest = cond t (wish_by b full e o) (wish want.TheVariants.NotNow quiet) in x).answer ≡ Some r → Unknown b e r
-    at true None there is = record { none = there; choice = unknown-refused b full e r is }
+    at : (t : Bool) (o : Option Entry) → entry_of b.entries e ≡ o → refused_want (let x : PortRequest = cond t (wish_by b apart full e o) (wish want.TheVariants.NotNow quiet) in x).answer ≡ Some r → Unknown b e r
+    at true None there is = record { none = there; choice = unknown-refused b apart full e r is }
     at true (Some x) there is = absurd (known-refused x.state x.pair r is)
     at false o there is = absurd (cc)
 
@@ -436,7 +456,7 @@ no-port-there g side bytes book is =
     let refused = frame-refused g side bytes why.NoPort refl is in
     let e = source_of refused.packet.flow in
     let b = g.ledger.book in
-    let unknown = wish-refused b (is_full g.link) e why.NoPort refused.refused.look in
+    let unknown = wish-refused b (is_apart g) (is_full g.link) e why.NoPort refused.refused.look in
     at refused unknown.none unknown.choice
   where
     at : (refused : FrameRefused g side bytes why.NoPort) → entry_of g.ledger.book.entries (source_of refused.packet.flow) ≡ None → Choice g.ledger.book (source_of refused.packet.flow) why.NoPort → HasNoPort g side bytes
@@ -450,7 +470,7 @@ no-port-there g side bytes book is =
 all-pairs-there : (g : Shown) (side : Side) (bytes : List ℕ) → verdict g side bytes ≡ Dropped why.HostLimit → HasAllPairs g side bytes
 all-pairs-there g side bytes is =
     let refused = frame-refused g side bytes why.HostLimit refl is in
-    let unknown = wish-refused g.ledger.book (is_full g.link) (source_of refused.packet.flow) why.HostLimit refused.refused.look in
+    let unknown = wish-refused g.ledger.book (is_apart g) (is_full g.link) (source_of refused.packet.flow) why.HostLimit refused.refused.look in
     at refused unknown.none unknown.choice
   where
     at : (refused : FrameRefused g side bytes why.HostLimit) → entry_of g.ledger.book.entries (source_of refused.packet.flow) ≡ None → Choice g.ledger.book (source_of refused.packet.flow) why.HostLimit → HasAllPairs g side bytes
@@ -474,26 +494,26 @@ chooses-refuses g side bytes is w r look refuses =
     ∙ ap (λ (o : Result Plan Reason). outcome_by (and_then o (if_fits (fits_at g (exit_of is.way) length)))) (needs-refuses g flow is.way w r is.needs look refuses)
 
 -- a synced gateway answers the wish of an endpoint without a pair as unknown_wish says
-look-none : (g : Shown) (side : Side) (bytes : List ℕ) (is : NeedsPort g side bytes) → look_for g is.packet.flow ≡ (unknown_wish g.ledger.book (is_full g.link) (source_of is.packet.flow)).answer
+look-none : (g : Shown) (side : Side) (bytes : List ℕ) (is : NeedsPort g side bytes) → look_for g is.packet.flow ≡ (unknown_wish g.ledger.book (is_apart g) (is_full g.link) (source_of is.packet.flow)).answer
 look-none g side bytes is =
     look-synced g is.packet.flow (synced-reads g side bytes (Packet is.packet) is.reads)
-    ∙ ap (λ (o : Option Entry). (wish_by g.ledger.book (is_full g.link) (source_of is.packet.flow) o).answer) is.none
+    ∙ ap (λ (o : Option Entry). (wish_by g.ledger.book (is_apart g) (is_full g.link) (source_of is.packet.flow) o).answer) is.none
 
 no-port-says : (g : Shown) (side : Side) (bytes : List ℕ) → HasNoPort g side bytes → verdict g side bytes ≡ Dropped why.NoPort
 no-port-says g side bytes is =
-    let c = is.chooses in let b = g.ledger.book in let e = source_of c.packet.flow in let full = is_full g.link in
+    let c = is.chooses in let b = g.ledger.book in let e = source_of c.packet.flow in let apart = is_apart g in let full = is_full g.link in
     let look : look_for g c.packet.flow ≡ want.TheVariants.NoPort =
     look-none g side bytes c
-    ∙ ap (λ (t : Bool). (let x : PortRequest = cond t (wish want.TheVariants.HostLimit quiet) (new_wish b full e (port_for b e)) in x).answer) is.below
-    ∙ ap (λ (o : Option Port). (new_wish b full e o).answer) (busy-none b e is.busy) in
+    ∙ ap (λ (t : Bool). (let x : PortRequest = cond t (wish want.TheVariants.HostLimit quiet) (new_wish b apart full e (port_for b e)) in x).answer) is.below
+    ∙ ap (λ (o : Option Port). (new_wish b apart full e o).answer) (busy-none b e is.busy) in
     chooses-refuses g side bytes c want.TheVariants.NoPort why.NoPort look (λ by. refl)
 
 all-pairs-say : (g : Shown) (side : Side) (bytes : List ℕ) → HasAllPairs g side bytes → verdict g side bytes ≡ Dropped why.HostLimit
 all-pairs-say g side bytes is =
-    let c = is.chooses in let b = g.ledger.book in let e = source_of c.packet.flow in let full = is_full g.link in
+    let c = is.chooses in let b = g.ledger.book in let e = source_of c.packet.flow in let apart = is_apart g in let full = is_full g.link in
     let look : look_for g c.packet.flow ≡ want.TheVariants.HostLimit =
     look-none g side bytes c
-    ∙ ap (λ (t : Bool). (let x : PortRequest = cond t (wish want.TheVariants.HostLimit quiet) (new_wish b full e (port_for b e)) in x).answer) is.reached in
+    ∙ ap (λ (t : Bool). (let x : PortRequest = cond t (wish want.TheVariants.HostLimit quiet) (new_wish b apart full e (port_for b e)) in x).answer) is.reached in
     chooses-refuses g side bytes c want.TheVariants.HostLimit why.HostLimit look (λ by. refl)
 
 pub no-port : (g : Shown) (side : Side) (bytes : List ℕ) → IsBook g.ledger.book → (verdict g side bytes ≡ Dropped why.NoPort) ↔ HasNoPort g side bytes
@@ -501,3 +521,42 @@ no-port g side bytes book = (no-port-there g side bytes book, no-port-says g sid
 
 pub host-limit : (g : Shown) (side : Side) (bytes : List ℕ) → (verdict g side bytes ≡ Dropped why.HostLimit) ↔ HasAllPairs g side bytes
 host-limit g side bytes = (all-pairs-there g side bytes, all-pairs-say g side bytes)
+
+-- ---- of two pairs of an endpoint, the own one
+
+known-port : (state : EntryState) (p : Pair) (port : Port) → (known_wish p state).answer ≡ want.TheVariants.Port port → p.key.port ≡ port
+known-port (Pending true) p port is = cc
+known-port (Pending false) p port is = absurd (cc)
+known-port Doomed p port is = absurd (cc)
+known-port Live p port is = cc
+known-port (Closing true) p port is = cc
+known-port (Closing false) p port is = absurd (cc)
+known-port Alone p port is = cc
+known-port Held p port is = cc
+
+-- only a synced gateway answers an endpoint's wish with a port
+port-synced : (g : Shown) (flow : Flow) (port : Port) → look_for g flow ≡ want.TheVariants.Port port → is_synced g.ledger.book.stage ≡ true
+port-synced g flow port is = at (is_synced g.ledger.book.stage) is
+  where
+    at : (t : Bool) → (let r : PortRequest = cond t (wish_by g.ledger.book (is_apart g) (is_full g.link) (source_of flow) (entry_of g.ledger.book.entries (source_of flow))) (wish want.TheVariants.NotNow quiet) in r).answer ≡ want.TheVariants.Port port → t ≡ true
+    at true is = refl
+    at false is = absurd (cc)
+
+own-first : (g : Shown) (flow : Flow) (p : Pair) → IsBook g.ledger.book → IsOwn g flow p → IsOwnWhereTwo g (source_of flow) p
+own-first g flow p book own = λ x is.
+    let b = g.ledger.book in let e = source_of flow in
+    let there : entry_of b.entries e ≡ Some x = ap (λ (o : Option Entry). option_or o (held_entry_of b.entries e)) is in
+    let look = look-synced g flow (port-synced g flow own.0 own.1.0) ∙ ap (λ (o : Option Entry). (wish_by b (is_apart g) (is_full g.link) e o).answer) there in
+    let at = known-port x.state x.pair own.0 (sym look ∙ own.1.0) in
+    let formed = book.formed x.pair.key x (entry-slot b.entries e x book.keys there) in
+    let serving = (entry-serves b.entries e x there).1 in
+    pair-is x.pair e own.0 serving (ap (λ (q : Endpoint). q.protocol) (sym serving) ∙ formed.protocol) at ∙ sym own.1.1
+
+-- of two pairs of its source a packet that is sent goes out by the own one
+pub sent-by-own : (g : Shown) (side : Side) (flow : Flow) (length : ℕ) (by : Translation) (next : Mac) → IsBook g.ledger.book → plan_of g side flow length ≡ Ok (Send by next) → GoesByOwn g flow by
+sent-by-own g side flow length by next book is = at by (plan-sends g side flow length by next is).pairs
+  where
+    at : (by : Translation) → AreFound g flow by → GoesByOwn g flow by
+    at (Outward p) found = own-first g flow p book found
+    at (Inward p) found = tt
+    at (Hairpin own other) found = own-first g flow own book found.0

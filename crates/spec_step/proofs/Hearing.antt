@@ -12,18 +12,18 @@ use Rattle.link.specs.Reading.{reading}
 use Rattle.link.proofs.Offered.{all_taken, begins, boot_of, is_open, known_of, met_restart, met_same, restart_is, reading_takes}
 use Rattle.spec_pair.specs.Box.{Letter}
 use Rattle.spec_binding.specs.Books.{Book, is_lone, is_synced}
-use Rattle.spec_binding.specs.Ledgers.{alone_ledger, may_ask, restarted_ledger}
+use Rattle.spec_binding.specs.Ledgers.{alone_ledger, may_ask, restarted_ledger, sought_keys}
 use Rattle.spec_binding.specs.Machine.{IsTurn, Stands, letter_of}
 use Rattle.spec_binding.specs.Resets.{back_in, restart_link, restart_notes, restarted, retaken, begun_anew}
 use Rattle.spec_binding.specs.Books.{empty_book}
-use Rattle.spec_binding.specs.Rows.{idle_row}
-use Rattle.spec_binding.proofs.Offered.{turn-comes, alone-keeps, idle-keeps, restart-keeps, heard-works, works-more, restart-works, word-works, idle-works}
+use Rattle.spec_binding.specs.Rows.{idle_row, alone_row, is_full}
+use Rattle.spec_binding.proofs.Offered.{turn-comes, alone-keeps, idle-keeps, restart-keeps, heard-works, works-more, restart-works, word-works, idle-works, alone-row-keeps, alone-works}
 use Rattle.waiting.specs.declared.waits.Ended.TheVariants.{AllPairs}
 use Rattle.packet_rules.specs.declared.reasons.Reason.{Reason}
 use Rattle.packet_rules.specs.declared.reasons.Reason.TheVariants.{NotUp, OldWord}
 use Rattle.spec_step.specs.Machine.{AreBytes, IsAlone, letter_in}
-use Rattle.spec_step.specs.Parts.{all_idle_done, datagram_read, heard_by, heard_unless, idle_done, records_done, reset, with_link, word_taken}
-use Rattle.spec_step.specs.Shown.{GatewayAndOutput, Shown, scene, with_notes}
+use Rattle.spec_step.specs.Parts.{all_idle_done, datagram_read, heard_by, heard_unless, idle_done, records_done, reset, with_link, word_taken, all_sought_done, alone_taken, gone_alone, peer_told, sought_done}
+use Rattle.spec_step.specs.Shown.{GatewayAndOutput, Shown, scene, with_notes, is_apart}
 use Rattle.spec_step.specs.Steps.{word_by, word_refusal}
 use Rattle.spec_step.proofs.Passing.{Going, IsSound, Passes, Stays, going-then, passes-then, row-goes}
 use Rattle.spec_step.proofs.Packets.{Reads, here, released-goes}
@@ -56,12 +56,33 @@ module _ (letters : List Letter) (words : List ℕ) where
   idle-goes : (s : GatewayAndOutput) (k : Key) → Going letters words s (idle_done s k)
   idle-goes s k = λ n h stands is.
       let g = s.shown in let b = g.ledger.book in
-      let ask = may_ask g.moment g.link in
+      let ask = may_ask g.moment b g.link in
       row-goes letters words s (idle_row b ask k) n h is (idle-keeps b ask k is.book) (idle-works g.moment b g.link n h ask k stands)
 
   pub all-idle-goes : (s : GatewayAndOutput) (ks : List Key) → Going letters words s (all_idle_done s ks)
   all-idle-goes s [] = here letters words s
   all-idle-goes s (k ∷ ks) = going-then letters words s (idle_done s k) _ (idle-goes s k) (all-idle-goes (idle_done s k) ks)
+
+  -- ---- going on alone
+
+  sought-goes : (apart : Bool) (s : GatewayAndOutput) (k : Key) → Going letters words s (sought_done apart s k)
+  sought-goes apart s k = λ n h stands is.
+      let g = s.shown in let b = g.ledger.book in
+      let full = is_full g.link in
+      row-goes letters words s (alone_row b apart full k) n h is (alone-row-keeps b apart full k is.book) (alone-works g.moment b g.link n h apart full k stands)
+
+  all-sought-goes : (apart : Bool) (s : GatewayAndOutput) (ks : List Key) → Going letters words s (all_sought_done apart s ks)
+  all-sought-goes apart s [] = here letters words s
+  all-sought-goes apart s (k ∷ ks) = going-then letters words s (sought_done apart s k) _ (sought-goes apart s k) (all-sought-goes apart (sought_done apart s k) ks)
+
+  pub alone-taken-goes : Reads → (s : GatewayAndOutput) → Going letters words s (alone_taken s)
+  alone-taken-goes reads s = at (is_apart s.shown)
+    where
+      at : (t : Bool) → Going letters words s (let x : GatewayAndOutput = cond t (gone_alone s) (peer_told s) in x)
+      at true =
+          let marked = all_sought_done true s (sought_keys true s.shown.ledger.book.entries) in
+          going-then letters words s marked (gone_alone s) (all-sought-goes true s (sought_keys true s.shown.ledger.book.entries)) (released-goes letters words reads marked AllPairs)
+      at false = all-sought-goes false s (sought_keys false s.shown.ledger.book.entries)
 
   -- ---- the operator's word
 
@@ -110,7 +131,7 @@ all-come l boot known n (r ∷ rs) turn formed = (
 restarted-together : (b : Book) → is_lone (restarted b).stage ≡ false
 restarted-together b = at (is_synced b.stage)
   where
-    at : (t : Bool) → is_lone (let x : Book = cond t (begun_anew b) (empty_book b.id b.zero b.one b.limit) in x).stage ≡ false
+    at : (t : Bool) → is_lone (let x : Book = cond t (begun_anew b) (empty_book b.id b.zero b.one b.limit b.alone) in x).stage ≡ false
     at true = refl
     at false = refl
 

@@ -3,6 +3,7 @@ mod Apart
 mod Asked
 mod Asking
 mod AskingParts
+mod Before
 mod Beginning
 mod Counting
 mod Ending
@@ -21,6 +22,7 @@ mod LettingGo
 mod Limits
 mod Lines
 mod Near
+mod Nobody
 mod Others
 mod Own
 mod OwnSteps
@@ -30,6 +32,7 @@ mod Passed
 mod Passing
 mod Reasons
 mod Records
+mod Releasing
 mod Resting
 mod Rooting
 mod Saying
@@ -40,9 +43,13 @@ mod Sides
 mod Standing
 mod Stepping
 mod TakingOver
+mod Takes
 mod Takings
 mod Telling
 mod Translating
 mod Truths
 mod Turning
+mod Plain
+mod Unmoved
 mod Unused
+mod WhileApart

@@ -1,9 +1,9 @@
 -- The other frames of each part of a step, and so of a whole step.
-use Rattle.std.proofs.Common.{◌≡◌, ℕ, Bool, true, false, cond, not, ◌⊎◌, ◌&&◌, ◌||◌, List, [], ◌∷◌, ◌++◌, filter, length, Option, Some, None, Result, Ok, Err, refl, sym, ap, subst, ◌∙◌, append_assoc, map, arith}
+use Rattle.std.proofs.Common.{◌≡◌, ℕ, Bool, true, false, cond, not, ◌⊎◌, ◌&&◌, ◌||◌, List, [], ◌∷◌, ◌++◌, filter, length, Option, Some, None, Result, Ok, Err, refl, sym, ap, subst, ◌∙◌, append_assoc, map, IsPermutation, arith}
 use Rattle.std.specs.List.{AllByRecursion}
 use Rattle.std.proofs.lemmas.List.{append-nil}
 use Rattle.std.proofs.lemmas.List.Elements.{filter-append}
-use Rattle.std.proofs.lemmas.List.Sorted.{IsPermutation-refl}
+use Rattle.addresses.specs.declared.internet.Ip.{Ip}
 use Rattle.addresses.specs.declared.ethernet.Mac.{Mac}
 use Rattle.nat_types.specs.declared.gateways.Side.{Side}
 use Rattle.nat_types.specs.declared.gateways.Side.TheVariants.{Inside, Outside}
@@ -23,9 +23,9 @@ use Rattle.link.specs.Reading.{reading}
 use Rattle.spec_pair.specs.Box.{In}
 use Rattle.spec_binding.specs.Books.{is_lone, IsBook}
 use Rattle.spec_binding.specs.Uses.{IsTranslated}
-use Rattle.spec_binding.specs.Ledgers.{Ledger, alone_ledger, may_ask, restarted_ledger, rests_for, taken_ledger}
+use Rattle.spec_binding.specs.Ledgers.{Ledger, alone_ledger, may_ask, restarted_ledger, rests_for, taken_ledger, sought_keys}
 use Rattle.spec_binding.specs.Resets.{back_in, restart_link, restart_notes, retaken}
-use Rattle.spec_binding.specs.Rows.{answered, idle_row, noted_by, taken_answer, taken_ended, taken_what}
+use Rattle.spec_binding.specs.Rows.{answered, idle_row, noted_by, taken_answer, taken_ended, taken_what, alone_row, is_full}
 use Rattle.waiting.specs.declared.waits.Ended.TheVariants.{AllPairs, One}
 use Rattle.waiting.specs.declared.waits.WaitsFor.TheVariants as wait
 use Rattle.waiting.specs.Packets.{HeldPacket, asks_again, is_young}
@@ -50,20 +50,22 @@ use Rattle.spec_step.specs.declared.turns.Turn.TheVariants.{Leaves, Returns, Sta
 use Rattle.spec_step.specs.GivingWay.{GivingWay, TakesTurn, left, turn_of}
 use Rattle.spec_step.specs.Others.{AreOfBoth, TurnOwes, AreOthers, Asking, FrameOwes, IsDue, IsNew, MayGoBy, Owes, all_noted, answers_by, firsts, free_by, frees_as, frees_for, frees_heard, frees_read, frees_unless, hops_of, is_freed, is_old, other_frames, packet_as, packet_in, packets_asked, requests, retaken_pairs, sent_on, waiting_by, within_limit, is_other}
 use Rattle.spec_step.specs.Machine.{AreBytes, HasBytes}
-use Rattle.spec_step.specs.Parts.{acted, all_framed, all_idle_done, answered_by, arp_taken, datagram_in, datagram_read, datagram_taken, flow_taken, framed, frames_of, handed_in, has_synced, heard_by, heard_unless, idle_done, idle_taken, link_answered, link_ticked, old_dropped, record_done, record_shown, record_told, records_done, released, reset, side_plugged, started, wait_ended, with_link, word_taken, error_taken, echo_taken, refused}
-use Rattle.spec_step.specs.Shown.{GatewayAndOutput, Shown, id_of, is_running, is_up, scene, station_on, with_notes, with_station}
+use Rattle.spec_step.specs.Parts.{acted, all_framed, all_idle_done, answered_by, arp_taken, datagram_in, datagram_read, datagram_taken, flow_taken, framed, frames_of, handed_in, has_synced, heard_by, heard_unless, idle_done, idle_taken, link_answered, link_ticked, old_dropped, record_done, record_shown, record_told, records_done, released, reset, side_plugged, started, wait_ended, with_link, word_taken, error_taken, echo_taken, refused, all_sought_done, alone_taken, gone_alone, peer_told, sought_done}
+use Rattle.spec_step.specs.Shown.{GatewayAndOutput, Shown, id_of, is_running, is_up, scene, station_on, with_notes, with_station, is_apart}
 use Rattle.spec_step.specs.Routers.{BothAct, RouterActs}
 use Rattle.spec_step.specs.Settled.{AreIdle}
 use Rattle.spec_step.specs.Steps.{Does, FrameDoes, IsStepOn, clock_after, ended_on, stopped, ticked, word_by, word_refusal}
 use Rattle.spec_step.specs.Truly.{AtHand, Known, known_of, packets_of}
 use Rattle.spec_step.specs.Verdict.{reading_on}
-use Rattle.spec_step.proofs.Asking.{Ask-on, Asks, IsFit, IsQuiet, NearStays, NetsStay, Waiting, asking-then, due-more, kept-here, net-stays, new-more, nobody, nothing-asks, quiet-asks, quiet-by, requests-same}
+use Rattle.spec_step.proofs.Before.{apart-then}
+use Rattle.spec_step.proofs.Packets.{kept-filter}
+use Rattle.spec_step.proofs.Asking.{Ask-on, Asks, IsFit, IsQuiet, NearStays, NetsStay, Waiting, asking-then, due-more, net-stays, new-more, nobody, nothing-asks, quiet-asks, quiet-by, requests-same, row-quiet}
 use Rattle.spec_step.proofs.AskingParts.{all-apart, echo-asks, error-asks, one-apart, packet-asks, pairs-ask, refused-asks, released-asks}
-use Rattle.spec_step.proofs.Freeing.{Comes-of, filter-same}
-use Rattle.spec_step.proofs.Limits.{count-left}
+use Rattle.spec_step.proofs.Freeing.{Comes-of, filter-same, filter-both}
+use Rattle.spec_step.proofs.Limits.{count-left, asks-left}
 use Rattle.spec_step.proofs.Lines.{acts-shown, both-stopped, line-quiet}
 use Rattle.spec_step.proofs.Near.{asks-learnt}
-use Rattle.spec_step.proofs.Rooting.{Rooted, alone-rooted, restart-rooted, taken-roots}
+use Rattle.spec_step.proofs.Rooting.{Rooted, alone-rooted, restart-rooted, taken-roots, alone-row-roots, idle-roots}
 use Rattle.spec_step.proofs.Sending.{Frames, own-six, answer-other}
 use Rattle.spec_step.proofs.Telling.{at_hand}
 use Rattle.spec_step.proofs.Turning.{back_as}
@@ -499,55 +501,124 @@ word-asks frames s n (Some reason) is = nothing-asks [] s
 
 -- ---- ticks
 
--- letting idle pairs go leaves the frames and the packets that wait
-pub record LeavesFrames (s s2 : GatewayAndOutput) : Type 0 where
-  pub frames : s2.told.frames ≡ s.told.frames
-  pub notes : List Note
-  pub notes_are : s2.told.notes ≡ s.told.notes ++ notes
-  pub kept : s2.shown.kept ≡ s.shown.kept
+-- letting idle pairs go has no requests
+all-idle-ask : (s : GatewayAndOutput) (ks : List Key) → Ask-on [] nobody s (all_idle_done s ks)
+all-idle-ask s [] = nothing-asks [] s
+all-idle-ask s (k ∷ ks) =
+    let b = s.shown.ledger.book in
+    let ask = may_ask s.shown.moment b s.shown.link in
+    asking-then [] [] nobody nobody s (idle_done s k) (all_idle_done s (k ∷ ks)) (quiet-asks [] s (idle_done s k) (row-quiet s (idle_row b ask k) (idle-roots b ask k))) (all-idle-ask (idle_done s k) ks)
 
-all-idle-leave : (s : GatewayAndOutput) (ks : List Key) → LeavesFrames s (all_idle_done s ks)
-all-idle-leave s [] = record { frames = refl; notes = []; notes_are = sym (append-nil s.told.notes); kept = refl }
-all-idle-leave s (k ∷ ks) =
-    let g = s.shown in
-    let noted = noted_by (id_of g) g.moment (idle_row g.ledger.book (may_ask g.moment g.link) k).what in
-    let rest = all-idle-leave (idle_done s k) ks in
-    record { frames = rest.frames; notes = noted ++ rest.notes; notes_are = rest.notes_are ∙ append_assoc s.told.notes noted rest.notes; kept = rest.kept }
+-- nor has marking what waits, or telling of what was made alone
+all-sought-ask : (apart : Bool) (s : GatewayAndOutput) (ks : List Key) → Ask-on [] nobody s (all_sought_done apart s ks)
+all-sought-ask apart s [] = nothing-asks [] s
+all-sought-ask apart s (k ∷ ks) =
+    let b = s.shown.ledger.book in
+    let full = is_full s.shown.link in
+    asking-then [] [] nobody nobody s (sought_done apart s k) (all_sought_done apart s (k ∷ ks)) (quiet-asks [] s (sought_done apart s k) (row-quiet s (alone_row b apart full k) (alone-row-roots b apart full k))) (all-sought-ask apart (sought_done apart s k) ks)
 
--- at a tick no packet comes to wait, and the old ones are dropped
-tick-others : Frames → (s : GatewayAndOutput) (now : ℕ) (turned middle : GatewayAndOutput) → GivingWay (ticked s now) turned → BothAct turned table.Tick middle → IsFit s.shown → AreOthers s (Tick now) (idle_taken (old_dropped middle))
+alone-asks : Frames → (s : GatewayAndOutput) → Ask-on [] (λ w. is_apart s.shown && ends AllPairs w.wait) s (alone_taken s)
+alone-asks frames s = at (is_apart s.shown)
+  where
+    at : (t : Bool) → Ask-on [] (λ w. t && ends AllPairs w.wait) s (let x : GatewayAndOutput = cond t (gone_alone s) (peer_told s) in x)
+    at true =
+        let keys = sought_keys true s.shown.ledger.book.entries in
+        let marked = all_sought_done true s keys in
+        asking-then [] [] nobody of_pairs s marked (gone_alone s) (all-sought-ask true s keys) (pairs-ask frames marked AllPairs all-apart)
+    at false = all-sought-ask false s (sought_keys false s.shown.ledger.book.entries)
+
+-- the requests of a tick, from the scene on in which the old packets were dropped
+tick-asks : Frames → (s : GatewayAndOutput) (now : ℕ) (turned middle : GatewayAndOutput) → GivingWay (ticked s now) turned → BothAct turned table.Tick middle → IsFit (old_dropped middle).shown
+    → Asks [] (λ w. is_apart (ticked s now).shown && ends AllPairs w.wait) (old_dropped middle) (alone_taken (idle_taken (old_dropped middle)))
+tick-asks frames s now turned middle takes acts fit =
+    let young = old_dropped middle in
+    let l = young.shown.ledger in
+    let idle = idle_taken young in
+    let last = alone_taken idle in
+    let asks = (asking-then [] [] nobody (λ w. is_apart idle.shown && ends AllPairs w.wait) young idle last
+    (all-idle-ask young (idle_keys_in (is_lone l.book.stage) young.shown.moment l.book.entries l.lives)) (alone-asks frames idle) fit).asks in
+    subst (λ (a : Bool). Asks [] (λ w. a && ends AllPairs w.wait) young last) (apart-then s now turned middle takes acts) asks
+
+-- which packets a tick frees, and which it leaves
+freed-as : (a y e : Bool) → (y && (a && e)) ≡ (a && (y && e))
+freed-as true true e = refl
+freed-as true false e = refl
+freed-as false true e = refl
+freed-as false false e = refl
+
+left-as : (a y e : Bool) → (y && not (a && e)) ≡ not (not y || (a && (y && e)))
+left-as true true e = refl
+left-as true false e = refl
+left-as false true e = refl
+left-as false false e = refl
+
+-- A tick sends what its routers owe. Then the old packets are dropped, and where the gateway is apart those that waited
+-- for pairs are taken again.
+tick-others : Frames → (s : GatewayAndOutput) (now : ℕ) (turned middle : GatewayAndOutput) → GivingWay (ticked s now) turned → BothAct turned table.Tick middle → IsFit s.shown → AreOthers s (Tick now) (alone_taken (idle_taken (old_dropped middle)))
 tick-others frames s now turned middle takes acts w =
     let both = turn-gives frames (ticked s now) turned middle (turn_of (ticked s now).shown) takes acts w in
     let x = both.gives in
-    let young = old_dropped middle in
-    let l = young.shown.ledger in
-    let idle = all-idle-leave young (idle_keys_in (is_lone l.book.stage) young.shown.moment l.book.entries l.lives) in
-    let left = filter (λ (w : HeldPacket). not (is_old s.shown (Tick now) w || false)) s.shown.kept in
-    let keeps : filter (is_young middle.shown.moment) middle.shown.kept ≡ left =
-    ap (λ (m : ℕ). filter (is_young m) middle.shown.kept) x.moment
-    ∙ ap (filter (is_young (clock_after s.shown.moment now))) x.kept
-    ∙ filter-same (is_young (clock_after s.shown.moment now)) (λ w. not (is_old s.shown (Tick now) w || false)) (λ w. twice (is_young (clock_after s.shown.moment now) w)) s.shown.kept in
+    let y = tick-asks frames s now turned middle takes acts (fit x.fit) in
+    let last = alone_taken (idle_taken young) in
+    let kept = keeps both.own x in
+    let end : (known_of last.shown).moment ≡ clock = ap (λ (k : Known). k.moment) y.known ∙ x.moment in
+    let may : (p : Pair) → MayGoBy young.shown y.notes p → MayGoBy s.shown y.notes p =
+    λ p m. subst (λ (es : List Entry). IsTranslated es p ⊎ In p (retaken_pairs y.notes)) x.entries m in
+    let again : (side : Side) (host : Ip) → asks_again (known_of last.shown).moment (wait.Hop side host) young.shown.kept ≡ true → asks_again (known_of last.shown).moment (wait.Hop side host) s.shown.kept ≡ true =
+    λ side host t. asks-left (known_of last.shown).moment (wait.Hop side host) (is_young clock) s.shown.kept
+    (subst (λ (ws : List HeldPacket). asks_again (known_of last.shown).moment (wait.Hop side host) ws ≡ true) kept t) in
     record {
-      frames = both.own;
-      frames_are = idle.frames ∙ x.frames_are;
-      notes = idle.notes;
-      notes_are = idle.notes_are ∙ ap (λ (ns : List Note). ns ++ idle.notes) x.notes;
+      frames = both.own ++ y.frames;
+      frames_are = y.frames_are ∙ ap (λ (fs : List Sent). fs ++ y.frames) x.frames_are ∙ append_assoc s.told.frames both.own y.frames;
+      notes = y.notes;
+      notes_are = y.notes_are ∙ ap (λ (ns : List Note). ns ++ y.notes) x.notes;
       own = both.own;
       owed = both.owed;
-      askings = [];
-      due = tt;
-      others = x.apart (idle_taken young).shown.networks ∙ sym (append-nil both.own);
-      came = [];
-      new = tt;
-      hops = refl;
-      kept_are = idle.kept ∙ keeps ∙ kept-here left (omega (arith, count-left (λ w. not (is_old s.shown (Tick now) w || false)) s.shown.kept, w.1.0));
-      gone = packets_of (filter (is_freed s (Tick now)) s.shown.kept);
-      of_hand = IsPermutation-refl (packets_of (filter (is_freed s (Tick now)) s.shown.kept));
+      askings = y.askings;
+      due = due-more (known_of last.shown) (MayGoBy young.shown y.notes) (MayGoBy s.shown y.notes) may s.shown young.shown
+          (subst (λ (n : ℕ). NearStays n s.shown young.shown) (sym end) (near both.own x)) again y.askings y.due;
+      others = filter-append (λ (z : Sent). is_other last.shown.networks z.side z.bytes) both.own y.frames
+          ∙ ap (λ (fs : List Sent). fs ++ other_frames last.shown.networks y.frames) (x.apart last.shown.networks)
+          ∙ ap (λ (fs : List Sent). both.own ++ fs) (y.others ∙ requests-same s.shown young.shown (x.nets.0, x.nets.1) y.askings);
+      came = y.came;
+      new = new-more (known_of last.shown) (MayGoBy young.shown y.notes) (MayGoBy s.shown y.notes) may y.came y.new;
+      hops = subst (λ (n : ℕ). hops_of y.came ≡ map (waiting_by n) (firsts y.askings)) (sym (ap (λ (k : Known). k.moment) y.known)) y.waiting.hops_are;
+      kept_are = y.waiting.kept_are
+          ∙ ap (λ (n : ℕ). all_noted n y.askings (within_limit (filter (λ w. not (over w)) young.shown.kept ++ y.came))) (sym (ap (λ (k : Known). k.moment) y.known))
+          ∙ ap (λ (ws : List HeldPacket). all_noted last.shown.moment y.askings (within_limit (ws ++ y.came))) (ap (filter (λ w. not (over w))) kept ∙ left);
+      gone = y.gone;
+      of_hand = subst (λ (ws : List HeldPacket). IsPermutation (packets_of ws) (packets_of y.came ++ (packets_asked y.askings ++ y.gone))) (ap (filter over) kept ∙ freed) y.of_hand;
     }
   where
-    twice : (b : Bool) → b ≡ not (not b || false)
-    twice true = refl
-    twice false = refl
+    clock : ℕ
+    clock = clock_after s.shown.moment now
+
+    young : GatewayAndOutput
+    young = old_dropped middle
+
+    over : HeldPacket → Bool
+    over w = is_apart (ticked s now).shown && ends AllPairs w.wait
+
+    keeps : (own : List Sent) → Gives own (ticked s now) middle → young.shown.kept ≡ filter (is_young clock) s.shown.kept
+    keeps own x = ap (λ (m : ℕ). filter (is_young m) middle.shown.kept) x.moment ∙ ap (filter (is_young clock)) x.kept
+
+    fit : IsFit middle.shown → IsFit young.shown
+    fit v = (v.0, (omega (arith, count-left (is_young middle.shown.moment) middle.shown.kept, v.1.0), kept-filter _ middle.shown.kept v.1.1))
+
+    near : (own : List Sent) → Gives own (ticked s now) middle → NearStays clock s.shown young.shown
+    near own x Inside host t = x.near Inside host t
+    near own x Outside host t = x.near Outside host t
+
+    freed : filter over (filter (is_young clock) s.shown.kept) ≡ filter (is_freed s (Tick now)) s.shown.kept
+    freed =
+        filter-both (is_young clock) over s.shown.kept
+        ∙ filter-same (λ w. is_young clock w && over w) (is_freed s (Tick now)) (λ w. freed-as (is_apart (ticked s now).shown) (is_young clock w) (ends AllPairs w.wait)) s.shown.kept
+
+    left : filter (λ w. not (over w)) (filter (is_young clock) s.shown.kept) ≡ filter (λ w. not (is_old s.shown (Tick now) w || is_freed s (Tick now) w)) s.shown.kept
+    left =
+        filter-both (is_young clock) (λ w. not (over w)) s.shown.kept
+        ∙ filter-same (λ w. is_young clock w && not (over w)) (λ w. not (is_old s.shown (Tick now) w || is_freed s (Tick now) w))
+        (λ w. left-as (is_apart (ticked s now).shown) (is_young clock w) (ends AllPairs w.wait)) s.shown.kept
 
 -- ---- an event's own parts
 

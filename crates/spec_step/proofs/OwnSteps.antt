@@ -16,7 +16,7 @@ use Rattle.link.specs.Link.{after_take, is_due_on_tick, is_restart, records_take
 use Rattle.link.specs.Reading.{reading}
 use Rattle.link.proofs.Offered.{all_taken as all_formed, reading_takes}
 use Rattle.spec_binding.specs.Books.{is_lone}
-use Rattle.spec_binding.specs.Ledgers.{rests_for, taken_ledger}
+use Rattle.spec_binding.specs.Ledgers.{rests_for, sought_keys, taken_ledger}
 use Rattle.spec_binding.specs.Rows.{answered, taken_answer, taken_ended}
 use Rattle.waiting.specs.declared.waits.Ended.{Ended}
 use Rattle.waiting.specs.declared.waits.Ended.TheVariants.{AllPairs, One}
@@ -35,10 +35,10 @@ use Rattle.spec_step.specs.declared.events.Event.TheVariants.{Frame, Datagram as
 use Rattle.spec_step.specs.GivingWay.{GivingWay, left, turn_of}
 use Rattle.spec_step.specs.Machine.{AreBytes, HasBytes}
 use Rattle.spec_step.specs.OwnAnswers.{SaysJust}
-use Rattle.spec_step.specs.Parts.{acted, all_framed, all_idle_done, answered_by, arp_taken, datagram_in, datagram_read, framed, frames_of, handed_in, has_synced, heard_by, heard_unless, idle_done, idle_taken, link_answered, link_ticked, old_dropped, record_done, records_done, released, reset, routers_started, side_plugged, wait_ended, with_link, with_routers, word_taken}
+use Rattle.spec_step.specs.Parts.{acted, all_framed, all_idle_done, answered_by, arp_taken, datagram_in, datagram_read, framed, frames_of, handed_in, has_synced, heard_by, heard_unless, idle_done, idle_taken, link_answered, link_ticked, old_dropped, record_done, records_done, released, reset, routers_started, side_plugged, wait_ended, with_link, with_routers, word_taken, all_sought_done, alone_taken, gone_alone, peer_told, sought_done}
 use Rattle.spec_step.specs.Routers.{BothAct, RouterActs}
-use Rattle.spec_step.specs.Sayings.{own_arp, own_datagram, own_ended, own_framed, own_heard, own_in, own_record, own_records, own_released, own_reset, own_word}
-use Rattle.spec_step.specs.Shown.{GatewayAndOutput, Shown, is_running, scene, station_on, with_station}
+use Rattle.spec_step.specs.Sayings.{AreOwnIn, own_alone, own_arp, own_datagram, own_ended, own_framed, own_heard, own_record, own_records, own_released, own_reset, own_word}
+use Rattle.spec_step.specs.Shown.{GatewayAndOutput, Shown, is_running, scene, station_on, with_station, is_apart}
 use Rattle.spec_step.specs.Steps.{Does, FrameDoes, IsStepOn, ended_on, stopped, ticked, word_by, word_refusal}
 use Rattle.spec_step.specs.Truly.{IsSetUp}
 use Rattle.spec_step.specs.Verdict.{reading_on}
@@ -46,9 +46,9 @@ use Rattle.spec_step.proofs.FrameKinds.{other-none}
 use Rattle.spec_step.proofs.OwnTakings.{Just, all-just, just-then, nothing-just, other-just, quiet-just, read-just}
 use Rattle.spec_step.proofs.Packets.{kept-filter}
 use Rattle.spec_step.proofs.Passing.{IsSound}
-use Rattle.spec_step.proofs.Saying.{Saying}
+use Rattle.spec_step.proofs.Saying.{Saying, saying-then, speaks-then}
 use Rattle.spec_step.proofs.Sending.{Frames, answer-other, own-six}
-use Rattle.spec_step.proofs.Truths.{AllOther, action-frames, after-net, after-said, after-wired, answered-says, link-says, record-first, record-says, record_scene, reset-first, reset-says, reset_scene, station-speaks, wired-on, word-first, word-synced, word_scene}
+use Rattle.spec_step.proofs.Truths.{AllOther, action-frames, after-net, after-said, after-wired, all-idle-say, all-sought-say, answered-says, both-say, link-says, old-says, record-first, record-says, record_scene, reset-first, reset-says, reset_scene, station-speaks, ticked-speaks, turn-says, wired-on, word-first, word-synced, word_scene}
 use Rattle.spec_step.proofs.Turning.{back_as, turn-by}
 
 -- a part's own frames are these, where the gateway is sound and set up
@@ -218,32 +218,89 @@ all-idle-just : (s : GatewayAndOutput) (ks : List Key) → Just s (all_idle_done
 all-idle-just s [] = nothing-just s
 all-idle-just s (k ∷ ks) = none-just [] s (idle_done s k) (all_idle_done s (k ∷ ks)) (quiet-just s (idle_done s k) refl refl) (all-idle-just (idle_done s k) ks)
 
+all-sought-just : (apart : Bool) (s : GatewayAndOutput) (ks : List Key) → Just s (all_sought_done apart s ks) []
+all-sought-just apart s [] = nothing-just s
+all-sought-just apart s (k ∷ ks) = none-just [] s (sought_done apart s k) (all_sought_done apart s (k ∷ ks)) (quiet-just s (sought_done apart s k) refl refl) (all-sought-just apart (sought_done apart s k) ks)
+
+alone-just : Frames → (s : GatewayAndOutput) → Justly (own_alone s) s (alone_taken s)
+alone-just frames s = at (is_apart s.shown)
+  where
+    keys : List Key
+    keys = sought_keys true s.shown.ledger.book.entries
+
+    marked : GatewayAndOutput
+    marked = all_sought_done true s keys
+
+    at : (t : Bool) → Justly (let own : List Sent = cond t (own_released marked AllPairs) [] in own) s (let x : GatewayAndOutput = cond t (gone_alone s) (peer_told s) in x)
+    at true = justly-then [] (own_released marked AllPairs) s marked (gone_alone s) (λ is w. all-sought-just true s keys) (all-sought-say true s keys) (released-just frames marked AllPairs)
+    at false = λ is w. all-sought-just false s (sought_keys false s.shown.ledger.book.entries)
+
+-- a tick's own frames are those between its idle pairs and the link
+tick-just : Frames → (s : GatewayAndOutput) (now : ℕ) (turned middle : GatewayAndOutput) → GivingWay (ticked s now) turned → BothAct turned table.Tick middle
+    → (let idle : GatewayAndOutput = idle_taken (old_dropped middle) in Justly (own_alone idle) s (alone_taken idle))
+tick-just frames s now turned middle gives both = λ is w.
+    let start = ticked s now in
+    let young = old_dropped middle in
+    let l = young.shown.ledger in
+    let idle = idle_taken young in
+    let keys = idle_keys_in (is_lone l.book.stage) young.shown.moment l.book.entries l.lives in
+    let first = none-just [] s start idle (quiet-just s start refl refl)
+    (none-just [] start turned idle (turn-just frames start turned gives)
+    (none-just [] turned middle idle (both-just frames turned table.Tick middle both)
+    (none-just [] middle young idle (quiet-just middle young refl refl) (all-idle-just young keys)))) in
+    let said = (speaks-then [] [] s start idle (ticked-speaks s now)
+    (saying-then [] [] start turned idle (turn-says frames start turned gives)
+    (saying-then [] [] turned middle idle (both-say frames turned table.Tick middle both)
+    (saying-then [] [] middle young idle (old-says middle) (all-idle-say young keys))))) is w in
+    none-just (own_alone idle) s idle (alone_taken idle) first (alone-just frames idle said.sound said.wired)
+
 plugged-just : (s : GatewayAndOutput) (side : Side) (up : Bool) → Just s (side_plugged s side up) []
 plugged-just s Inside up = quiet-just s (side_plugged s Inside up) refl refl
 plugged-just s Outside up = quiet-just s (side_plugged s Outside up) refl refl
 
 -- ---- an event's own parts
 
-does-just : Frames → (s : GatewayAndOutput) (event : Event) (done : GatewayAndOutput) → Does s event done → HasBytes event → Justly (own_in s event) s done
-does-just frames s (Frame side bytes) done does has = frame-just frames s side bytes.now (reading_on s.shown side bytes.now) done refl has does
-does-just frames s (Comes bytes) done does has = λ is w.
-    subst (λ (x : GatewayAndOutput). Just s x (own_datagram s (reading bytes.now))) (sym does) (datagram-just frames s bytes.now (reading bytes.now) refl has is w)
-does-just frames s (Tick now) done does has = λ is w.
-    let start = ticked s now in
-    let turned = does.0 in
-    let middle = does.1 in
-    let young = old_dropped middle in
-    let l = young.shown.ledger in
-    let parts = none-just [] start turned (idle_taken young) (turn-just frames start turned does.2)
-    (none-just [] turned middle (idle_taken young) (both-just frames turned table.Tick middle does.3)
-    (none-just [] middle young (idle_taken young) (quiet-just middle young refl refl) (all-idle-just young (idle_keys_in (is_lone l.book.stage) young.shown.moment l.book.entries l.lives)))) in
-    subst (λ (x : GatewayAndOutput). Just s x []) (sym does.4) (none-just [] s start (idle_taken young) (quiet-just s start refl refl) parts)
-does-just frames s Stop done does has = λ is w.
+-- the own frames of an event's parts, and that they are these
+record IsJust (s : GatewayAndOutput) (event : Event) (done : GatewayAndOutput) : Type 0 where
+  own : List Sent
+  are : AreOwnIn s event own
+  just : Just s done own
+
+does-just : Frames → (s : GatewayAndOutput) (event : Event) (done : GatewayAndOutput) → Does s event done → HasBytes event → IsSound s.shown → IsSetUp s.shown → IsJust s event done
+does-just frames s (Frame side bytes) done does has is w = record {
+  own = own_framed s side bytes.now (reading_on s.shown side bytes.now);
+  are = refl;
+  just = frame-just frames s side bytes.now (reading_on s.shown side bytes.now) done refl has does is w;
+}
+does-just frames s (Comes bytes) done does has is w = record {
+  own = own_datagram s (reading bytes.now);
+  are = refl;
+  just = subst (λ (x : GatewayAndOutput). Just s x (own_datagram s (reading bytes.now))) (sym does) (datagram-just frames s bytes.now (reading bytes.now) refl has is w);
+}
+does-just frames s (Tick now) done does has is w =
+    let own = own_alone (idle_taken (old_dropped does.1)) in
+    record {
+      own = own;
+      are = (does.0, does.1, does.2, does.3, refl);
+      just = subst (λ (x : GatewayAndOutput). Just s x own) (sym does.4) (tick-just frames s now does.0 does.1 does.2 does.3 is w);
+    }
+does-just frames s Stop done does has is w =
     let middle = does.0 in
-    subst (λ (x : GatewayAndOutput). Just s x []) (sym does.2) (none-just [] s middle (stopped middle) (both-just frames s table.Stop middle does.1) (quiet-just middle (stopped middle) refl refl))
-does-just frames s (PeerOff n) done does has = λ is w.
-    subst (λ (x : GatewayAndOutput). Just s x (own_word s n (word_refusal s.shown n))) (sym does) (word-just frames s n (word_refusal s.shown n) refl is w)
-does-just frames s (SideIs side up) done does has = λ is w. subst (λ (x : GatewayAndOutput). Just s x []) (sym does) (plugged-just s side up)
+    record {
+      own = [];
+      are = refl;
+      just = subst (λ (x : GatewayAndOutput). Just s x []) (sym does.2) (none-just [] s middle (stopped middle) (both-just frames s table.Stop middle does.1) (quiet-just middle (stopped middle) refl refl));
+    }
+does-just frames s (PeerOff n) done does has is w = record {
+  own = own_word s n (word_refusal s.shown n);
+  are = refl;
+  just = subst (λ (x : GatewayAndOutput). Just s x (own_word s n (word_refusal s.shown n))) (sym does) (word-just frames s n (word_refusal s.shown n) refl is w);
+}
+does-just frames s (SideIs side up) done does has is w = record {
+  own = [];
+  are = refl;
+  just = subst (λ (x : GatewayAndOutput). Just s x []) (sym does) (plugged-just s side up);
+}
 
 -- ---- the datagram at the end
 
@@ -270,11 +327,17 @@ end-frames (PeerOff n) done = answered-frames done
 end-frames (SideIs side up) done = refl
 
 -- the own frames of a whole step are exactly those of its takings
-pub step-just : Frames → (s : GatewayAndOutput) (event : Event) (s2 : GatewayAndOutput) → IsStepOn s event s2 → HasBytes event → IsSound s.shown → IsSetUp s.shown → SaysJust s s2 (own_in s event)
+pub step-just : Frames → (s : GatewayAndOutput) (event : Event) (s2 : GatewayAndOutput) → IsStepOn s event s2 → HasBytes event → IsSound s.shown → IsSetUp s.shown → (own : List Sent) × (AreOwnIn s event own × SaysJust s s2 own)
 step-just frames s event s2 step has is w =
-    let done = (does-just frames s event step.done step.does has is w).says in
-    record {
-      frames = done.frames;
-      frames_are = ap (λ (x : GatewayAndOutput). x.told.frames) step.sends ∙ end-frames event step.done ∙ done.frames_are;
-      own_are = done.own_are;
-    }
+    let all = does-just frames s event step.done step.does has is w in
+    let done = all.just.says in (
+      all.own,
+      (
+        all.are,
+        record {
+          frames = done.frames;
+          frames_are = ap (λ (x : GatewayAndOutput). x.told.frames) step.sends ∙ end-frames event step.done ∙ done.frames_are;
+          own_are = done.own_are;
+        },
+      ),
+    )

@@ -58,7 +58,7 @@ use Rattle.spec_step.specs.declared.plans.Plan.{Plan}
 use Rattle.spec_step.specs.declared.plans.Plan.TheVariants.{Send, Ask, AskAgain, Wait as WaitFor}
 use Rattle.spec_step.specs.Machine.{AreBytes}
 use Rattle.spec_step.specs.Parts.{all_taken, asked_again, by_plan, by_refusal, by_verdict, carried, carried_all, carried_by, flags_in, flow_taken, framed, keeping, neighbour_asked, released, remote, renewed_behind, request_by, retaken_by, taken_again, wanted_by, wanted_for, by_error_plan, by_error_verdict, error_taken, echo_taken, length_in, refused}
-use Rattle.spec_step.specs.Shown.{GatewayAndOutput, Shown, is_up, scene, station_on}
+use Rattle.spec_step.specs.Shown.{GatewayAndOutput, Shown, is_apart, is_up, scene, station_on}
 use Rattle.spec_step.specs.Verdict.{exit_by, hop_by, look_for, plan_by, plan_from, plan_of, plan_on, plan_to, reading_on, target_pair, error_hop, error_plan, fits_at, if_fits}
 use Rattle.spec_step.proofs.Fitting.{fitted}
 use Rattle.spec_step.proofs.Own.{Said, echo-by, refusal-by, refused-by, said_scene}
@@ -141,10 +141,13 @@ abbrev IsStill : Book → Transition → Type 0
 IsStill b row = (after b row ≡ b) × ((e : Link) → answered e row.answer ≡ e)
 
 used-still : (b : Book) (p : Pair) (s : EntryState) → IsStill b (used_row p s)
-used-still b p state.Pending = (refl, λ e. refl)
+used-still b p (state.Pending true) = (refl, λ e. refl)
+used-still b p (state.Pending false) = (refl, λ e. refl)
 used-still b p state.Doomed = (refl, λ e. refl)
 used-still b p state.Live = (refl, λ e. refl)
-used-still b p state.Closing = (refl, λ e. refl)
+used-still b p (state.Closing true) = (refl, λ e. refl)
+used-still b p (state.Closing false) = (refl, λ e. refl)
+used-still b p state.Alone = (refl, λ e. refl)
 used-still b p state.Held = (refl, λ e. refl)
 
 carry-still : (b : Book) (k : Key) → IsStill b (carry_row b k)
@@ -177,8 +180,9 @@ module _ (letters : List Letter) (words : List ℕ) where
   pub wanted-goes : (s : GatewayAndOutput) (e : Endpoint) → IsWellFormedEndpoint e → Going letters words s (wanted_by s e)
   wanted-goes s e formed = λ n h stands is.
       let b = s.shown.ledger.book in
+      let apart = is_apart s.shown in
       let full = is_full s.shown.link in
-      row-goes letters words s (wish_of b full e).row n h is (wish-keeps b full e is.book formed) (wish-works s.shown.moment b s.shown.link n h full e stands)
+      row-goes letters words s (wish_of b apart full e).row n h is (wish-keeps b apart full e is.book formed) (wish-works s.shown.moment b s.shown.link n h apart full e stands)
 
   pub carried-goes : (s : GatewayAndOutput) (k : Key) (p : Carried) → Going letters words s (carried_by s k p)
   carried-goes s k p = λ n h stands is.

@@ -42,11 +42,12 @@ use Rattle.spec_step.specs.declared.plans.Plan.TheVariants.{Send, Ask, AskAgain,
 use Rattle.spec_step.specs.Machine.{AreBytes, KeepsBytes}
 use Rattle.spec_step.specs.Parts.{all_taken, asked_again, by_plan, by_verdict, carried, carried_all, carried_by, flags_in, flow_taken, framed, keeping, neighbour_asked, released, remote, renewed_behind, request_by, retaken_by, taken_again, wanted_by, wanted_for, by_error_plan, by_error_verdict, error_taken, echo_taken, length_in, refused}
 use Rattle.spec_step.specs.Rests.{AreBy}
-use Rattle.spec_step.specs.Shown.{GatewayAndOutput, id_of, scene, station_on, with_notes}
+use Rattle.spec_step.specs.Shown.{GatewayAndOutput, id_of, is_apart, scene, station_on, with_notes}
 use Rattle.spec_step.specs.Verdict.{exit_by, hop_by, plan_of, reading_on, error_hop, error_plan}
 use Rattle.spec_step.proofs.Packets.{PlanFits, Reads, kept-filter, kept-more, plan-fits, read-formed}
 use Rattle.spec_step.proofs.Own.{Said, echo-by, refusal-by, refused-by, said_scene}
 use Rattle.spec_step.proofs.Passing.{IsSound}
+use Rattle.spec_step.proofs.Plain.{StaysPlain, carried-stays-plain, plain-join, wanted-stays-plain}
 use Rattle.icmp.specs.declared.packets.ErrorFlow.{ErrorFlow}
 
 -- the notes from one scene to another, all at one time; a trace that the ledger accounted for before is accounted for
@@ -57,6 +58,7 @@ pub record Rested (s s2 : GatewayAndOutput) : Type 0 where
   pub own : AreBy (id_of s.shown) s.shown.moment notes
   pub moment : s2.shown.moment ≡ s.shown.moment
   pub id : id_of s2.shown ≡ id_of s.shown
+  pub stays : StaysPlain s.shown.ledger.book s2.shown.ledger.book notes
   pub accounts : (before : List Note) → Accounts s.shown.moment s.shown.ledger before → Accounts s2.shown.moment s2.shown.ledger (reverse notes ++ before)
   pub sound : IsSound s2.shown
 
@@ -80,6 +82,10 @@ resting-then a b c x y = λ is.
           (subst (λ (i : GatewayId). AreBy i b.shown.moment two.notes) one.id two.own));
       moment = two.moment ∙ one.moment;
       id = two.id ∙ one.id;
+      stays = record {
+        alone = two.stays.alone ∙ one.stays.alone;
+        plain = λ never. plain-join one.notes two.notes (one.stays.plain never) (two.stays.plain (one.stays.alone ∙ never));
+      };
       accounts = λ before a0. subst (λ (ns : List Note). Accounts c.shown.moment c.shown.ledger ns) (sym (reversed-join one.notes two.notes before))
           (two.accounts (reverse one.notes ++ before) (one.accounts before a0));
       sound = two.sound;
@@ -93,6 +99,7 @@ resting-unseen s s2 ledger notes moment kept = λ is. record {
   own = tt;
   moment = moment;
   id = ap (λ (l : Ledger). l.book.id) ledger;
+  stays = record { alone = ap (λ (l : Ledger). l.book.alone) ledger; plain = λ never. tt };
   accounts = λ before a. subst (λ (l : Ledger). Accounts s2.shown.moment l before) (sym ledger)
       (subst (λ (m : ℕ). Accounts m s.shown.ledger before) (sym moment) a);
   sound = record { book = subst (λ (l : Ledger). IsBook l.book) (sym ledger) is.book; kept = kept is.kept };
@@ -102,15 +109,16 @@ pub resting-nothing : (s : GatewayAndOutput) → Resting s s
 resting-nothing s = resting-unseen s s refl refl refl (λ k. k)
 
 -- the ledger accounts for a part that changes it and makes these notes, where it accounts for them
-pub resting-noted : (s : GatewayAndOutput) (l : Ledger) (e : Link) (notes : List Note) → AreBy (id_of s.shown) s.shown.moment notes → l.book.id ≡ id_of s.shown → (IsBook s.shown.ledger.book → IsBook l.book)
+pub resting-noted : (s : GatewayAndOutput) (l : Ledger) (e : Link) (notes : List Note) → AreBy (id_of s.shown) s.shown.moment notes → StaysPlain s.shown.ledger.book l.book notes → l.book.id ≡ id_of s.shown → (IsBook s.shown.ledger.book → IsBook l.book)
     → ((before : List Note) → IsBook s.shown.ledger.book → Accounts s.shown.moment s.shown.ledger before → Accounts s.shown.moment l (reverse notes ++ before))
     → Resting s (scene (record s.shown { ledger = l; link = e }) (with_notes s.told notes))
-resting-noted s l e notes own id keeps accounts = λ is. record {
+resting-noted s l e notes own stays id keeps accounts = λ is. record {
   notes = notes;
   notes_are = refl;
   own = own;
   moment = refl;
   id = id;
+  stays = stays;
   accounts = λ before a. accounts before is.book a;
   sound = record { book = keeps is.book; kept = is.kept };
 }
@@ -124,18 +132,19 @@ noted-own id now (Some what) = ((refl, refl), tt)
 pub wanted-rests : (s : GatewayAndOutput) (e : Endpoint) → IsWellFormedEndpoint e → Resting s (wanted_by s e)
 wanted-rests s e formed =
     let g = s.shown in let b = g.ledger.book in
+    let apart = is_apart g in
     let full = is_full g.link in
-    let row = (wish_of b full e).row in
+    let row = (wish_of b apart full e).row in
     resting-noted s (ledger_after g.moment row.change g.ledger) (answered g.link row.answer) (noted_by b.id g.moment row.what)
-    (noted-own b.id g.moment row.what) (change-leaves b row.change).id (λ is. wish-keeps b full e is formed)
-    (λ before is a. wished-accounts g.moment g.ledger before full e is a)
+    (noted-own b.id g.moment row.what) (wanted-stays-plain g e) (change-leaves b row.change).id (λ is. wish-keeps b apart full e is formed)
+    (λ before is a. wished-accounts g.moment g.ledger before apart full e is a)
 
 carried-rests : (s : GatewayAndOutput) (k : Key) (r : Remote) (w : Way) (flags : TcpFlags) → Resting s (carried_by s k (carried r w flags s.shown.moment))
 carried-rests s k r w flags =
     let g = s.shown in let b = g.ledger.book in
     let p = carried r w flags g.moment in
     resting-noted s (carried_ledger k p g.ledger) g.link (noted_by b.id g.moment (carry_row b k).what)
-    (noted-own b.id g.moment (carry_row b k).what) refl (λ is. is)
+    (noted-own b.id g.moment (carry_row b k).what) (carried-stays-plain b k b.id g.moment) refl (λ is. is)
     (λ before is a. carried-accounts g.ledger before k p a)
 
 carried-all-rests : (s : GatewayAndOutput) (flow : Flow) (flags : TcpFlags) (by : Translation) → Resting s (carried_all s flow flags by)

@@ -1,5 +1,5 @@
 -- The pairs by which a gateway translates after a row: it translated by each before, or takes it up.
-use Rattle.std.proofs.Common.{◌≡◌, ◌⊎◌, inl, inr, ℕ, Bool, true, false, cond, ◌&&◌, is_none, List, [], ◌∷◌, ◌++◌, map, filter, Option, Some, None, refl, sym, ap, subst, ◌∙◌}
+use Rattle.std.proofs.Common.{◌≡◌, ◌⊎◌, inl, inr, ℕ, Bool, true, false, cond, not, ◌&&◌, is_none, List, [], ◌∷◌, ◌++◌, map, filter, Option, Some, None, refl, sym, ap, subst, ◌∙◌}
 use Rattle.std.proofs.lemmas.Bool.{and_parts}
 use Rattle.std.proofs.lemmas.Grind.{flat_map-append}
 use Rattle.addresses.specs.declared.transport.Port.{Port}
@@ -7,6 +7,7 @@ use Rattle.nat_types.specs.Same.{same_key}
 use Rattle.nat_types.specs.declared.gateways.GatewayId.{GatewayId}
 use Rattle.nat_types.specs.declared.notes.NoteKind.{NoteKind}
 use Rattle.nat_types.specs.declared.notes.NoteKind.TheVariants.{Released, Retaken}
+use Rattle.nat_types.specs.declared.notes.NoteKind.TheVariants as kinds
 use Rattle.nat_types.specs.declared.notes.Note.{Note}
 use Rattle.nat_types.specs.declared.pairs.Endpoint.{Endpoint}
 use Rattle.nat_types.specs.declared.pairs.EntryState.{EntryState}
@@ -17,21 +18,21 @@ use Rattle.nat_types.specs.declared.records.Record.{Record}
 use Rattle.nat_types.specs.declared.records.Record.TheVariants as rec
 use Rattle.nat_types.specs.Granted.{Granted}
 use Rattle.bindings.specs.declared.entries.Entry.{Entry}
-use Rattle.bindings.specs.Entries.{HasDistinctKeys, entry_in, entry_of, has_key, is_pair, set_at, slot_of, translates}
+use Rattle.bindings.specs.Entries.{HasDistinctKeys, entry_in, entry_of, has_key, held_entry_of, is_pair, is_taken, rank_of, set_at, slot_of, translates}
 use Rattle.bindings.specs.Lists.{put_in, with_state, without}
 use Rattle.bindings.specs.Revivals.{comes_back, revived_entries, woken}
 use Rattle.bindings.proofs.Offered.{slot-with_state, slot-without, none_from_is_none, none-map, slot-put}
 use Rattle.bindings.specs.Ports.{in_either}
-use Rattle.resync.specs.Loading.{Load, is_new, loaded, loaded_state, none_yet, names_run, where_, with_pair, with_run}
+use Rattle.resync.specs.Loading.{Load, is_beside, is_new, loaded, loaded_state, none_yet, names_run, where_, with_pair, with_run}
 use Rattle.spec_pair.specs.Box.{In}
 use Rattle.spec_binding.specs.declared.changes.Change.TheVariants as change_of
 use Rattle.spec_binding.specs.declared.changes.Change.TheVariants.{Add, Drop, Gain, Yield}
 use Rattle.spec_binding.specs.declared.changes.Transition.{Transition}
 use Rattle.spec_binding.specs.declared.changes.PortRequest.{PortRequest}
 use Rattle.spec_binding.specs.declared.changes.Want.TheVariants as want
-use Rattle.spec_binding.specs.Books.{Book, empty_book, is_lone, is_promised, is_synced, load_of}
+use Rattle.spec_binding.specs.Books.{Book, empty_book, is_lone, is_paired, is_promised, is_synced, load_of}
 use Rattle.spec_binding.specs.Resets.{back_in, begun_anew, put_alone, restart_notes, restarted, retaken}
-use Rattle.spec_binding.specs.Rows.{accept_row, accepted_row, after, answering, ask_row, asked_row, asking, ending, gives_way, grant_row, idle_row, install_row, is_at_limit, is_theirs, known_wish, left_row, load_taken, load_what, may_want, new_pair, new_wish, no_row, none_row, noted_by, numbers_of, port_for, proposal, proposed_row, quiet, refuse_row, refused_row, release_row, released_row, row, row_of, stayed_row, synced_row, taken_book, taken_what, unsynced_after, unsynced_what, wish, wish_by, wish_of, yes_row}
+use Rattle.spec_binding.specs.Rows.{accept_row, accepted_row, after, alone_row, answering, ask_row, asked_row, asking, ending, gives_way, grant_row, idle_row, install_row, is_at_limit, is_takeable, is_theirs, known_wish, marked_row, left_row, load_taken, load_what, may_want, new_pair, new_wish, no_row, none_row, noted_by, numbers_of, paired_wish, port_for, proposal, proposed_row, quiet, refuse_row, refused_row, release_row, released_row, row, row_of, sought_row, stayed_row, synced_row, taken_book, taken_what, taking, telling_row, told_row, unsynced_after, unsynced_what, wish, wish_by, wish_of, yes_row}
 use Rattle.spec_binding.specs.Uses.{IsTranslated}
 use Rattle.spec_binding.proofs.Offered.{gained-is, was-there, at-key, chosen-says}
 use Rattle.spec_step.specs.Others.{MayGoBy, retaken_in, retaken_pairs}
@@ -89,6 +90,17 @@ put-rooted es x ps free taken = set-rooted es (put_in x es) x.pair.key (Some x) 
 turn-rooted : (es : List Entry) (x : Entry) (s : EntryState) (ps : List Pair) → slot_of es x.pair.key ≡ Some x → (translates s ≡ true → In x.pair ps) → Rooted es (with_state x.pair.key s es) ps
 turn-rooted es x s ps found taken = set-rooted es (with_state x.pair.key s es) x.pair.key (Some (entry_in s x.pair)) ps (λ q. slot-with_state x.pair.key s es x q found) taken
 
+-- an entry that translates is turned: afterwards no other pair translates
+turn-kept : (es : List Entry) (x : Entry) (s : EntryState) (ps : List Pair) → slot_of es x.pair.key ≡ Some x → translates x.state ≡ true → Rooted es (with_state x.pair.key s es) ps
+turn-kept es x s ps found live = λ p t. inl (at (same_key x.pair.key p.key) p t (sym (slot-with_state x.pair.key s es x p.key found) ∙ t.found))
+  where
+    at : (b : Bool) (p : Pair) (t : IsTranslated (with_state x.pair.key s es) p) → cond b (Some (entry_in s x.pair)) (slot_of es p.key) ≡ Some t.entry → IsTranslated es p
+    at true p t is =
+        let same : entry_in s x.pair ≡ t.entry = cc in
+        let pair : x.pair ≡ p = ap (λ (y : Entry). y.pair) same ∙ t.pair in
+        record { entry = x; found = ap (λ (q : Pair). slot_of es q.key) (sym pair) ∙ found; pair = pair; translates = live }
+    at false p t is = record { entry = t.entry; found = is; pair = t.pair; translates = t.translates }
+
 drop-rooted : (es : List Entry) (k : Key) (ps : List Pair) → Rooted es (without k es) ps
 drop-rooted es k ps = set-rooted es (without k es) k None ps (λ q. slot-without k es q) tt
 
@@ -142,54 +154,73 @@ either-roots b false x y one two = two refl
 -- ---- wishes
 
 known-roots : (b : Book) (p : Pair) (s : EntryState) → RowRoots b (known_wish p s).row
-known-roots b p state.Pending = quiet-roots b
+known-roots b p (state.Pending true) = quiet-roots b
+known-roots b p (state.Pending false) = quiet-roots b
 known-roots b p state.Doomed = quiet-roots b
 known-roots b p state.Live = quiet-roots b
-known-roots b p state.Closing = quiet-roots b
+known-roots b p (state.Closing true) = quiet-roots b
+known-roots b p (state.Closing false) = quiet-roots b
+known-roots b p state.Alone = quiet-roots b
 known-roots b p state.Held = quiet-roots b
 
 none-roots : (b : Book) (full : Bool) → RowRoots b (none_row b full)
 none-roots b full = either-roots b (may_want b full) (row change_of.Want (Some rec.Want) None) quiet (λ t i now. same-rooted b.entries b.entries [] refl) (λ t. quiet-roots b)
 
-new-roots : (b : Book) (full : Bool) (e : Endpoint) (o : Option Port) → port_for b e ≡ o → RowRoots b (new_wish b full e o).row
-new-roots b full e None is = none-roots b full
-new-roots b full e (Some port) is = at (is_lone b.stage) full
+new-roots : (b : Book) (apart full : Bool) (e : Endpoint) (o : Option Port) → port_for b e ≡ o → RowRoots b (new_wish b apart full e o).row
+new-roots b apart full e None is = none-roots b full
+new-roots b apart full e (Some port) is = at (is_lone b.stage)
   where
     lone : RowRoots b (row (Add (entry_in state.Live (new_pair e port))) None (Some (Retaken (new_pair e port))))
     lone = λ i now. put-rooted b.entries (entry_in state.Live (new_pair e port)) (new_pair e port ∷ []) (chosen-says b e port is).free (λ h. inl refl)
 
     proposed : RowRoots b (proposal (new_pair e port))
-    proposed = λ i now. put-rooted b.entries (entry_in state.Pending (new_pair e port)) [] (chosen-says b e port is).free (λ h. absurd (cc))
+    proposed = λ i now. put-rooted b.entries (entry_in (state.Pending false) (new_pair e port)) [] (chosen-says b e port is).free (λ h. absurd (cc))
 
-    second : (t : Bool) → RowRoots b (let w : PortRequest = cond t (wish want.NotNow quiet) (wish want.Wait (proposal (new_pair e port))) in w.row)
-    second true = quiet-roots b
-    second false = proposed
+    made : RowRoots b (row (Add (entry_in state.Alone (new_pair e port))) None (Some (kinds.Alone (new_pair e port))))
+    made = λ i now. put-rooted b.entries (entry_in state.Alone (new_pair e port)) (new_pair e port ∷ []) (chosen-says b e port is).free (λ h. inl refl)
 
-    at : (t full : Bool) → RowRoots b (let w : PortRequest = cond t (wish (want.Port port) (row (Add (entry_in state.Live (new_pair e port))) None (Some (Retaken (new_pair e port))))) (cond full (wish want.NotNow quiet) (wish want.Wait (proposal (new_pair e port)))) in w.row)
-    at true full = lone
-    at false full = second full
+    second : (apart full : Bool) → RowRoots b (paired_wish apart full (new_pair e port)).row
+    second true full = made
+    second false true = quiet-roots b
+    second false false = proposed
 
-pub wish-roots : (b : Book) (full : Bool) (e : Endpoint) → RowRoots b (wish_of b full e).row
-wish-roots b full e = at (is_synced b.stage) (entry_of b.entries e)
+    at : (t : Bool) → RowRoots b (let w : PortRequest = cond t (wish (want.Port port) (row (Add (entry_in state.Live (new_pair e port))) None (Some (Retaken (new_pair e port))))) (paired_wish apart full (new_pair e port)) in w.row)
+    at true = lone
+    at false = second apart full
+
+pub wish-roots : (b : Book) (apart full : Bool) (e : Endpoint) → RowRoots b (wish_of b apart full e).row
+wish-roots b apart full e = at (is_synced b.stage) (entry_of b.entries e)
   where
-    limited : (t : Bool) → RowRoots b (let w : PortRequest = cond t (wish want.HostLimit quiet) (new_wish b full e (port_for b e)) in w.row)
+    limited : (t : Bool) → RowRoots b (let w : PortRequest = cond t (wish want.HostLimit quiet) (new_wish b apart full e (port_for b e)) in w.row)
     limited true = quiet-roots b
-    limited false = new-roots b full e (port_for b e) refl
+    limited false = new-roots b apart full e (port_for b e) refl
 
-    by : (o : Option Entry) → RowRoots b (wish_by b full e o).row
+    by : (o : Option Entry) → RowRoots b (wish_by b apart full e o).row
     by (Some x) = known-roots b x.pair x.state
     by None = limited (is_at_limit b e.address)
 
-    at : (t : Bool) (o : Option Entry) → RowRoots b (let w : PortRequest = cond t (wish_by b full e o) (wish want.NotNow quiet) in w.row)
+    at : (t : Bool) (o : Option Entry) → RowRoots b (let w : PortRequest = cond t (wish_by b apart full e o) (wish want.NotNow quiet) in w.row)
     at true o = by o
     at false o = quiet-roots b
 
 -- ---- records at a synced gateway
 
+-- the key of a pair that may be taken has no entry
+takeable-free : (b : Book) (p : Pair) → is_takeable b p ≡ true → slot_of b.entries p.key ≡ None
+takeable-free b p t =
+    let rest = (and_parts (is_theirs b p.key.port.0) (is_none (slot_of b.entries p.key) && is_none (held_entry_of b.entries p.endpoint)) t).1 in
+    none_from_is_none (slot_of b.entries p.key) (and_parts (is_none (slot_of b.entries p.key)) (is_none (held_entry_of b.entries p.endpoint)) rest).0
+
+told-roots : (b : Book) (p : Pair) → RowRoots b (told_row b p)
+told-roots b p =
+    either-roots b (is_takeable b p) (taking p) (answering (rec.Refuse p.key))
+    (λ t i now. put-rooted b.entries (entry_in state.Held p) (p ∷ []) (takeable-free b p t) (λ h. inl refl))
+    (λ t i now. same-rooted b.entries b.entries [] refl)
+
 install-roots : (b : Book) (p : Pair) → RowRoots b (install_row b p)
 install-roots b p =
-    either-roots b (is_theirs b p.key.port.0 && is_none (slot_of b.entries p.key)) (proposed_row b p (entry_of b.entries p.endpoint)) (answering (rec.Refuse p.key))
-    (λ t. at (none_from_is_none (slot_of b.entries p.key) (and_parts (is_theirs b p.key.port.0) (is_none (slot_of b.entries p.key)) t).1) (entry_of b.entries p.endpoint))
+    either-roots b (is_takeable b p) (proposed_row b p (entry_of b.entries p.endpoint)) (answering (rec.Refuse p.key))
+    (λ t. at (takeable-free b p t) (entry_of b.entries p.endpoint))
     (λ t i now. same-rooted b.entries b.entries [] refl)
   where
     at : slot_of b.entries p.key ≡ None → (o : Option Entry) → RowRoots b (proposed_row b p o)
@@ -204,55 +235,63 @@ accept-roots b k None is = quiet-roots b
 accept-roots b k (Some x) is = at x.state
   where
     at : (s : EntryState) → RowRoots b (accepted_row x.pair s)
-    at state.Pending = λ i now. turn-rooted b.entries x state.Live (x.pair ∷ []) (at-key b.entries k x is) (λ h. inl refl)
+    at (state.Pending true) = λ i now. turn-rooted b.entries x state.Live (x.pair ∷ []) (at-key b.entries k x is) (λ h. inl refl)
+    at (state.Pending false) = λ i now. turn-rooted b.entries x state.Live (x.pair ∷ []) (at-key b.entries k x is) (λ h. inl refl)
     at state.Doomed = quiet-roots b
     at state.Live = quiet-roots b
-    at state.Closing = quiet-roots b
+    at (state.Closing m) = quiet-roots b
+    at state.Alone = quiet-roots b
     at state.Held = quiet-roots b
 
-refuse-roots : (b : Book) (o : Option Entry) → RowRoots b (refuse_row o)
-refuse-roots b None = quiet-roots b
-refuse-roots b (Some x) = at x.state
+refuse-roots : (b : Book) (k : Key) (o : Option Entry) → slot_of b.entries k ≡ o → RowRoots b (refuse_row o)
+refuse-roots b k None is = quiet-roots b
+refuse-roots b k (Some x) is = at x.state refl
   where
-    at : (s : EntryState) → RowRoots b (refused_row x.pair s)
-    at state.Pending = λ i now. drop-rooted b.entries x.pair.key []
-    at state.Doomed = λ i now. drop-rooted b.entries x.pair.key []
-    at state.Live = quiet-roots b
-    at state.Closing = quiet-roots b
-    at state.Held = quiet-roots b
+    at : (s : EntryState) → x.state ≡ s → RowRoots b (refused_row x.pair s)
+    at (state.Pending true) st = λ i now. turn-kept b.entries x state.Alone [] (at-key b.entries k x is) (ap translates st)
+    at (state.Pending false) st = λ i now. drop-rooted b.entries x.pair.key []
+    at state.Doomed st = λ i now. drop-rooted b.entries x.pair.key []
+    at state.Live st = quiet-roots b
+    at (state.Closing m) st = quiet-roots b
+    at state.Alone st = quiet-roots b
+    at state.Held st = quiet-roots b
 
 ask-roots : (b : Book) (k : Key) (rests : Bool) (o : Option Entry) → RowRoots b (ask_row k rests o)
 ask-roots b k rests None = λ i now. same-rooted b.entries b.entries [] refl
 ask-roots b k rests (Some x) = at x.state rests
   where
     at : (s : EntryState) (rests : Bool) → RowRoots b (asked_row x.pair rests s)
-    at state.Pending rests = λ i now. same-rooted b.entries b.entries [] refl
+    at (state.Pending m) rests = λ i now. same-rooted b.entries b.entries [] refl
     at state.Doomed rests = λ i now. same-rooted b.entries b.entries [] refl
     at state.Live rests = λ i now. same-rooted b.entries b.entries [] refl
-    at state.Closing rests = λ i now. same-rooted b.entries b.entries [] refl
+    at (state.Closing m) rests = λ i now. same-rooted b.entries b.entries [] refl
+    at state.Alone rests = λ i now. same-rooted b.entries b.entries [] refl
     at state.Held true = λ i now. drop-rooted b.entries x.pair.key []
     at state.Held false = λ i now. same-rooted b.entries b.entries [] refl
 
-yes-roots : (b : Book) (o : Option Entry) → RowRoots b (yes_row o)
-yes-roots b None = quiet-roots b
-yes-roots b (Some x) = at x.state
+yes-roots : (b : Book) (k : Key) (o : Option Entry) → slot_of b.entries k ≡ o → RowRoots b (yes_row o)
+yes-roots b k None is = quiet-roots b
+yes-roots b k (Some x) is = at x.state refl
   where
-    at : (s : EntryState) → RowRoots b (left_row x.pair s)
-    at state.Pending = quiet-roots b
-    at state.Doomed = quiet-roots b
-    at state.Live = quiet-roots b
-    at state.Closing = λ i now. drop-rooted b.entries x.pair.key []
-    at state.Held = quiet-roots b
+    at : (s : EntryState) → x.state ≡ s → RowRoots b (left_row x.pair s)
+    at (state.Pending m) st = quiet-roots b
+    at state.Doomed st = quiet-roots b
+    at state.Live st = quiet-roots b
+    at (state.Closing true) st = λ i now. turn-kept b.entries x state.Alone [] (at-key b.entries k x is) (ap translates st)
+    at (state.Closing false) st = λ i now. drop-rooted b.entries x.pair.key []
+    at state.Alone st = quiet-roots b
+    at state.Held st = quiet-roots b
 
 no-roots : (b : Book) (k : Key) (o : Option Entry) → slot_of b.entries k ≡ o → RowRoots b (no_row o)
 no-roots b k None is = quiet-roots b
 no-roots b k (Some x) is = at x.state
   where
     at : (s : EntryState) → RowRoots b (stayed_row x.pair s)
-    at state.Pending = quiet-roots b
+    at (state.Pending m) = quiet-roots b
     at state.Doomed = quiet-roots b
     at state.Live = quiet-roots b
-    at state.Closing = λ i now. turn-rooted b.entries x state.Live (x.pair ∷ []) (at-key b.entries k x is) (λ h. inl refl)
+    at (state.Closing m) = λ i now. turn-rooted b.entries x state.Live (x.pair ∷ []) (at-key b.entries k x is) (λ h. inl refl)
+    at state.Alone = quiet-roots b
     at state.Held = quiet-roots b
 
 grant-roots : (b : Book) (g : Granted) → RowRoots b (grant_row b g)
@@ -261,9 +300,9 @@ grant-roots b g = either-roots b b.wants (row (Gain g) None None) quiet (λ t i 
 synced-roots : (b : Book) (rests : Bool) (r : Record) → RowRoots b (synced_row b rests r)
 synced-roots b rests (rec.Install p) = install-roots b p
 synced-roots b rests (rec.Accept k) = accept-roots b k (slot_of b.entries k) refl
-synced-roots b rests (rec.Refuse k) = refuse-roots b (slot_of b.entries k)
+synced-roots b rests (rec.Refuse k) = refuse-roots b k (slot_of b.entries k) refl
 synced-roots b rests (rec.Ask k) = ask-roots b k rests (slot_of b.entries k)
-synced-roots b rests (rec.Yes k) = yes-roots b (slot_of b.entries k)
+synced-roots b rests (rec.Yes k) = yes-roots b k (slot_of b.entries k) refl
 synced-roots b rests (rec.No k) = no-roots b k (slot_of b.entries k) refl
 synced-roots b rests rec.Begin = quiet-roots b
 synced-roots b rests (rec.Put p) = quiet-roots b
@@ -271,6 +310,7 @@ synced-roots b rests rec.Done = quiet-roots b
 synced-roots b rests rec.Want = λ i now. same-rooted b.entries b.entries [] refl
 synced-roots b rests (rec.Grant g) = grant-roots b g
 synced-roots b rests (rec.Owner first last) = quiet-roots b
+synced-roots b rests (rec.Tell p) = told-roots b p
 
 row-roots : (b : Book) (rests : Bool) (r : Record) → RowRoots b (row_of b rests r)
 row-roots b rests r = either-roots b (is_promised b) quiet (synced_row b rests r) (λ t. quiet-roots b) (λ t. synced-roots b rests r)
@@ -285,21 +325,55 @@ release-roots b lone ask k (Some x) is = at x.state lone ask
     dropped = λ i now. drop-rooted b.entries x.pair.key []
 
     closed : RowRoots b (asking x.pair)
-    closed = λ i now. turn-rooted b.entries x state.Closing [] (at-key b.entries k x is) (λ h. absurd (cc))
+    closed = λ i now. turn-rooted b.entries x (state.Closing false) [] (at-key b.entries k x is) (λ h. absurd (cc))
 
     at : (s : EntryState) (lone ask : Bool) → RowRoots b (released_row lone ask x.pair s)
-    at state.Pending lone ask = quiet-roots b
+    at (state.Pending m) lone ask = quiet-roots b
     at state.Doomed lone ask = quiet-roots b
     at state.Live true ask = dropped
     at state.Live false true = closed
     at state.Live false false = quiet-roots b
-    at state.Closing lone ask = quiet-roots b
+    at (state.Closing m) lone ask = quiet-roots b
+    at state.Alone lone ask = dropped
     at state.Held true ask = dropped
     at state.Held false ask = quiet-roots b
 
 pub idle-roots : (b : Book) (ask : Bool) (k : Key) → RowRoots b (idle_row b ask k)
 idle-roots b ask k =
     either-roots b (is_synced b.stage) (release_row (is_lone b.stage) ask (slot_of b.entries k)) quiet (λ t. release-roots b (is_lone b.stage) ask k (slot_of b.entries k) refl) (λ t. quiet-roots b)
+
+-- ---- going on alone, at a tick
+
+sought-roots : (b : Book) (apart full : Bool) (k : Key) (o : Option Entry) → slot_of b.entries k ≡ o → RowRoots b (sought_row apart full o)
+sought-roots b apart full k None is = quiet-roots b
+sought-roots b apart full k (Some x) is = at apart
+  where
+    marked : (s : EntryState) → RowRoots b (marked_row x.pair s)
+    marked (state.Pending true) = quiet-roots b
+    marked (state.Pending false) = λ i now. turn-rooted b.entries x (state.Pending true) (x.pair ∷ []) (at-key b.entries k x is) (λ h. inl refl)
+    marked state.Doomed = quiet-roots b
+    marked state.Live = quiet-roots b
+    marked (state.Closing true) = quiet-roots b
+    marked (state.Closing false) = λ i now. turn-rooted b.entries x (state.Closing true) (x.pair ∷ []) (at-key b.entries k x is) (λ h. inl refl)
+    marked state.Alone = quiet-roots b
+    marked state.Held = quiet-roots b
+
+    told : (s : EntryState) → x.state ≡ s → (full : Bool) → RowRoots b (telling_row full x.pair s)
+    told (state.Pending m) st full = quiet-roots b
+    told state.Doomed st full = quiet-roots b
+    told state.Live st full = quiet-roots b
+    told (state.Closing m) st full = quiet-roots b
+    told state.Alone st true = quiet-roots b
+    told state.Alone st false = λ i now. turn-kept b.entries x (state.Pending true) [] (at-key b.entries k x is) (ap translates st)
+    told state.Held st full = quiet-roots b
+
+    at : (apart : Bool) → RowRoots b (let r : Transition = cond apart (marked_row x.pair x.state) (telling_row full x.pair x.state) in r)
+    at true = marked x.state
+    at false = told x.state refl full
+
+pub alone-row-roots : (b : Book) (apart full : Bool) (k : Key) → RowRoots b (alone_row b apart full k)
+alone-row-roots b apart full k =
+    either-roots b (is_paired b.stage) (sought_row apart full (slot_of b.entries k)) quiet (λ t. sought-roots b apart full k (slot_of b.entries k) refl) (λ t. quiet-roots b)
 
 -- ---- records at a gateway that isn't synced
 
@@ -314,6 +388,16 @@ load-roots b (rec.Ask k) = λ i now. same-rooted b.entries b.entries [] refl
 load-roots b (rec.Yes k) = λ i now. same-rooted b.entries b.entries [] refl
 load-roots b (rec.No k) = λ i now. same-rooted b.entries b.entries [] refl
 load-roots b rec.Begin = λ i now p t. let none = t.found in absurd (cc)
+load-roots b (rec.Tell p) = at ((load_of b).begun && is_beside (load_of b) p) refl
+  where
+    at : (t : Bool) → ((load_of b).begun && is_beside (load_of b) p) ≡ t → LoadRoots b (rec.Tell p) (where_ t (with_pair (load_of b) p))
+    at true is =
+        let taken = not (is_taken (rank_of (loaded_state b.owned p.key.port.0)) b.entries p.endpoint) in
+        let beside = (and_parts b.begun (is_beside (load_of b) p) is).1 in
+        let vacant = (and_parts (in_either b.zero b.one p.key.port.0) (is_none (slot_of b.entries p.key) && taken) beside).1 in
+        let free = (and_parts (is_none (slot_of b.entries p.key)) taken vacant).0 in
+        λ i now. put-rooted b.entries (entry_in (loaded_state b.owned p.key.port.0) p) (p ∷ []) (none_from_is_none (slot_of b.entries p.key) free) (λ h. inl refl)
+    at false is = λ i now. same-rooted b.entries b.entries [] refl
 load-roots b (rec.Put p) = at ((load_of b).begun && is_new (load_of b) p) refl
   where
     at : (t : Bool) → ((load_of b).begun && is_new (load_of b) p) ≡ t → LoadRoots b (rec.Put p) (where_ t (with_pair (load_of b) p))
@@ -375,10 +459,11 @@ revived-rooted es keys = λ p t.
     at p w.entry w.found (sym w.same ∙ t.pair) w.entry.state refl (ap translates (sym w.state) ∙ t.translates) w.pair
   where
     at : (p : Pair) (x : Entry) → slot_of es p.key ≡ Some x → x.pair ≡ p → (s : EntryState) → x.state ≡ s → translates (woken s) ≡ true → is_pair s ≡ true → IsTranslated es p ⊎ In p (back_in es)
-    at p x found pair state.Pending is live h = inr (subst (λ (q : Pair). In q (back_in es)) pair (back-listed es p.key x found (ap comes_back is)))
+    at p x found pair (state.Pending m) is live h = inr (subst (λ (q : Pair). In q (back_in es)) pair (back-listed es p.key x found (ap comes_back is)))
     at p x found pair state.Doomed is live h = absurd (cc)
     at p x found pair state.Live is live h = inl (record { entry = x; found = found; pair = pair; translates = ap translates is })
-    at p x found pair state.Closing is live h = inr (subst (λ (q : Pair). In q (back_in es)) pair (back-listed es p.key x found (ap comes_back is)))
+    at p x found pair (state.Closing m) is live h = inr (subst (λ (q : Pair). In q (back_in es)) pair (back-listed es p.key x found (ap comes_back is)))
+    at p x found pair state.Alone is live h = inr (subst (λ (q : Pair). In q (back_in es)) pair (back-listed es p.key x found (ap comes_back is)))
     at p x found pair state.Held is live h = inl (record { entry = x; found = found; pair = pair; translates = ap translates is })
 
 pub alone-rooted : (b : Book) (i : GatewayId) (now : ℕ) → HasDistinctKeys b.entries → Rooted b.entries (put_alone b).entries (retaken_pairs (retaken i now (back_in b.entries)))
@@ -387,6 +472,6 @@ alone-rooted b i now keys = subst (λ (ps : List Pair). Rooted b.entries (revive
 pub restart-rooted : (b : Book) (now : ℕ) → HasDistinctKeys b.entries → Rooted b.entries (restarted b).entries (retaken_pairs (restart_notes b now))
 restart-rooted b now keys = at (is_synced b.stage)
   where
-    at : (t : Bool) → Rooted b.entries (let x : Book = cond t (begun_anew b) (empty_book b.id b.zero b.one b.limit) in x.entries) (retaken_pairs (let ns : List Note = cond t (retaken b.id now (back_in b.entries)) [] in ns))
+    at : (t : Bool) → Rooted b.entries (let x : Book = cond t (begun_anew b) (empty_book b.id b.zero b.one b.limit b.alone) in x.entries) (retaken_pairs (let ns : List Note = cond t (retaken b.id now (back_in b.entries)) [] in ns))
     at true = alone-rooted b b.id now keys
     at false = λ p u. let none = u.found in absurd (cc)

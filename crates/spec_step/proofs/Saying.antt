@@ -45,7 +45,7 @@ use Rattle.spec_step.specs.Machine.{AreBytes}
 use Rattle.spec_step.specs.Others.{is_other}
 use Rattle.spec_step.specs.OwnAnswers.{Answers, Complains, IsOwnOf, OwnFrame, Purpose, counted_for}
 use Rattle.spec_step.specs.Parts.{all_taken, asked_again, by_plan, by_refusal, by_row, by_verdict, carried_all, flags_in, flow_taken, framed, keeping, neighbour_asked, released, renewed_behind, request_by, retaken_by, taken_again, wanted_by, wanted_for, by_error_plan, by_error_verdict, error_taken, echo_taken, length_in, refused, sender_in}
-use Rattle.spec_step.specs.Shown.{GatewayAndOutput, Shown, id_of, is_up, scene, station_on}
+use Rattle.spec_step.specs.Shown.{GatewayAndOutput, Shown, id_of, is_apart, is_up, scene, station_on}
 use Rattle.spec_step.specs.Truly.{IsSetUp, AtHand, IsSentBy, Known, known_of, packets_of}
 use Rattle.spec_step.specs.Verdict.{error_hop, error_plan, exit_by, hop_back, hop_by, next_back, next_to, plan_of, reading_on}
 use Rattle.spec_step.proofs.Packets.{PlanFits, kept-filter, kept-more, plan-fits, source-formed}
@@ -109,8 +109,9 @@ row-says s row useless roots keeps = λ is w. (
 pub wanted-says : (s : GatewayAndOutput) (e : Endpoint) → IsWellFormedEndpoint e → Saying [] s (wanted_by s e)
 wanted-says s e formed =
     let b = s.shown.ledger.book in
+    let apart = is_apart s.shown in
     let full = is_full s.shown.link in
-    row-says s (wish_of b full e).row (wish-useless b full e) (wish-roots b full e) (λ is. wish-keeps b full e is formed)
+    row-says s (wish_of b apart full e).row (wish-useless b apart full e) (wish-roots b apart full e) (λ is. wish-keeps b apart full e is formed)
 
 wanted-for-says : (s : GatewayAndOutput) (flow : Flow) (by : Translation) → IsWellFormedEndpoint (source_of flow) → Saying [] s (wanted_for s flow by)
 wanted-for-says s flow (Outward p) formed = wanted-says s (source_of flow) formed

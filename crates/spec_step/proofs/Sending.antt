@@ -45,7 +45,7 @@ use Rattle.spec_step.specs.Machine.{AreBytes}
 use Rattle.spec_step.specs.Parts.{carried_all, framed, sender_in, wanted_for}
 use Rattle.spec_step.specs.OwnAnswers.{Answers, Complains, IsOwnOf, OwnFrame, own_frames}
 use Rattle.spec_step.specs.PassedOn.{error_frames}
-use Rattle.spec_step.specs.Shown.{GatewayAndOutput, Shown, id_of, is_up, station_on}
+use Rattle.spec_step.specs.Shown.{GatewayAndOutput, Shown, id_of, is_apart, is_up, station_on}
 use Rattle.spec_step.specs.Truly.{AreItsPairs, IsSetUp, IsSentBy, Known, Sending, known_of, near_on, packets_of, translated_frames, unasked, used_in, used_pairs}
 use Rattle.spec_step.specs.Verdict.{exit_by, hop_back, hop_by, next_back, next_by, reading_on}
 use Rattle.spec_step.proofs.Own.{told-answers}
@@ -139,7 +139,7 @@ own-translates : (s : GatewayAndOutput) (flow : Flow) (p : Pair) → IsBook s.sh
     → Translates (wanted_for s flow (Outward p)).shown.ledger.book p × (p.endpoint ≡ source_of flow)
 own-translates s flow p is own = (
   subst (λ (q : Pair). Translates (wanted_for s flow (Outward p)).shown.ledger.book q) (sym own.1.1)
-      (wish-owns s.shown.ledger.book (is_full s.shown.link) (source_of flow) is own.0 own.1.0),
+      (wish-owns s.shown.ledger.book (is_apart s.shown) (is_full s.shown.link) (source_of flow) is own.0 own.1.0),
   ap (λ (q : Pair). q.endpoint) own.1.1,
 )
 
@@ -150,7 +150,7 @@ found-translate s flow (Inward p) is synced found = target-translates s.shown fl
 found-translate s flow (Hairpin own other) is synced found =
     let first = own-translates s flow own is found.0 in
     let second = target-translates s.shown flow other synced found.1 in (
-      (first.0, wish-still s.shown.ledger.book (is_full s.shown.link) (source_of flow) is other second.0),
+      (first.0, wish-still s.shown.ledger.book (is_apart s.shown) (is_full s.shown.link) (source_of flow) is other second.0),
       (first.1, second.1),
     )
 

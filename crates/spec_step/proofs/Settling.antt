@@ -22,9 +22,9 @@ use Rattle.link.specs.Link.{Link, after_take, is_due_on_tick, is_restart, is_tim
 use Rattle.link.specs.Reading.{reading}
 use Rattle.spec_binding.specs.declared.changes.Transition.{Transition}
 use Rattle.spec_binding.specs.Books.{Book, empty_book, is_lone, is_synced}
-use Rattle.spec_binding.specs.Ledgers.{alone_ledger, may_ask, restarted_ledger, rests_for, taken_ledger}
+use Rattle.spec_binding.specs.Ledgers.{alone_ledger, may_ask, restarted_ledger, rests_for, taken_ledger, sought_keys}
 use Rattle.spec_binding.specs.Resets.{begun_anew, restarted}
-use Rattle.spec_binding.specs.Rows.{after, answered, idle_row, is_full, row_of, taken_answer, taken_book, taken_ended, unsynced_after, wish_of}
+use Rattle.spec_binding.specs.Rows.{after, answered, idle_row, is_full, row_of, taken_answer, taken_book, taken_ended, unsynced_after, wish_of, alone_row}
 use Rattle.spec_binding.proofs.Offered.{change-leaves}
 use Rattle.waiting.specs.declared.waits.Ended.{Ended}
 use Rattle.waiting.specs.declared.waits.Ended.TheVariants.{AllPairs, One}
@@ -55,9 +55,9 @@ use Rattle.spec_step.specs.declared.plans.Plan.{Plan}
 use Rattle.spec_step.specs.declared.plans.Plan.TheVariants.{Send, Ask, AskAgain, Wait as WaitFor}
 use Rattle.spec_step.specs.Founding.{begun, founded}
 use Rattle.spec_step.specs.GivingWay.{GivingWay, left, turn_of}
-use Rattle.spec_step.specs.Parts.{all_idle_done, all_taken, answered_by, arp_taken, asked_again, by_plan, by_row, by_verdict, carried_all, datagram_in, datagram_read, flags_in, flow_taken, framed, handed_in, has_synced, heard_by, heard_unless, idle_done, idle_taken, keeping, link_answered, link_ticked, neighbour_asked, old_dropped, record_done, record_shown, record_told, records_done, released, renewed_behind, request_by, reset, retaken_by, routers_started, side_plugged, taken_again, wait_ended, waiting, wanted_by, wanted_for, with_link, with_routers, by_error_plan, by_error_verdict, error_taken, echo_taken, length_in, refused}
+use Rattle.spec_step.specs.Parts.{all_idle_done, all_taken, answered_by, arp_taken, asked_again, by_plan, by_row, by_verdict, carried_all, datagram_in, datagram_read, flags_in, flow_taken, framed, handed_in, has_synced, heard_by, heard_unless, idle_done, idle_taken, keeping, link_answered, link_ticked, neighbour_asked, old_dropped, record_done, record_shown, record_told, records_done, released, renewed_behind, request_by, reset, retaken_by, routers_started, side_plugged, taken_again, wait_ended, waiting, wanted_by, wanted_for, with_link, with_routers, by_error_plan, by_error_verdict, error_taken, echo_taken, length_in, refused, all_sought_done, alone_taken, gone_alone, peer_told, sought_done}
 use Rattle.spec_step.specs.Settled.{AreIdle, HaveBegun, IsSettled}
-use Rattle.spec_step.specs.Shown.{GatewayAndOutput, Shown, is_running, is_up, scene, station_on, with_station}
+use Rattle.spec_step.specs.Shown.{GatewayAndOutput, Shown, is_apart, is_running, is_up, scene, station_on, with_station}
 use Rattle.spec_step.specs.Routers.{BothAct, RouterActs}
 use Rattle.spec_step.specs.Steps.{Does, FrameDoes, IsStepOn, ended_on, stopped, ticked, word_by, word_refusal}
 use Rattle.spec_step.specs.Verdict.{exit_by, hop_by, plan_of, reading_on, error_hop, error_plan}
@@ -100,7 +100,7 @@ row-calms s row =
     calm-by g (by_row s row).shown (ap (λ x. (is_synced x && not g.stopped) && not g.away) stage) refl refl (λ k. k)
 
 wanted-calms : (s : GatewayAndOutput) (e : Endpoint) → Calming s (wanted_by s e)
-wanted-calms s e = row-calms s (wish_of s.shown.ledger.book (is_full s.shown.link) e).row
+wanted-calms s e = row-calms s (wish_of s.shown.ledger.book (is_apart s.shown) (is_full s.shown.link) e).row
 
 wanted-for-calms : (s : GatewayAndOutput) (flow : Flow) (by : Translation) → Calming s (wanted_for s flow by)
 wanted-for-calms s flow (Outward p) = wanted-calms s (source_of flow)
@@ -396,7 +396,7 @@ records-calm s (r ∷ rs) = calming-then s (record_done s r) (records_done s (r 
 restart-synced : (b : Book) → is_synced b.stage ≡ is_synced (restarted b).stage
 restart-synced b = at (is_synced b.stage) refl
   where
-    at : (t : Bool) → is_synced b.stage ≡ t → is_synced b.stage ≡ is_synced (let x : Book = cond t (begun_anew b) (empty_book b.id b.zero b.one b.limit) in x).stage
+    at : (t : Bool) → is_synced b.stage ≡ t → is_synced b.stage ≡ is_synced (let x : Book = cond t (begun_anew b) (empty_book b.id b.zero b.one b.limit b.alone) in x).stage
     at true is = is
     at false is = is
 
@@ -444,17 +444,32 @@ word-calms s n (Some reason) taken = nothing-calms s
 all-idle-calm : (s : GatewayAndOutput) (ks : List Key) → Calming s (all_idle_done s ks)
 all-idle-calm s [] = nothing-calms s
 all-idle-calm s (k ∷ ks) =
-    calming-then s (idle_done s k) (all_idle_done s (k ∷ ks)) (row-calms s (idle_row s.shown.ledger.book (may_ask s.shown.moment s.shown.link) k)) (all-idle-calm (idle_done s k) ks)
+    calming-then s (idle_done s k) (all_idle_done s (k ∷ ks)) (row-calms s (idle_row s.shown.ledger.book (may_ask s.shown.moment s.shown.ledger.book s.shown.link) k)) (all-idle-calm (idle_done s k) ks)
+
+all-sought-calm : (apart : Bool) (s : GatewayAndOutput) (ks : List Key) → Calming s (all_sought_done apart s ks)
+all-sought-calm apart s [] = nothing-calms s
+all-sought-calm apart s (k ∷ ks) =
+    calming-then s (sought_done apart s k) (all_sought_done apart s (k ∷ ks)) (row-calms s (alone_row s.shown.ledger.book apart (is_full s.shown.link) k)) (all-sought-calm apart (sought_done apart s k) ks)
+
+alone-calms : (s : GatewayAndOutput) → Calming s (alone_taken s)
+alone-calms s = at (is_apart s.shown)
+  where
+    at : (t : Bool) → Calming s (let x : GatewayAndOutput = cond t (gone_alone s) (peer_told s) in x)
+    at true =
+        let keys = sought_keys true s.shown.ledger.book.entries in
+        let marked = all_sought_done true s keys in
+        calming-then s marked (gone_alone s) (all-sought-calm true s keys) (released-calms marked AllPairs)
+    at false = all-sought-calm false s (sought_keys false s.shown.ledger.book.entries)
 
 old-calms : (s : GatewayAndOutput) → Calming s (old_dropped s)
 old-calms s = calm-by s.shown (old_dropped s).shown refl refl refl (λ k. kept-filter _ s.shown.kept k)
 
-tick-calms : (s : GatewayAndOutput) (now : ℕ) (turned middle : GatewayAndOutput) → GivingWay (ticked s now) turned → BothAct turned table.Tick middle → Calming s (idle_taken (old_dropped middle))
+tick-calms : (s : GatewayAndOutput) (now : ℕ) (turned middle : GatewayAndOutput) → GivingWay (ticked s now) turned → BothAct turned table.Tick middle → Calming s (alone_taken (idle_taken (old_dropped middle)))
 tick-calms s now turned middle gives both = λ is.
     let young = old_dropped middle in
     let l = young.shown.ledger in
     let first = turn-calms (ticked s now) turned gives (record { running = is.running; idle = is.idle; places = is.places }) in
-    all-idle-calm young (idle_keys_in (is_lone l.book.stage) young.shown.moment l.book.entries l.lives) (old-calms middle (both-calm turned middle both first))
+    alone-calms (idle_taken young) (all-idle-calm young (idle_keys_in (is_lone l.book.stage) young.shown.moment l.book.entries l.lives) (old-calms middle (both-calm turned middle both first)))
 
 -- ---- an event's own parts
 

@@ -12,12 +12,12 @@ use Rattle.vrrp_states.specs.Table as table
 use Rattle.spec_step.specs.declared.events.Event.{Event}
 use Rattle.spec_step.specs.declared.events.Event.TheVariants.{Frame, Datagram as Comes, Tick, Stop, PeerOff, Side as SideIs}
 use Rattle.spec_step.specs.Machine.{AreBytes, Goes, HasBytes, HasPushed, IsAlone, IsStanding, KeepsBytes, letter_in, letters_in, words_in}
-use Rattle.spec_step.specs.Parts.{idle_taken, old_dropped}
+use Rattle.spec_step.specs.Parts.{idle_taken, old_dropped, alone_taken}
 use Rattle.spec_step.specs.Shown.{GatewayAndOutput}
 use Rattle.spec_step.specs.Steps.{Does, FrameDoes, IsStepOn, ended_on, stopped, ticked, word_refusal}
 use Rattle.spec_step.specs.Verdict.{reading_on}
 use Rattle.spec_step.proofs.Ending.{answered-goes, answered-keeps, ended-still, ticked-goes, ticked-keeps}
-use Rattle.spec_step.proofs.Hearing.{Arrives, all-idle-goes, arrives-by, datagram-arrives, word-arrives}
+use Rattle.spec_step.proofs.Hearing.{Arrives, all-idle-goes, alone-taken-goes, arrives-by, datagram-arrives, word-arrives}
 use Rattle.spec_step.proofs.Packets.{Reads, echo-goes, flow-goes, read-formed, error-goes, refused-goes}
 use Rattle.spec_step.proofs.Passing.{Going, IsSound, going-then}
 use Rattle.spec_step.proofs.Sides.{arp-goes, both-go, old-goes, plugged-goes, router-goes, stopped-goes, turn-goes}
@@ -50,10 +50,14 @@ does-arrives reads s (Tick now) done h does has stands is alone =
     let middle = does.1 in
     let young = old_dropped middle in
     let ledger = young.shown.ledger in
-    let going = going-then [] [] start turned (idle_taken young) (turn-goes [] [] start turned does.2)
-    (going-then [] [] turned middle (idle_taken young) (both-go [] [] turned table.Tick middle does.3)
-    (going-then [] [] middle young (idle_taken young) (old-goes [] [] middle)
-    (all-idle-goes [] [] young (idle_keys_in (is_lone ledger.book.stage) young.shown.moment ledger.book.entries ledger.lives)))) in
+    let idle = idle_taken young in
+    let done_by = alone_taken idle in
+    let going = going-then [] [] start turned done_by (turn-goes [] [] start turned does.2)
+    (going-then [] [] turned middle done_by (both-go [] [] turned table.Tick middle does.3)
+    (going-then [] [] middle young done_by (old-goes [] [] middle)
+    (going-then [] [] young idle done_by
+    (all-idle-goes [] [] young (idle_keys_in (is_lone ledger.book.stage) young.shown.moment ledger.book.entries ledger.lives))
+    (alone-taken-goes [] [] reads idle)))) in
     arrives-by [] [] start done h (subst (λ (x : GatewayAndOutput). Going [] [] start x) (sym does.4) going) stands (record { book = is.book; kept = is.kept }) alone
 does-arrives reads s Stop done h does has stands is alone =
     let middle = does.0 in

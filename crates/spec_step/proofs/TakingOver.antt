@@ -21,7 +21,7 @@ use Rattle.spec_step.specs.declared.events.Event.TheVariants.{Frame, Datagram as
 use Rattle.spec_step.specs.declared.turns.Turn.{Turn}
 use Rattle.spec_step.specs.declared.turns.Turn.TheVariants.{Stays}
 use Rattle.spec_step.specs.GivingWay.{TakesTurn, turn_of}
-use Rattle.spec_step.specs.Parts.{idle_taken, link_answered, link_ticked, old_dropped}
+use Rattle.spec_step.specs.Parts.{idle_taken, link_answered, link_ticked, old_dropped, alone_taken}
 use Rattle.spec_step.specs.Routers.{BothAct, RouterActs}
 use Rattle.spec_step.specs.Settled.{IsSettled}
 use Rattle.spec_step.specs.Shown.{GatewayAndOutput, Shown, has_side_out, is_running, is_up, is_whole, scene, station_on, with_station}
@@ -32,7 +32,7 @@ use Rattle.spec_step.proofs.Giving.{away_by, tick-ticks, turn_as}
 use Rattle.spec_step.proofs.Idle.{idle-at-once}
 use Rattle.spec_step.proofs.Lines.{acts-shown, both-shown}
 use Rattle.spec_step.proofs.Settling.{step-settles}
-use Rattle.spec_step.proofs.Standing.{Keeps, Stands, arp-stands, datagram-stands, echo-stands, error-stands, flow-stands, plug-stands, refused-stands, stands-by, stands-then, ticked-stands, word-stands}
+use Rattle.spec_step.proofs.Standing.{Keeps, Stands, alone-stands, arp-stands, datagram-stands, echo-stands, error-stands, flow-stands, plug-stands, refused-stands, stands-by, stands-then, ticked-stands, word-stands}
 
 -- a router waits in Backup for a timer that is due at the time `due`, or took over already
 abbrev Awaits : Router → ℕ → Type 0
@@ -115,6 +115,7 @@ idle-stands s =
     let l = s.shown.ledger in
     let once = idle-at-once s (idle_keys_in (is_lone l.book.stage) s.shown.moment l.book.entries l.lives) in
     stands-by s (idle_taken s) (ap (λ (x : GatewayAndOutput). x.shown.inside.router) once) (ap (λ (x : GatewayAndOutput). x.shown.outside.router) once)
+    (ap (λ (x : GatewayAndOutput). x.shown.moment) once) (ap (λ (x : GatewayAndOutput). x.shown.away) once)
 
 kept-on : (s s2 : GatewayAndOutput) (side : Side) → Stands s s2 → Keeps (router_on s.shown side) (router_on s2.shown side)
 kept-on s s2 Inside stands = stands.inside
@@ -149,10 +150,13 @@ tick-awaits s now s2 side due step ran runs waits =
     let before : Awaits (router_on g side) due = subst (λ (r : Router). Awaits r due) (sym (on-side s.shown (clock_after s.shown.moment now) side)) waits in
     let acted = both-await first middle side due both before in
     let young = old_dropped middle in
-    let rest = stands-then middle young (link_ticked (idle_taken young)) (stands-by middle young refl refl)
-    (stands-then young (idle_taken young) (link_ticked (idle_taken young)) (idle-stands young) (ticked-stands (idle_taken young))) in
-    let same : s2 ≡ link_ticked (idle_taken young) = step.sends ∙ ap (λ (x : GatewayAndOutput). link_ticked x) does.4 in
-    let ended = over-on middle (link_ticked (idle_taken young)) side due g.moment rest acted in
+    let idle = idle_taken young in
+    let last = alone_taken idle in
+    let rest = stands-then middle young (link_ticked last) (stands-by middle young refl refl refl refl)
+    (stands-then young idle (link_ticked last) (idle-stands young)
+    (stands-then idle last (link_ticked last) (alone-stands idle) (ticked-stands last))) in
+    let same : s2 ≡ link_ticked last = step.sends ∙ ap (λ (x : GatewayAndOutput). link_ticked x) does.4 in
+    let ended = over-on middle (link_ticked last) side due g.moment rest acted in
     subst (λ (n : ℕ). TookOver (router_on s2.shown side) due n) (sym ticks.moment)
     (subst (λ (x : GatewayAndOutput). TookOver (router_on x.shown side) due g.moment) (sym same) ended)
 
@@ -177,7 +181,7 @@ frame-awaits s s2 at side bytes (Err reason) due silent does waits = subst (λ (
 -- the datagram after an event leaves the routers as they are
 answered-awaits : (s s2 done : GatewayAndOutput) (side : Side) (due : ℕ) → s2 ≡ link_answered done → Awaits (router_on done.shown side) due → Awaits (router_on s2.shown side) due
 answered-awaits s s2 done side due sends waits =
-    subst (λ (x : GatewayAndOutput). Awaits (router_on x.shown side) due) (sym sends) (awaits-on done (link_answered done) side due (stands-by done (link_answered done) refl refl) waits)
+    subst (λ (x : GatewayAndOutput). Awaits (router_on x.shown side) due) (sym sends) (awaits-on done (link_answered done) side due (stands-by done (link_answered done) refl refl refl refl) waits)
 
 was-stopped : (synced there : Bool) → ((synced && false) && there) ≡ true → ⊥
 was-stopped true there runs = absurd (cc)
@@ -320,7 +324,7 @@ waits-since s side (Frame at bytes) s2 priority interval step heard backup above
     let does : FrameDoes s side bytes.now (reading_on s.shown at bytes.now) done = subst (λ (x : Side). FrameDoes s x bytes.now (reading_on s.shown at bytes.now) done) heard.0 step.does in
     let first = frame-follows s done side bytes.now (reading_on s.shown at bytes.now) priority interval does heard.1 backup above follows in
     subst (λ (x : GatewayAndOutput). IsBehind x.shown side due) (sym step.sends)
-    (behind-on done (link_answered done) side due (stands-by done (link_answered done) refl refl) first)
+    (behind-on done (link_answered done) side due (stands-by done (link_answered done) refl refl refl refl) first)
 waits-since s side (Comes bytes) s2 priority interval step heard backup above follows = absurd heard
 waits-since s side (Tick now) s2 priority interval step heard backup above follows = absurd heard
 waits-since s side Stop s2 priority interval step heard backup above follows = absurd heard

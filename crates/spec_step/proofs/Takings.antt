@@ -20,7 +20,7 @@ use Rattle.spec_binding.specs.declared.changes.Transition.{Transition}
 use Rattle.spec_binding.specs.declared.changes.PortRequest.{PortRequest}
 use Rattle.spec_binding.specs.declared.changes.Want.TheVariants as want
 use Rattle.spec_binding.specs.Books.{Book, is_lone, is_synced}
-use Rattle.spec_binding.specs.Rows.{is_at_limit, known_wish, may_want, new_pair, new_wish, none_row, noted_by, port_for, proposal, quiet, row, wish, wish_by, wish_of}
+use Rattle.spec_binding.specs.Rows.{is_at_limit, known_wish, may_want, new_pair, new_wish, none_row, noted_by, paired_wish, port_for, proposal, quiet, row, wish, wish_by, wish_of}
 use Rattle.waiting.specs.declared.waits.WaitsFor.{WaitsFor}
 use Rattle.waiting.specs.declared.waits.WaitsFor.TheVariants as wait
 use Rattle.waiting.specs.Packets.{HeldPacket, hop_count, with_room, without_first_hop}
@@ -45,10 +45,13 @@ abbrev pub IsUseless : Transition → Type 0
 IsUseless r = (i : GatewayId) (now : ℕ) → used_pairs (noted_by i now r.what) ≡ []
 
 known-useless : (p : Pair) (s : EntryState) → IsUseless (known_wish p s).row
-known-useless p state.Pending = λ i now. refl
+known-useless p (state.Pending true) = λ i now. refl
+known-useless p (state.Pending false) = λ i now. refl
 known-useless p state.Doomed = λ i now. refl
 known-useless p state.Live = λ i now. refl
-known-useless p state.Closing = λ i now. refl
+known-useless p (state.Closing true) = λ i now. refl
+known-useless p (state.Closing false) = λ i now. refl
+known-useless p state.Alone = λ i now. refl
 known-useless p state.Held = λ i now. refl
 
 pub either-row : (t : Bool) (x y : Transition) → IsUseless x → IsUseless y → IsUseless (cond t x y)
@@ -62,19 +65,23 @@ either-wish false x y a b = b
 none-useless : (b : Book) (full : Bool) → IsUseless (none_row b full)
 none-useless b full = either-row (may_want b full) (row change_of.Want (Some record_of.Want) None) quiet (λ i now. refl) (λ i now. refl)
 
-new-useless : (b : Book) (full : Bool) (e : Endpoint) (o : Option Port) → IsUseless (new_wish b full e o).row
-new-useless b full e None = none-useless b full
-new-useless b full e (Some port) =
-    either-wish (is_lone b.stage) (wish (want.Port port) (row (Add (entry_in state.Live (new_pair e port))) None (Some (Retaken (new_pair e port))))) (cond full (wish want.NotNow quiet) (wish want.Wait (proposal (new_pair e port)))) (λ i now. refl)
-    (either-wish full (wish want.NotNow quiet) (wish want.Wait (proposal (new_pair e port))) (λ i now. refl) (λ i now. refl))
+paired-useless : (apart full : Bool) (p : Pair) → IsUseless (paired_wish apart full p).row
+paired-useless true full p = λ i now. refl
+paired-useless false full p = either-wish full (wish want.NotNow quiet) (wish want.Wait (proposal p)) (λ i now. refl) (λ i now. refl)
 
-by-useless : (b : Book) (full : Bool) (e : Endpoint) (o : Option Entry) → IsUseless (wish_by b full e o).row
-by-useless b full e (Some x) = known-useless x.pair x.state
-by-useless b full e None =
-    either-wish (is_at_limit b e.address) (wish want.HostLimit quiet) (new_wish b full e (port_for b e)) (λ i now. refl) (new-useless b full e (port_for b e))
+new-useless : (b : Book) (apart full : Bool) (e : Endpoint) (o : Option Port) → IsUseless (new_wish b apart full e o).row
+new-useless b apart full e None = none-useless b full
+new-useless b apart full e (Some port) =
+    either-wish (is_lone b.stage) (wish (want.Port port) (row (Add (entry_in state.Live (new_pair e port))) None (Some (Retaken (new_pair e port))))) (paired_wish apart full (new_pair e port)) (λ i now. refl)
+    (paired-useless apart full (new_pair e port))
 
-pub wish-useless : (b : Book) (full : Bool) (e : Endpoint) → IsUseless (wish_of b full e).row
-wish-useless b full e = either-wish (is_synced b.stage) (wish_by b full e (entry_of b.entries e)) (wish want.NotNow quiet) (by-useless b full e (entry_of b.entries e)) (λ i now. refl)
+by-useless : (b : Book) (apart full : Bool) (e : Endpoint) (o : Option Entry) → IsUseless (wish_by b apart full e o).row
+by-useless b apart full e (Some x) = known-useless x.pair x.state
+by-useless b apart full e None =
+    either-wish (is_at_limit b e.address) (wish want.HostLimit quiet) (new_wish b apart full e (port_for b e)) (λ i now. refl) (new-useless b apart full e (port_for b e))
+
+pub wish-useless : (b : Book) (apart full : Bool) (e : Endpoint) → IsUseless (wish_of b apart full e).row
+wish-useless b apart full e = either-wish (is_synced b.stage) (wish_by b apart full e (entry_of b.entries e)) (wish want.NotNow quiet) (by-useless b apart full e (entry_of b.entries e)) (λ i now. refl)
 
 -- the packets that a list loses where a place is made in it
 record IsMade (w : WaitsFor) (kept : List HeldPacket) : Type 0 where

@@ -10,13 +10,15 @@ use Rattle.nat_types.specs.declared.pairs.EntryState.TheVariants as state
 use Rattle.nat_types.specs.declared.pairs.Key.{Key}
 use Rattle.nat_types.specs.declared.pairs.Pair.{Pair}
 use Rattle.nat_types.specs.declared.records.Record.TheVariants as record_of
+use Rattle.nat_types.specs.declared.notes.NoteKind.{NoteKind}
 use Rattle.nat_types.specs.declared.notes.NoteKind.TheVariants.{Retaken}
+use Rattle.nat_types.specs.declared.notes.NoteKind.TheVariants as kinds
 use Rattle.nat_types.specs.Same.{same_key}
 use Rattle.nat_types.proofs.Offered.{key-false, key-self}
 use Rattle.bindings.specs.declared.entries.Entry.{Entry}
-use Rattle.bindings.specs.Entries.{entry_in, entry_of, serves, slot_of, translates}
+use Rattle.bindings.specs.Entries.{entry_in, entry_of, slot_of, translates}
 use Rattle.bindings.specs.Lists.{put_in}
-use Rattle.bindings.proofs.Offered.{entry-serves, found-slot, slot-key, slot-put}
+use Rattle.bindings.proofs.Offered.{entry-serves, entry-slot, slot-key, slot-put}
 use Rattle.ipv4.specs.declared.flows.Flow.{Flow}
 use Rattle.spec_binding.specs.declared.changes.Change.TheVariants.{Add}
 use Rattle.spec_binding.specs.declared.changes.Change.TheVariants as change_of
@@ -24,7 +26,7 @@ use Rattle.spec_binding.specs.declared.changes.Transition.{Transition}
 use Rattle.spec_binding.specs.declared.changes.Want.TheVariants as want
 use Rattle.spec_binding.specs.declared.changes.PortRequest.{PortRequest}
 use Rattle.spec_binding.specs.Books.{Book, IsBook, is_lone, is_synced}
-use Rattle.spec_binding.specs.Rows.{after, carry_row, is_at_limit, known_wish, may_want, new_pair, new_wish, none_row, noted_by, port_for, proposal, quiet, row, use_row, used_row, wish, wish_by, wish_of}
+use Rattle.spec_binding.specs.Rows.{after, carry_row, is_at_limit, known_wish, may_want, new_pair, new_wish, none_row, noted_by, paired_wish, port_for, quiet, row, use_row, used_row, wish, wish_by, wish_of}
 use Rattle.spec_binding.proofs.Offered.{at-key, chosen-says}
 use Rattle.packet_rules.specs.Flows.{target_of}
 use Rattle.spec_step.specs.Shown.{Shown}
@@ -40,10 +42,13 @@ pub record Translates (b : Book) (p : Pair) : Type 0 where
   pub live : translates entry.state ≡ true
 
 state-note : (i : GatewayId) (now : ℕ) (q : Pair) (s : EntryState) → translates s ≡ true → used_pairs (noted_by i now (used_row q s).what) ≡ q ∷ []
-state-note i now q state.Pending is = absurd (cc)
+state-note i now q (state.Pending true) is = refl
+state-note i now q (state.Pending false) is = absurd (cc)
 state-note i now q state.Doomed is = absurd (cc)
 state-note i now q state.Live is = refl
-state-note i now q state.Closing is = absurd (cc)
+state-note i now q (state.Closing true) is = refl
+state-note i now q (state.Closing false) is = absurd (cc)
+state-note i now q state.Alone is = refl
 state-note i now q state.Held is = refl
 
 -- a packet that a pair carries is noted as a use of it
@@ -58,7 +63,7 @@ carry-note b p i now t = at (is_synced b.stage) (slot_of b.entries p.key) t.sync
     at true None synced is = absurd (cc)
     at false o synced is = absurd (cc)
 
-pair-is : (p : Pair) (e : Endpoint) (port : Port) → p.endpoint ≡ e → e.protocol ≡ p.key.protocol → p.key.port ≡ port → p ≡ new_pair e port
+pub pair-is : (p : Pair) (e : Endpoint) (port : Port) → p.endpoint ≡ e → e.protocol ≡ p.key.protocol → p.key.port ≡ port → p ≡ new_pair e port
 pair-is p e port a b c =
     ap (λ (x : Endpoint). let q : Pair = record { key = p.key; endpoint = x } in q) a
     ∙ (ap (λ (x : Protocol). let q : Pair = record { key = record { protocol = x; port = p.key.port }; endpoint = e } in q) (sym b)
@@ -66,11 +71,11 @@ pair-is p e port a b c =
 
 -- ---- the pair of an endpoint whose packet is translated at once
 
-module _ (b : Book) (full : Bool) (e : Endpoint) (is : IsBook b) where
+module _ (b : Book) (apart full : Bool) (e : Endpoint) (is : IsBook b) where
   -- packets are translated by the pair that an endpoint has already, where its entry translates
   known-owns : is_synced b.stage ≡ true → (x : Entry) → entry_of b.entries e ≡ Some x → (port : Port) → x.pair.key.port ≡ port → translates x.state ≡ true → Translates b (new_pair e port)
   known-owns synced x there port at live =
-      let found = found-slot (serves e) b.entries x is.keys there in
+      let found = entry-slot b.entries e x is.keys there in
       let formed = is.formed x.pair.key x found in
       let serving = (entry-serves b.entries e x there).1 in
       let same = pair-is x.pair e port serving (ap (λ (q : Endpoint). q.protocol) (sym serving) ∙ formed.protocol) at in
@@ -84,56 +89,60 @@ module _ (b : Book) (full : Bool) (e : Endpoint) (is : IsBook b) where
 
   known-says : is_synced b.stage ≡ true → (x : Entry) → entry_of b.entries e ≡ Some x → (p : Pair) (s : EntryState) → x.pair ≡ p → x.state ≡ s → (port : Port) → (known_wish p s).answer ≡ want.Port port
       → Translates (after b (known_wish p s).row) (new_pair e port)
-  known-says synced x there p state.Pending pair st port says = absurd (cc)
+  known-says synced x there p (state.Pending true) pair st port says = let one : p.key.port ≡ port = cc in known-owns synced x there port (ap (λ (q : Pair). q.key.port) pair ∙ one) (ap translates st)
+  known-says synced x there p (state.Pending false) pair st port says = absurd (cc)
   known-says synced x there p state.Doomed pair st port says = absurd (cc)
   known-says synced x there p state.Live pair st port says = let one : p.key.port ≡ port = cc in known-owns synced x there port (ap (λ (q : Pair). q.key.port) pair ∙ one) (ap translates st)
-  known-says synced x there p state.Closing pair st port says = absurd (cc)
+  known-says synced x there p (state.Closing true) pair st port says = let one : p.key.port ≡ port = cc in known-owns synced x there port (ap (λ (q : Pair). q.key.port) pair ∙ one) (ap translates st)
+  known-says synced x there p (state.Closing false) pair st port says = absurd (cc)
+  known-says synced x there p state.Alone pair st port says = let one : p.key.port ≡ port = cc in known-owns synced x there port (ap (λ (q : Pair). q.key.port) pair ∙ one) (ap translates st)
   known-says synced x there p state.Held pair st port says = let one : p.key.port ≡ port = cc in known-owns synced x there port (ap (λ (q : Pair). q.key.port) pair ∙ one) (ap translates st)
 
-  -- packets are translated by the pair that is added for an endpoint
-  new-owns : is_synced b.stage ≡ true → (q port : Port) → port_for b e ≡ Some q → q ≡ port → Translates (after b (row (Add (entry_in state.Live (new_pair e q))) None (Some (Retaken (new_pair e q))))) (new_pair e port)
-  new-owns synced q port chosen same =
+  -- packets are translated by the pair that is added for an endpoint, in a state in which it translates
+  new-owns : is_synced b.stage ≡ true → (q port : Port) (s : EntryState) (what : Option NoteKind) → port_for b e ≡ Some q → q ≡ port → translates s ≡ true → Translates (after b (row (Add (entry_in s (new_pair e q))) None what)) (new_pair e port)
+  new-owns synced q port s what chosen same live =
       let fresh = chosen-says b e q chosen in
-      let there : Translates (after b (row (Add (entry_in state.Live (new_pair e q))) None (Some (Retaken (new_pair e q))))) (new_pair e q) = record {
+      let there : Translates (after b (row (Add (entry_in s (new_pair e q))) None what)) (new_pair e q) = record {
         synced = synced;
-        entry = entry_in state.Live (new_pair e q);
-        found = slot-put (entry_in state.Live (new_pair e q)) b.entries (new_pair e q).key fresh.free ∙ self (new_pair e q).key;
+        entry = entry_in s (new_pair e q);
+        found = slot-put (entry_in s (new_pair e q)) b.entries (new_pair e q).key fresh.free ∙ self (new_pair e q).key;
         pair = refl;
-        live = refl;
+        live = live;
       } in
-      subst (λ (x : Port). Translates (after b (row (Add (entry_in state.Live (new_pair e q))) None (Some (Retaken (new_pair e q))))) (new_pair e x)) same there
+      subst (λ (x : Port). Translates (after b (row (Add (entry_in s (new_pair e q))) None what)) (new_pair e x)) same there
     where
-      self : (k : Key) → cond (same_key k k) (Some (entry_in state.Live (new_pair e q))) (slot_of b.entries k) ≡ Some (entry_in state.Live (new_pair e q))
+      self : (k : Key) → cond (same_key k k) (Some (entry_in s (new_pair e q))) (slot_of b.entries k) ≡ Some (entry_in s (new_pair e q))
       self k = cond-true (same_key k k) _ _ (key-self k)
 
-  new-says : is_synced b.stage ≡ true → (o : Option Port) → port_for b e ≡ o → (port : Port) → (new_wish b full e o).answer ≡ want.Port port → Translates (after b (new_wish b full e o).row) (new_pair e port)
+  new-says : is_synced b.stage ≡ true → (o : Option Port) → port_for b e ≡ o → (port : Port) → (new_wish b apart full e o).answer ≡ want.Port port → Translates (after b (new_wish b apart full e o).row) (new_pair e port)
   new-says synced None there port says = absurd (cc)
   new-says synced (Some q) there port says = at (is_lone b.stage) says
     where
-      second : (t : Bool) → (let w : PortRequest = cond t (wish want.NotNow quiet) (wish want.Wait (proposal (new_pair e q))) in w.answer) ≡ want.Port port → ⊥
-      second true says = absurd (cc)
-      second false says = absurd (cc)
+      second : (apart full : Bool) → (paired_wish apart full (new_pair e q)).answer ≡ want.Port port → Translates (after b (paired_wish apart full (new_pair e q)).row) (new_pair e port)
+      second true full says = let same : q ≡ port = cc in new-owns synced q port state.Alone (Some (kinds.Alone (new_pair e q))) there same refl
+      second false true says = absurd (cc)
+      second false false says = absurd (cc)
 
-      at : (t : Bool) → (let w : PortRequest = cond t (wish (want.Port q) (row (Add (entry_in state.Live (new_pair e q))) None (Some (Retaken (new_pair e q))))) (cond full (wish want.NotNow quiet) (wish want.Wait (proposal (new_pair e q)))) in w.answer) ≡ want.Port port
-          → Translates (after b (let w : PortRequest = cond t (wish (want.Port q) (row (Add (entry_in state.Live (new_pair e q))) None (Some (Retaken (new_pair e q))))) (cond full (wish want.NotNow quiet) (wish want.Wait (proposal (new_pair e q)))) in w.row)) (new_pair e port)
-      at true says = let same : q ≡ port = cc in new-owns synced q port there same
-      at false says = absurd (second full says)
+      at : (t : Bool) → (let w : PortRequest = cond t (wish (want.Port q) (row (Add (entry_in state.Live (new_pair e q))) None (Some (Retaken (new_pair e q))))) (paired_wish apart full (new_pair e q)) in w.answer) ≡ want.Port port
+          → Translates (after b (let w : PortRequest = cond t (wish (want.Port q) (row (Add (entry_in state.Live (new_pair e q))) None (Some (Retaken (new_pair e q))))) (paired_wish apart full (new_pair e q)) in w.row)) (new_pair e port)
+      at true says = let same : q ≡ port = cc in new-owns synced q port state.Live (Some (Retaken (new_pair e q))) there same refl
+      at false says = second apart full says
 
-  by-says : is_synced b.stage ≡ true → (o : Option Entry) → entry_of b.entries e ≡ o → (port : Port) → (wish_by b full e o).answer ≡ want.Port port → Translates (after b (wish_by b full e o).row) (new_pair e port)
+  by-says : is_synced b.stage ≡ true → (o : Option Entry) → entry_of b.entries e ≡ o → (port : Port) → (wish_by b apart full e o).answer ≡ want.Port port → Translates (after b (wish_by b apart full e o).row) (new_pair e port)
   by-says synced (Some x) there port says = known-says synced x there x.pair x.state refl refl port says
   by-says synced None there port says = at (is_at_limit b e.address) says
     where
-      at : (t : Bool) → (let w : PortRequest = cond t (wish want.HostLimit quiet) (new_wish b full e (port_for b e)) in w.answer) ≡ want.Port port
-          → Translates (after b (let w : PortRequest = cond t (wish want.HostLimit quiet) (new_wish b full e (port_for b e)) in w.row)) (new_pair e port)
+      at : (t : Bool) → (let w : PortRequest = cond t (wish want.HostLimit quiet) (new_wish b apart full e (port_for b e)) in w.answer) ≡ want.Port port
+          → Translates (after b (let w : PortRequest = cond t (wish want.HostLimit quiet) (new_wish b apart full e (port_for b e)) in w.row)) (new_pair e port)
       at true says = absurd (cc)
       at false says = new-says synced (port_for b e) refl port says
 
   -- an endpoint whose wish is answered with a port has a pair that translates afterwards
-  pub wish-owns : (port : Port) → (wish_of b full e).answer ≡ want.Port port → Translates (after b (wish_of b full e).row) (new_pair e port)
+  pub wish-owns : (port : Port) → (wish_of b apart full e).answer ≡ want.Port port → Translates (after b (wish_of b apart full e).row) (new_pair e port)
   wish-owns port says = at (is_synced b.stage) refl says
     where
-      at : (t : Bool) → is_synced b.stage ≡ t → (let w : PortRequest = cond t (wish_by b full e (entry_of b.entries e)) (wish want.NotNow quiet) in w.answer) ≡ want.Port port
-          → Translates (after b (let w : PortRequest = cond t (wish_by b full e (entry_of b.entries e)) (wish want.NotNow quiet) in w.row)) (new_pair e port)
+      at : (t : Bool) → is_synced b.stage ≡ t → (let w : PortRequest = cond t (wish_by b apart full e (entry_of b.entries e)) (wish want.NotNow quiet) in w.answer) ≡ want.Port port
+          → Translates (after b (let w : PortRequest = cond t (wish_by b apart full e (entry_of b.entries e)) (wish want.NotNow quiet) in w.row)) (new_pair e port)
       at true synced says = by-says synced (entry_of b.entries e) refl port says
       at false synced says = absurd (cc)
 
@@ -157,10 +166,13 @@ module _ (b : Book) (full : Bool) (e : Endpoint) (is : IsBook b) where
         other same = let clash : None ≡ Some t.entry = sym free ∙ (ap (slot_of b.entries) same ∙ t.found) in absurd (cc)
 
     known-still : (q : Pair) (s : EntryState) → Translates (after b (known_wish q s).row) p
-    known-still q state.Pending = same-still
+    known-still q (state.Pending true) = same-still
+    known-still q (state.Pending false) = same-still
     known-still q state.Doomed = same-still
     known-still q state.Live = same-still
-    known-still q state.Closing = same-still
+    known-still q (state.Closing true) = same-still
+    known-still q (state.Closing false) = same-still
+    known-still q state.Alone = same-still
     known-still q state.Held = same-still
 
     none-still : Translates (after b (none_row b full)) p
@@ -170,30 +182,34 @@ module _ (b : Book) (full : Bool) (e : Endpoint) (is : IsBook b) where
         at true = record { synced = t.synced; entry = t.entry; found = t.found; pair = t.pair; live = t.live }
         at false = same-still
 
-    new-still : (o : Option Port) → port_for b e ≡ o → Translates (after b (new_wish b full e o).row) p
+    new-still : (o : Option Port) → port_for b e ≡ o → Translates (after b (new_wish b apart full e o).row) p
     new-still None there = none-still
-    new-still (Some port) there = at (is_lone b.stage) full
+    new-still (Some port) there = at (is_lone b.stage)
       where
         free : slot_of b.entries (new_pair e port).key ≡ None
         free = (chosen-says b e port there).free
 
-        at : (c d : Bool) → Translates (after b (let w : PortRequest = cond c (wish (want.Port port) (row (Add (entry_in state.Live (new_pair e port))) None (Some (Retaken (new_pair e port))))) (cond d (wish want.NotNow quiet) (wish want.Wait (proposal (new_pair e port)))) in w.row)) p
-        at true d = put-still (entry_in state.Live (new_pair e port)) free
-        at false true = same-still
-        at false false = put-still (entry_in state.Pending (new_pair e port)) free
+        paired : (apart full : Bool) → Translates (after b (paired_wish apart full (new_pair e port)).row) p
+        paired true full = put-still (entry_in state.Alone (new_pair e port)) free
+        paired false true = same-still
+        paired false false = put-still (entry_in (state.Pending false) (new_pair e port)) free
 
-    pub wish-still : Translates (after b (wish_of b full e).row) p
+        at : (c : Bool) → Translates (after b (let w : PortRequest = cond c (wish (want.Port port) (row (Add (entry_in state.Live (new_pair e port))) None (Some (Retaken (new_pair e port))))) (paired_wish apart full (new_pair e port)) in w.row)) p
+        at true = put-still (entry_in state.Live (new_pair e port)) free
+        at false = paired apart full
+
+    pub wish-still : Translates (after b (wish_of b apart full e).row) p
     wish-still = at (is_synced b.stage)
       where
-        limited : (c : Bool) → Translates (after b (let w : PortRequest = cond c (wish want.HostLimit quiet) (new_wish b full e (port_for b e)) in w.row)) p
+        limited : (c : Bool) → Translates (after b (let w : PortRequest = cond c (wish want.HostLimit quiet) (new_wish b apart full e (port_for b e)) in w.row)) p
         limited true = same-still
         limited false = new-still (port_for b e) refl
 
-        by : (o : Option Entry) → entry_of b.entries e ≡ o → Translates (after b (wish_by b full e o).row) p
+        by : (o : Option Entry) → entry_of b.entries e ≡ o → Translates (after b (wish_by b apart full e o).row) p
         by (Some x) there = known-still x.pair x.state
         by None there = limited (is_at_limit b e.address)
 
-        at : (c : Bool) → Translates (after b (let w : PortRequest = cond c (wish_by b full e (entry_of b.entries e)) (wish want.NotNow quiet) in w.row)) p
+        at : (c : Bool) → Translates (after b (let w : PortRequest = cond c (wish_by b apart full e (entry_of b.entries e)) (wish want.NotNow quiet) in w.row)) p
         at true = by (entry_of b.entries e) refl
         at false = same-still
 
@@ -218,10 +234,13 @@ target-translates g flow p synced is = at (slot_of g.ledger.book.entries (target
     )
 
     state-of : (x : Entry) → slot_of g.ledger.book.entries (target_of flow) ≡ Some x → (s : EntryState) → x.state ≡ s → pair_in s x.pair ≡ Ok p → IsThere g flow p
-    state-of x there state.Pending st is = absurd (cc)
+    state-of x there (state.Pending true) st is = let same : x.pair ≡ p = cc in made x there same (ap translates st)
+    state-of x there (state.Pending false) st is = absurd (cc)
     state-of x there state.Doomed st is = absurd (cc)
     state-of x there state.Live st is = let same : x.pair ≡ p = cc in made x there same (ap translates st)
-    state-of x there state.Closing st is = absurd (cc)
+    state-of x there (state.Closing true) st is = let same : x.pair ≡ p = cc in made x there same (ap translates st)
+    state-of x there (state.Closing false) st is = absurd (cc)
+    state-of x there state.Alone st is = let same : x.pair ≡ p = cc in made x there same (ap translates st)
     state-of x there state.Held st is = let same : x.pair ≡ p = cc in made x there same (ap translates st)
 
     at : (o : Option Entry) → slot_of g.ledger.book.entries (target_of flow) ≡ o → pair_at o ≡ Ok p → IsThere g flow p

@@ -20,10 +20,10 @@ use Rattle.link.specs.Link.{Link, after_take, closed_at, is_due_on_tick, is_rest
 use Rattle.link.specs.Reading.{reading}
 use Rattle.link.proofs.Offered.{all_taken, reading_takes}
 use Rattle.spec_binding.specs.Books.{is_lone, is_synced}
-use Rattle.spec_binding.specs.Ledgers.{alone_ledger, may_ask, restarted_ledger, rests_for, taken_ledger}
+use Rattle.spec_binding.specs.Ledgers.{alone_ledger, may_ask, restarted_ledger, rests_for, taken_ledger, sought_keys}
 use Rattle.spec_binding.specs.Resets.{back_in, restart_link, restart_notes, retaken}
-use Rattle.spec_binding.specs.Rows.{answered, idle_row, noted_by, taken_answer, taken_ended, taken_what}
-use Rattle.spec_binding.proofs.Offered.{alone-keeps, idle-keeps, restart-keeps, taken-keeps}
+use Rattle.spec_binding.specs.Rows.{answered, idle_row, noted_by, taken_answer, taken_ended, taken_what, alone_row, is_full}
+use Rattle.spec_binding.proofs.Offered.{alone-keeps, idle-keeps, restart-keeps, taken-keeps, alone-row-keeps}
 use Rattle.waiting.specs.declared.waits.Ended.TheVariants.{AllPairs, One}
 use Rattle.waiting.specs.declared.waits.WaitsFor.TheVariants as wait
 use Rattle.packet_rules.specs.declared.networks.Networks.{Networks}
@@ -41,8 +41,8 @@ use Rattle.vrrp_states.specs.Table.{Event as RouterEvent, Router}
 use Rattle.spec_step.specs.declared.events.Event.{Event}
 use Rattle.spec_step.specs.declared.events.Event.TheVariants.{Frame, Datagram as Comes, Tick, Stop, PeerOff, Side as SideIs}
 use Rattle.spec_step.specs.Machine.{AreBytes, HasBytes}
-use Rattle.spec_step.specs.Parts.{acted, all_framed, all_idle_done, answered_by, arp_taken, datagram_in, datagram_read, flow_taken, framed, frames_of, handed_in, has_synced, heard_by, heard_unless, idle_done, idle_taken, link_answered, link_ticked, old_dropped, record_done, record_shown, record_told, records_done, released, reset, started, wait_ended, with_link, word_taken, side_plugged, error_taken, echo_taken, refused}
-use Rattle.spec_step.specs.Shown.{GatewayAndOutput, Shown, id_of, is_running, scene, station_on, with_notes, with_station}
+use Rattle.spec_step.specs.Parts.{acted, all_framed, all_idle_done, answered_by, arp_taken, datagram_in, datagram_read, flow_taken, framed, frames_of, handed_in, has_synced, heard_by, heard_unless, idle_done, idle_taken, link_answered, link_ticked, old_dropped, record_done, record_shown, record_told, records_done, released, reset, started, wait_ended, with_link, word_taken, side_plugged, error_taken, echo_taken, refused, all_sought_done, alone_taken, gone_alone, peer_told, sought_done}
+use Rattle.spec_step.specs.Shown.{GatewayAndOutput, Shown, id_of, is_running, scene, station_on, with_notes, with_station, is_apart}
 use Rattle.spec_step.specs.Routers.{BothAct, RouterActs}
 use Rattle.spec_step.specs.GivingWay.{GivingWay, left, turn_of}
 use Rattle.spec_step.specs.Steps.{Does, FrameDoes, IsStepOn, ended_on, last_moment, stopped, ticked, word_by, word_refusal}
@@ -53,10 +53,10 @@ use Rattle.spec_step.proofs.Turning.{back_as, turn-by}
 use Rattle.spec_step.proofs.Packets.{kept-filter}
 use Rattle.spec_step.proofs.Passing.{IsSound}
 use Rattle.spec_step.proofs.Saying.{Saying, Speaks, framed-says, packet-says, released-says, row-says, saying-nothing, saying-then, speaks-then, error-packet-says, echo-says, refused-says}
-use Rattle.spec_step.proofs.Rooting.{alone-rooted, idle-roots, restart-rooted, taken-roots}
+use Rattle.spec_step.proofs.Rooting.{alone-rooted, idle-roots, restart-rooted, taken-roots, alone-row-roots}
 use Rattle.spec_step.proofs.Sending.{Frames, advert-other, answer-other, gratuitous-other, own-six}
 use Rattle.spec_step.proofs.Telling.{Told, at_hand, old-tells, tells-quietly, tells-then, tells-unseen}
-use Rattle.spec_step.proofs.Unused.{idle-useless, restart-useless, retaken-useless, taken-useless}
+use Rattle.spec_step.proofs.Unused.{idle-useless, restart-useless, retaken-useless, taken-useless, alone-useless}
 use Rattle.spec_step.specs.Others.{is_other}
 
 -- what is told of a part that leaves what decides where packets go is true
@@ -169,7 +169,7 @@ acted-says frames s side station action rest =
 router-says : Frames → (s : GatewayAndOutput) (side : Side) (event : RouterEvent) (s2 : GatewayAndOutput) → RouterActs s side event s2 → Saying [] s s2
 router-says frames s side event s2 acts = subst (λ (x : GatewayAndOutput). Saying [] s x) (sym acts.is) (acted-says frames s side acts.station acts.action acts.step.rest)
 
-both-say : Frames → (s : GatewayAndOutput) (event : RouterEvent) (s2 : GatewayAndOutput) → BothAct s event s2 → Saying [] s s2
+pub both-say : Frames → (s : GatewayAndOutput) (event : RouterEvent) (s2 : GatewayAndOutput) → BothAct s event s2 → Saying [] s s2
 both-say frames s event s2 both =
     saying-then [] [] s both.between s2 (router-says frames s Inside event both.between both.inside) (router-says frames both.between Outside event s2 both.outside)
 
@@ -339,14 +339,35 @@ word-says frames s n (Some reason) is = saying-nothing s []
 idle-says : (s : GatewayAndOutput) (k : Key) → Saying [] s (idle_done s k)
 idle-says s k =
     let b = s.shown.ledger.book in
-    let ask = may_ask s.shown.moment s.shown.link in
+    let ask = may_ask s.shown.moment b s.shown.link in
     row-says s (idle_row b ask k) (idle-useless b ask k) (idle-roots b ask k) (λ is. idle-keeps b ask k is)
 
-all-idle-say : (s : GatewayAndOutput) (ks : List Key) → Saying [] s (all_idle_done s ks)
+pub all-idle-say : (s : GatewayAndOutput) (ks : List Key) → Saying [] s (all_idle_done s ks)
 all-idle-say s [] = saying-nothing s []
 all-idle-say s (k ∷ ks) = saying-then [] [] s (idle_done s k) (all_idle_done s (k ∷ ks)) (idle-says s k) (all-idle-say (idle_done s k) ks)
 
-old-says : (s : GatewayAndOutput) → Saying [] s (old_dropped s)
+sought-says : (apart : Bool) (s : GatewayAndOutput) (k : Key) → Saying [] s (sought_done apart s k)
+sought-says apart s k =
+    let b = s.shown.ledger.book in
+    let full = is_full s.shown.link in
+    row-says s (alone_row b apart full k) (alone-useless b apart full k) (alone-row-roots b apart full k) (λ is. alone-row-keeps b apart full k is)
+
+pub all-sought-say : (apart : Bool) (s : GatewayAndOutput) (ks : List Key) → Saying [] s (all_sought_done apart s ks)
+all-sought-say apart s [] = saying-nothing s []
+all-sought-say apart s (k ∷ ks) = saying-then [] [] s (sought_done apart s k) (all_sought_done apart s (k ∷ ks)) (sought-says apart s k) (all-sought-say apart (sought_done apart s k) ks)
+
+-- nothing false is told between the idle pairs of a tick and the link
+alone-says : Frames → (s : GatewayAndOutput) → Saying [] s (alone_taken s)
+alone-says frames s = at (is_apart s.shown)
+  where
+    at : (t : Bool) → Saying [] s (let x : GatewayAndOutput = cond t (gone_alone s) (peer_told s) in x)
+    at true =
+        let keys = sought_keys true s.shown.ledger.book.entries in
+        let marked = all_sought_done true s keys in
+        saying-then [] [] s marked (gone_alone s) (all-sought-say true s keys) (released-says frames marked AllPairs)
+    at false = all-sought-say false s (sought_keys false s.shown.ledger.book.entries)
+
+pub old-says : (s : GatewayAndOutput) → Saying [] s (old_dropped s)
 old-says s = λ is w. (
   record { tells = old-tells s; sound = record { book = is.book; kept = kept-filter _ s.shown.kept is.kept }; wired = w },
   refl,
@@ -358,7 +379,7 @@ stopped-says s = λ is w. (
   refl,
 )
 
-ticked-speaks : (s : GatewayAndOutput) (now : ℕ) → Speaks [] s (ticked s now)
+pub ticked-speaks : (s : GatewayAndOutput) (now : ℕ) → Speaks [] s (ticked s now)
 ticked-speaks s now = λ is w. record {
   tells = tells-unseen s (ticked s now) refl refl refl refl (refl, (refl, le-max_left s.shown.moment (min now last_moment)));
   sound = record { book = is.book; kept = is.kept };
@@ -366,7 +387,7 @@ ticked-speaks s now = λ is w. record {
 }
 
 -- nothing false is told at the turn of a tick
-turn-says : Frames → (s s2 : GatewayAndOutput) → GivingWay s s2 → Saying [] s s2
+pub turn-says : Frames → (s s2 : GatewayAndOutput) → GivingWay s s2 → Saying [] s s2
 turn-says frames s s2 takes =
     turn-by (λ x. Saying [] s x) s s2
     (λ middle both. saying-then [] [] s middle (left middle) (both-say frames s table.Stop middle both) (left-says middle))
@@ -415,10 +436,13 @@ does-speak frames s (Tick now) done does has =
     let middle = does.1 in
     let young = old_dropped middle in
     let l = young.shown.ledger in
-    let parts = saying-then [] [] start turned (idle_taken young) (turn-says frames start turned does.2)
-    (saying-then [] [] turned middle (idle_taken young) (both-say frames turned table.Tick middle does.3)
-    (saying-then [] [] middle young (idle_taken young) (old-says middle) (all-idle-say young (idle_keys_in (is_lone l.book.stage) young.shown.moment l.book.entries l.lives)))) in
-    subst (λ (x : GatewayAndOutput). Speaks [] s x) (sym does.4) (speaks-then [] [] s start (idle_taken young) (ticked-speaks s now) parts)
+    let idle = idle_taken young in
+    let last = alone_taken idle in
+    let parts = saying-then [] [] start turned last (turn-says frames start turned does.2)
+    (saying-then [] [] turned middle last (both-say frames turned table.Tick middle does.3)
+    (saying-then [] [] middle young last (old-says middle)
+    (saying-then [] [] young idle last (all-idle-say young (idle_keys_in (is_lone l.book.stage) young.shown.moment l.book.entries l.lives)) (alone-says frames idle)))) in
+    subst (λ (x : GatewayAndOutput). Speaks [] s x) (sym does.4) (speaks-then [] [] s start last (ticked-speaks s now) parts)
 does-speak frames s Stop done does has =
     let middle = does.0 in
     subst (λ (x : GatewayAndOutput). Speaks [] s x) (sym does.2)

@@ -1,6 +1,6 @@
 -- The notes of a record, an idle pair, a greater boot and the operator's word: none is a use of a
 -- pair.
-use Rattle.std.proofs.Common.{◌≡◌, ℕ, Bool, true, false, cond, ◌&&◌, is_none, Option, Some, None, List, [], ◌∷◌, refl}
+use Rattle.std.proofs.Common.{◌≡◌, ℕ, Bool, true, false, cond, Option, Some, None, List, [], ◌∷◌, refl}
 use Rattle.nat_types.specs.declared.gateways.GatewayId.{GatewayId}
 use Rattle.nat_types.specs.declared.notes.NoteKind.{NoteKind}
 use Rattle.nat_types.specs.declared.notes.NoteKind.TheVariants.{Retaken}
@@ -16,9 +16,9 @@ use Rattle.bindings.specs.declared.entries.Entry.{Entry}
 use Rattle.bindings.specs.Entries.{entry_of, slot_of}
 use Rattle.spec_binding.specs.declared.changes.Change.TheVariants as change_of
 use Rattle.spec_binding.specs.declared.changes.Transition.{Transition}
-use Rattle.spec_binding.specs.Books.{Book, is_lone, is_promised, is_synced, load_of}
+use Rattle.spec_binding.specs.Books.{Book, is_lone, is_paired, is_promised, is_synced, load_of}
 use Rattle.spec_binding.specs.Resets.{restart_notes, retaken, back_in}
-use Rattle.spec_binding.specs.Rows.{accept_row, accepted_row, answering, ask_row, asked_row, ending, gives_way, grant_row, idle_row, install_row, is_theirs, left_row, load_what, no_row, noted_by, proposed_row, quiet, refuse_row, refused_row, release_row, released_row, row, row_of, stayed_row, synced_row, taken_what, unsynced_what, yes_row}
+use Rattle.spec_binding.specs.Rows.{accept_row, accepted_row, answering, ask_row, asked_row, ending, gives_way, grant_row, alone_row, idle_row, install_row, is_takeable, left_row, load_what, no_row, marked_row, noted_by, proposed_row, quiet, refuse_row, refused_row, release_row, released_row, row, row_of, sought_row, stayed_row, synced_row, taken_what, taking, telling_row, told_row, unsynced_what, yes_row}
 use Rattle.resync.specs.Loading.{Load, loaded}
 use Rattle.spec_step.specs.Truly.{used_pairs}
 use Rattle.spec_step.proofs.Takings.{IsUseless, either-row}
@@ -31,14 +31,19 @@ proposed-useless b p (Some x) = either-row (gives_way b.id x.state) (ending p.en
 
 install-useless : (b : Book) (p : Pair) → IsUseless (install_row b p)
 install-useless b p =
-    either-row (is_theirs b p.key.port.0 && is_none (slot_of b.entries p.key)) (proposed_row b p (entry_of b.entries p.endpoint)) (answering (rec.Refuse p.key))
+    either-row (is_takeable b p) (proposed_row b p (entry_of b.entries p.endpoint)) (answering (rec.Refuse p.key))
     (proposed-useless b p (entry_of b.entries p.endpoint)) (λ i now. refl)
 
+told-useless : (b : Book) (p : Pair) → IsUseless (told_row b p)
+told-useless b p = either-row (is_takeable b p) (taking p) (answering (rec.Refuse p.key)) (λ i now. refl) (λ i now. refl)
+
 accepted-useless : (p : Pair) (s : EntryState) → IsUseless (accepted_row p s)
-accepted-useless p state.Pending = λ i now. refl
+accepted-useless p (state.Pending true) = λ i now. refl
+accepted-useless p (state.Pending false) = λ i now. refl
 accepted-useless p state.Doomed = λ i now. refl
 accepted-useless p state.Live = λ i now. refl
-accepted-useless p state.Closing = λ i now. refl
+accepted-useless p (state.Closing m) = λ i now. refl
+accepted-useless p state.Alone = λ i now. refl
 accepted-useless p state.Held = λ i now. refl
 
 accept-useless : (o : Option Entry) → IsUseless (accept_row o)
@@ -46,10 +51,12 @@ accept-useless None = λ i now. refl
 accept-useless (Some x) = accepted-useless x.pair x.state
 
 refused-useless : (p : Pair) (s : EntryState) → IsUseless (refused_row p s)
-refused-useless p state.Pending = λ i now. refl
+refused-useless p (state.Pending true) = λ i now. refl
+refused-useless p (state.Pending false) = λ i now. refl
 refused-useless p state.Doomed = λ i now. refl
 refused-useless p state.Live = λ i now. refl
-refused-useless p state.Closing = λ i now. refl
+refused-useless p (state.Closing m) = λ i now. refl
+refused-useless p state.Alone = λ i now. refl
 refused-useless p state.Held = λ i now. refl
 
 refuse-useless : (o : Option Entry) → IsUseless (refuse_row o)
@@ -57,10 +64,11 @@ refuse-useless None = λ i now. refl
 refuse-useless (Some x) = refused-useless x.pair x.state
 
 asked-useless : (p : Pair) (rests : Bool) (s : EntryState) → IsUseless (asked_row p rests s)
-asked-useless p rests state.Pending = λ i now. refl
+asked-useless p rests (state.Pending m) = λ i now. refl
 asked-useless p rests state.Doomed = λ i now. refl
 asked-useless p rests state.Live = λ i now. refl
-asked-useless p rests state.Closing = λ i now. refl
+asked-useless p rests (state.Closing m) = λ i now. refl
+asked-useless p rests state.Alone = λ i now. refl
 asked-useless p true state.Held = λ i now. refl
 asked-useless p false state.Held = λ i now. refl
 
@@ -69,10 +77,12 @@ ask-useless k rests None = λ i now. refl
 ask-useless k rests (Some x) = asked-useless x.pair rests x.state
 
 left-useless : (p : Pair) (s : EntryState) → IsUseless (left_row p s)
-left-useless p state.Pending = λ i now. refl
+left-useless p (state.Pending m) = λ i now. refl
 left-useless p state.Doomed = λ i now. refl
 left-useless p state.Live = λ i now. refl
-left-useless p state.Closing = λ i now. refl
+left-useless p (state.Closing true) = λ i now. refl
+left-useless p (state.Closing false) = λ i now. refl
+left-useless p state.Alone = λ i now. refl
 left-useless p state.Held = λ i now. refl
 
 yes-useless : (o : Option Entry) → IsUseless (yes_row o)
@@ -80,10 +90,11 @@ yes-useless None = λ i now. refl
 yes-useless (Some x) = left-useless x.pair x.state
 
 stayed-useless : (p : Pair) (s : EntryState) → IsUseless (stayed_row p s)
-stayed-useless p state.Pending = λ i now. refl
+stayed-useless p (state.Pending m) = λ i now. refl
 stayed-useless p state.Doomed = λ i now. refl
 stayed-useless p state.Live = λ i now. refl
-stayed-useless p state.Closing = λ i now. refl
+stayed-useless p (state.Closing m) = λ i now. refl
+stayed-useless p state.Alone = λ i now. refl
 stayed-useless p state.Held = λ i now. refl
 
 no-useless : (o : Option Entry) → IsUseless (no_row o)
@@ -106,6 +117,7 @@ synced-useless b rests rec.Done = λ i now. refl
 synced-useless b rests rec.Want = λ i now. refl
 synced-useless b rests (rec.Grant g) = grant-useless b g
 synced-useless b rests (rec.Owner first last) = λ i now. refl
+synced-useless b rests (rec.Tell p) = told-useless b p
 
 -- ---- a record at any gateway
 
@@ -122,6 +134,7 @@ load-useless rec.Done None i now = refl
 load-useless rec.Want None i now = refl
 load-useless (rec.Grant g) None i now = refl
 load-useless (rec.Owner first last) None i now = refl
+load-useless (rec.Tell p) None i now = refl
 load-useless (rec.Install p) (Some l) i now = refl
 load-useless (rec.Accept k) (Some l) i now = refl
 load-useless (rec.Refuse k) (Some l) i now = refl
@@ -134,6 +147,7 @@ load-useless rec.Done (Some l) i now = refl
 load-useless rec.Want (Some l) i now = refl
 load-useless (rec.Grant g) (Some l) i now = refl
 load-useless (rec.Owner first last) (Some l) i now = refl
+load-useless (rec.Tell p) (Some l) i now = refl
 
 pub taken-useless : (b : Book) (rests : Bool) (r : Record) (i : GatewayId) (now : ℕ) → used_pairs (noted_by i now (taken_what b rests r)) ≡ []
 taken-useless b rests r i now = at (is_synced b.stage)
@@ -149,12 +163,13 @@ taken-useless b rests r i now = at (is_synced b.stage)
 -- ---- an idle pair
 
 released-useless : (lone ask : Bool) (p : Pair) (s : EntryState) → IsUseless (released_row lone ask p s)
-released-useless lone ask p state.Pending = λ i now. refl
+released-useless lone ask p (state.Pending m) = λ i now. refl
 released-useless lone ask p state.Doomed = λ i now. refl
 released-useless true ask p state.Live = λ i now. refl
 released-useless false true p state.Live = λ i now. refl
 released-useless false false p state.Live = λ i now. refl
-released-useless lone ask p state.Closing = λ i now. refl
+released-useless lone ask p (state.Closing m) = λ i now. refl
+released-useless lone ask p state.Alone = λ i now. refl
 released-useless true ask p state.Held = λ i now. refl
 released-useless false ask p state.Held = λ i now. refl
 
@@ -164,6 +179,35 @@ release-useless lone ask (Some x) = released-useless lone ask x.pair x.state
 
 pub idle-useless : (b : Book) (ask : Bool) (k : Key) → IsUseless (idle_row b ask k)
 idle-useless b ask k = either-row (is_synced b.stage) (release_row (is_lone b.stage) ask (slot_of b.entries k)) quiet (release-useless (is_lone b.stage) ask (slot_of b.entries k)) (λ i now. refl)
+
+-- ---- going on alone, at a tick
+
+marked-useless : (p : Pair) (s : EntryState) → IsUseless (marked_row p s)
+marked-useless p (state.Pending true) = λ i now. refl
+marked-useless p (state.Pending false) = λ i now. refl
+marked-useless p state.Doomed = λ i now. refl
+marked-useless p state.Live = λ i now. refl
+marked-useless p (state.Closing true) = λ i now. refl
+marked-useless p (state.Closing false) = λ i now. refl
+marked-useless p state.Alone = λ i now. refl
+marked-useless p state.Held = λ i now. refl
+
+telling-useless : (full : Bool) (p : Pair) (s : EntryState) → IsUseless (telling_row full p s)
+telling-useless full p (state.Pending m) = λ i now. refl
+telling-useless full p state.Doomed = λ i now. refl
+telling-useless full p state.Live = λ i now. refl
+telling-useless full p (state.Closing m) = λ i now. refl
+telling-useless true p state.Alone = λ i now. refl
+telling-useless false p state.Alone = λ i now. refl
+telling-useless full p state.Held = λ i now. refl
+
+sought-useless : (apart full : Bool) (o : Option Entry) → IsUseless (sought_row apart full o)
+sought-useless apart full None = λ i now. refl
+sought-useless true full (Some x) = marked-useless x.pair x.state
+sought-useless false full (Some x) = telling-useless full x.pair x.state
+
+pub alone-useless : (b : Book) (apart full : Bool) (k : Key) → IsUseless (alone_row b apart full k)
+alone-useless b apart full k = either-row (is_paired b.stage) (sought_row apart full (slot_of b.entries k)) quiet (sought-useless apart full (slot_of b.entries k)) (λ i now. refl)
 
 -- ---- a greater boot, and the operator's word
 

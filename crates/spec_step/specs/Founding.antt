@@ -37,7 +37,7 @@ begun settings id boot =
       moment = 0;
       stopped = false;
       away = false;
-      ledger = record { book = empty_book id zero one settings.ports.host_limit; lives = []; hashers = Fixed };
+      ledger = record { book = empty_book id zero one settings.ports.host_limit settings.alone; lives = []; hashers = Fixed };
       link = fresh id boot (link_places zero one);
       inside = new_station settings id Inside;
       outside = new_station settings id Outside;
@@ -48,7 +48,7 @@ begun settings id boot =
 unfoldable pub founded : Settings → ℕ → Shown
 founded settings boot =
     let g = begun settings Zero boot in
-    let book = founded_book (bounds_of settings.ports.zero) (bounds_of settings.ports.one) settings.ports.host_limit in
+    let book = founded_book (bounds_of settings.ports.zero) (bounds_of settings.ports.one) settings.ports.host_limit settings.alone in
     record g {
       ledger = record g.ledger { book = book };
       inside = started g.inside 0;

@@ -3,13 +3,14 @@
 use Rattle.std.specs.Prelude.{◌≡◌, ℕ, true, false, Option, Some, None, Ok, List}
 use Rattle.addresses.specs.declared.ethernet.Mac.{Mac}
 use Rattle.nat_types.specs.declared.gateways.Side.{Side}
+use Rattle.nat_types.specs.declared.pairs.Endpoint.{Endpoint}
 use Rattle.nat_types.specs.declared.pairs.Pair.{Pair}
 use Rattle.icmp.specs.declared.packets.ErrorFlow.{ErrorFlow}
 use Rattle.icmp.specs.declared.packets.ErrorPacket.{ErrorPacket}
 use Rattle.ipv4.specs.declared.flows.Flow.{Flow}
 use Rattle.ipv4.specs.declared.packets.Packet.{Packet as Datagram}
 use Rattle.bindings.specs.declared.entries.Entry.{Entry}
-use Rattle.bindings.specs.Entries.{entry_of, slot_of, translates}
+use Rattle.bindings.specs.Entries.{entry_of, own_entry_of, slot_of, translates}
 use Rattle.bindings.specs.Ports.{is_free_in}
 use Rattle.spec_binding.specs.Books.{owns}
 use Rattle.spec_binding.specs.Rows.{is_at_limit}
@@ -54,6 +55,16 @@ pub record MayGoOn (g : Shown) (side : Side) (bytes : List ℕ) (by : Translatio
   pub hop : Mac
   pub next : next_by g by packet.flow ≡ Some hop
   pub fits : fits_at g (exit_by by) packet.length ≡ true
+
+-- the pair is the one on a port that the gateway owns, where the endpoint has two
+abbrev pub IsOwnWhereTwo : Shown → Endpoint → Pair → Type 0
+IsOwnWhereTwo g e p = (x : Entry) → own_entry_of g.ledger.book.entries e ≡ Some x → x.pair ≡ p
+
+-- outward, and for a hairpin's sender, a packet goes by that pair of its source
+abbrev pub GoesByOwn : Shown → Flow → Translation → Type 0
+GoesByOwn g flow (Outward p) = IsOwnWhereTwo g (source_of flow) p
+GoesByOwn g flow (Inward p) = Unit {0}
+GoesByOwn g flow (Hairpin own other) = IsOwnWhereTwo g (source_of flow) own
 
 -- ---- an error
 

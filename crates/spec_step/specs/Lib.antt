@@ -17,3 +17,4 @@ pub mod Founding
 pub mod GoingOn
 pub mod TakingOver
 pub mod LettingGo
+pub mod Apart

@@ -8,7 +8,7 @@ use Rattle.addresses.specs.declared.internet.Ip.{Ip}
 use Rattle.nat_types.specs.declared.gateways.Side.{Side}
 use Rattle.nat_types.specs.declared.gateways.Side.TheVariants.{Inside, Outside}
 use Rattle.nat_types.specs.declared.notes.NoteKind.{NoteKind}
-use Rattle.nat_types.specs.declared.notes.NoteKind.TheVariants.{Used, Released, Retaken, Synced, Crashed, Booted}
+use Rattle.nat_types.specs.declared.notes.NoteKind.TheVariants.{Used, Released, Retaken, Alone, Synced, Crashed, Booted}
 use Rattle.nat_types.specs.declared.notes.Note.{Note}
 use Rattle.nat_types.specs.declared.pairs.Endpoint.{Endpoint}
 use Rattle.nat_types.specs.declared.pairs.Pair.{Pair}
@@ -56,7 +56,7 @@ use Rattle.spec_step.specs.declared.turns.Turn.{Turn}
 use Rattle.spec_step.specs.declared.turns.Turn.TheVariants.{Leaves, Returns, Stays}
 use Rattle.spec_step.specs.GivingWay.{returned, turn_of}
 use Rattle.spec_step.specs.Parts.{frames_of, record_done, request_by, reset, sender_in, waiting, with_link}
-use Rattle.spec_step.specs.Shown.{GatewayAndOutput, Shown, station_on}
+use Rattle.spec_step.specs.Shown.{GatewayAndOutput, Shown, is_apart, station_on}
 use Rattle.spec_step.specs.Steps.{clock_after, word_refusal}
 use Rattle.spec_step.specs.Truly.{AreItsPairs, AtHand, Known, known_of, near_on, packets_of}
 use Rattle.spec_step.specs.Verdict.{exit_by, reading_on}
@@ -167,11 +167,15 @@ abbrev pub frees_unless : Option Reason → HeldPacket → Bool
 frees_unless None w = ends AllPairs w.wait
 frees_unless (Some reason) w = false
 
+-- whether a tick ends a packet's wait: it is young, and waits for a pair, and the gateway is apart at the tick's time
+abbrev pub frees_apart : Shown → HeldPacket → Bool
+frees_apart g w = is_apart g && (is_young g.moment w && ends AllPairs w.wait)
+
 -- whether an event ends a packet's wait
 abbrev pub is_freed : GatewayAndOutput → Event → HeldPacket → Bool
 is_freed s (Frame side bytes) w = frees_as s.shown side (reading_on s.shown side bytes.now) w
 is_freed s (Datagram bytes) w = frees_read s (reading bytes.now) w
-is_freed s (Tick now) w = false
+is_freed s (Tick now) w = frees_apart (record s.shown { moment = clock_after s.shown.moment now }) w
 is_freed s Stop w = false
 is_freed s (PeerOff n) w = frees_unless (word_refusal s.shown n) w
 is_freed s (SideIs side up) w = false
@@ -208,16 +212,17 @@ packet_in g Stop = []
 packet_in g (PeerOff n) = []
 packet_in g (SideIs side up) = []
 
--- the pair that a note says was taken up, if it does
+-- the pair that a note says was taken up, or made or gone on with alone, if it does
 abbrev pub retaken_in : NoteKind → List Pair
 retaken_in (Used pair) = []
 retaken_in (Released pair) = []
 retaken_in (Retaken pair) = pair ∷ []
+retaken_in (Alone pair) = pair ∷ []
 retaken_in Synced = []
 retaken_in Crashed = []
 retaken_in (Booted number) = []
 
--- the pairs of the Retaken notes, in the order of the notes
+-- the pairs of the Retaken and the Alone notes, in the order of the notes
 abbrev pub retaken_pairs : List Note → List Pair
 retaken_pairs notes = flat_map (λ note. retaken_in note.what) notes
 

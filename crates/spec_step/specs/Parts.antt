@@ -1,6 +1,6 @@
 -- The parts of a step: what each does to a scene (a gateway and its output), and the takings of the packets whose wait
 -- it ended.
-use Rattle.std.specs.Prelude.{ℕ, ◌+◌, Bool, not, ◌&&◌, Option, Some, None, Result, Ok, Err, List, [], ◌∷◌, ◌++◌, take, drop, if◌then◌else◌}
+use Rattle.std.specs.Prelude.{ℕ, ◌+◌, Bool, true, false, not, ◌&&◌, Option, Some, None, Result, Ok, Err, List, [], ◌∷◌, ◌++◌, take, drop, if◌then◌else◌}
 use Rattle.std.specs.List.{filter}
 use Rattle.addresses.specs.declared.ethernet.Mac.{Mac}
 use Rattle.addresses.specs.declared.internet.Ip.{Ip}
@@ -29,9 +29,9 @@ use Rattle.link.specs.Link.{Link, after_take, closed_at, datagram_of, is_due_on_
 use Rattle.link.specs.Reading.{reading}
 use Rattle.spec_binding.specs.declared.changes.Transition.{Transition}
 use Rattle.spec_binding.specs.Books.{is_lone, is_synced}
-use Rattle.spec_binding.specs.Ledgers.{alone_ledger, carried_ledger, ledger_after, may_ask, rests_for, restarted_ledger, taken_ledger}
+use Rattle.spec_binding.specs.Ledgers.{alone_ledger, carried_ledger, ledger_after, may_ask, rests_for, restarted_ledger, sought_keys, taken_ledger}
 use Rattle.spec_binding.specs.Resets.{back_in, restart_link, restart_notes, retaken}
-use Rattle.spec_binding.specs.Rows.{answered, carry_row, idle_row, is_full, noted_by, taken_answer, taken_ended, taken_what, wish_of}
+use Rattle.spec_binding.specs.Rows.{alone_row, answered, carry_row, idle_row, is_full, noted_by, taken_answer, taken_ended, taken_what, wish_of}
 use Rattle.waiting.specs.declared.waits.Ended.{Ended}
 use Rattle.waiting.specs.declared.waits.Ended.TheVariants.{One, AllPairs}
 use Rattle.waiting.specs.declared.waits.WaitsFor.{WaitsFor}
@@ -64,7 +64,7 @@ use Rattle.spec_step.specs.declared.plans.Plan.{Plan}
 use Rattle.spec_step.specs.declared.plans.Plan.TheVariants.{Send, Ask, AskAgain, Wait as WaitFor}
 use Rattle.spec_step.specs.declared.plans.Reply.{Reply}
 use Rattle.spec_step.specs.declared.plans.Reply.TheVariants as reply
-use Rattle.spec_step.specs.Shown.{GatewayAndOutput, Shown, id_of, is_running, scene, serves, station_on, with_notes, with_station}
+use Rattle.spec_step.specs.Shown.{GatewayAndOutput, Shown, id_of, is_apart, is_running, scene, serves, station_on, with_notes, with_station}
 use Rattle.spec_step.specs.Verdict.{error_hop, error_plan, exit_by, hop_back, hop_by, next_back, plan_of, reading_on, reply_to}
 
 -- ---- rows of the binding protocol
@@ -77,7 +77,7 @@ by_row s row = let g = s.shown in
 
 -- the scene after the endpoint of a packet's source wished for a port
 abbrev pub wanted_by : GatewayAndOutput → Endpoint → GatewayAndOutput
-wanted_by s e = by_row s (wish_of s.shown.ledger.book (is_full s.shown.link) e).row
+wanted_by s e = by_row s (wish_of s.shown.ledger.book (is_apart s.shown) (is_full s.shown.link) e).row
 
 -- the scene after the pair of a key carried a packet
 abbrev pub carried_by : GatewayAndOutput → Key → Carried → GatewayAndOutput
@@ -440,11 +440,11 @@ word_taken s n = let g = s.shown in let book = g.ledger.book in
 
 -- ---- a tick's own parts
 
--- the scene after an idle pair was let go: a lone gateway drops it, else its owner asks, where the peer was heard
--- lately and the link isn't full
+-- the scene after an idle pair was let go: a lone gateway drops it, and any drops a pair that it made alone; else its
+-- owner asks, where the gateway isn't apart, the peer was heard lately and the link isn't full
 abbrev pub idle_done : GatewayAndOutput → Key → GatewayAndOutput
 idle_done s k = let g = s.shown in
-    by_row s (idle_row g.ledger.book (may_ask g.moment g.link) k)
+    by_row s (idle_row g.ledger.book (may_ask g.moment g.ledger.book g.link) k)
 
 -- the scene after the idle pairs of these keys were let go, one after another
 abbrev pub all_idle_done : GatewayAndOutput → List Key → GatewayAndOutput
@@ -454,6 +454,29 @@ all_idle_done s (k ∷ ks) = all_idle_done (idle_done s k) ks
 -- the scene after the idle pairs of this time were let go, in the order of protocol and port
 abbrev pub idle_taken : GatewayAndOutput → GatewayAndOutput
 idle_taken s = let l = s.shown.ledger in all_idle_done s (idle_keys_in (is_lone l.book.stage) s.shown.moment l.book.entries l.lives)
+
+-- the scene after the entry of a key was marked, where the gateway is apart, or the peer was told of its pair
+abbrev pub sought_done : Bool → GatewayAndOutput → Key → GatewayAndOutput
+sought_done apart s k = by_row s (alone_row s.shown.ledger.book apart (is_full s.shown.link) k)
+
+-- the scene after that of these keys, one after another
+abbrev pub all_sought_done : Bool → GatewayAndOutput → List Key → GatewayAndOutput
+all_sought_done apart s [] = s
+all_sought_done apart s (k ∷ ks) = all_sought_done apart (sought_done apart s k) ks
+
+-- The scene after a gateway that is apart went on by itself: each pair that waits for an answer is marked, and then the
+-- packets that waited for pairs are taken again.
+abbrev pub gone_alone : GatewayAndOutput → GatewayAndOutput
+gone_alone s = released (all_sought_done true s (sought_keys true s.shown.ledger.book.entries)) AllPairs
+
+-- the scene after the peer was told of the pairs that were made alone, except where the link is full; a lone gateway
+-- tells nothing
+abbrev pub peer_told : GatewayAndOutput → GatewayAndOutput
+peer_told s = all_sought_done false s (sought_keys false s.shown.ledger.book.entries)
+
+-- what a tick does between the idle pairs and the link, each in the order of protocol and port
+abbrev pub alone_taken : GatewayAndOutput → GatewayAndOutput
+alone_taken s = if is_apart s.shown then gone_alone s else peer_told s
 
 -- the scene after kept packets of 300 centiseconds and more were dropped
 abbrev pub old_dropped : GatewayAndOutput → GatewayAndOutput

@@ -1,5 +1,5 @@
 -- The own frames of a whole step: those of its takings, in their order.
-use Rattle.std.specs.Prelude.{ℕ, Option, Some, None, Result, Ok, Err, List, [], ◌∷◌, ◌++◌, if◌then◌else◌}
+use Rattle.std.specs.Prelude.{◌≡◌, ℕ, true, Option, Some, None, Result, Ok, Err, List, [], ◌∷◌, ◌++◌, if◌then◌else◌}
 use Rattle.nat_types.specs.declared.gateways.Side.{Side}
 use Rattle.nat_types.specs.declared.pairs.Endpoint.{Endpoint}
 use Rattle.nat_types.specs.declared.records.Record.{Record}
@@ -8,7 +8,7 @@ use Rattle.link.specs.declared.datagrams.Datagram.{Datagram}
 use Rattle.link.specs.declared.faults.LinkFault.{LinkFault}
 use Rattle.link.specs.Link.{after_take, closed_at, is_restart, records_taken, refusal}
 use Rattle.link.specs.Reading.{reading}
-use Rattle.spec_binding.specs.Ledgers.{alone_ledger, restarted_ledger, rests_for}
+use Rattle.spec_binding.specs.Ledgers.{alone_ledger, restarted_ledger, rests_for, sought_keys}
 use Rattle.spec_binding.specs.Resets.{back_in, restart_link, restart_notes, retaken}
 use Rattle.spec_binding.specs.Rows.{taken_ended}
 use Rattle.waiting.specs.declared.waits.Ended.{Ended}
@@ -24,9 +24,12 @@ use Rattle.output.specs.Output.{Sent}
 use Rattle.spec_step.specs.declared.events.Event.{Event}
 use Rattle.spec_step.specs.declared.events.Event.TheVariants.{Frame, Datagram as Comes, Tick, Stop, PeerOff, Side as SideIs}
 use Rattle.spec_step.specs.OwnAnswers.{all_own_of, own_read}
-use Rattle.spec_step.specs.Parts.{answered_by, record_done, record_shown, record_told, reset, with_link}
-use Rattle.spec_step.specs.Shown.{GatewayAndOutput, id_of, scene, station_on, with_notes, with_station}
-use Rattle.spec_step.specs.Steps.{word_refusal}
+use Rattle.vrrp_states.specs.Table as table
+use Rattle.spec_step.specs.GivingWay.{GivingWay}
+use Rattle.spec_step.specs.Parts.{all_sought_done, answered_by, idle_taken, old_dropped, record_done, record_shown, record_told, reset, with_link}
+use Rattle.spec_step.specs.Routers.{BothAct}
+use Rattle.spec_step.specs.Shown.{GatewayAndOutput, id_of, is_apart, scene, station_on, with_notes, with_station}
+use Rattle.spec_step.specs.Steps.{ticked, word_refusal}
 use Rattle.spec_step.specs.Verdict.{reading_on}
 
 -- the own frames of the packets whose wait is over
@@ -98,11 +101,22 @@ own_word s n None = let g = s.shown in let book = g.ledger.book in
     AllPairs
 own_word s n (Some reason) = []
 
--- the own frames at an event; a tick, a stop and the state of a side's cable have none
-abbrev pub own_in : GatewayAndOutput → Event → List Sent
-own_in s (Frame side bytes) = own_framed s side bytes.now (reading_on s.shown side bytes.now)
-own_in s (Comes bytes) = own_datagram s (reading bytes.now)
-own_in s (Tick now) = []
-own_in s Stop = []
-own_in s (PeerOff n) = own_word s n (word_refusal s.shown n)
-own_in s (SideIs side up) = []
+-- the own frames of a tick whose idle pairs were let go: where the gateway is apart, of all packets that waited for pairs
+abbrev pub own_alone : GatewayAndOutput → List Sent
+own_alone s =
+    if is_apart s.shown
+    then own_released (all_sought_done true s (sought_keys true s.shown.ledger.book.entries)) AllPairs
+    else []
+
+-- the own frames at a tick, after its turn, its routers' step, and its idle pairs
+abbrev pub AreOwnAtTick : GatewayAndOutput → ℕ → List Sent → Type 0
+AreOwnAtTick s now own = (turned middle : GatewayAndOutput) × GivingWay (ticked s now) turned × BothAct turned table.Tick middle × (own ≡ own_alone (idle_taken (old_dropped middle)))
+
+-- the own frames at an event; a stop and the state of a side's cable have none
+abbrev pub AreOwnIn : GatewayAndOutput → Event → List Sent → Type 0
+AreOwnIn s (Frame side bytes) own = own ≡ own_framed s side bytes.now (reading_on s.shown side bytes.now)
+AreOwnIn s (Comes bytes) own = own ≡ own_datagram s (reading bytes.now)
+AreOwnIn s (Tick now) own = AreOwnAtTick s now own
+AreOwnIn s Stop own = own ≡ []
+AreOwnIn s (PeerOff n) own = own ≡ own_word s n (word_refusal s.shown n)
+AreOwnIn s (SideIs side up) own = own ≡ []

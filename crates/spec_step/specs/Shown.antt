@@ -7,7 +7,7 @@ use Rattle.nat_types.specs.declared.gateways.Side.{Side}
 use Rattle.nat_types.specs.declared.gateways.Side.TheVariants.{Inside, Outside}
 use Rattle.nat_types.specs.declared.notes.Note.{Note}
 use Rattle.link.specs.Link.{Link}
-use Rattle.spec_binding.specs.Books.{is_synced}
+use Rattle.spec_binding.specs.Books.{is_apart as is_book_apart, is_synced}
 use Rattle.spec_binding.specs.Ledgers.{Ledger}
 use Rattle.packet_rules.specs.declared.networks.Networks.{Networks}
 use Rattle.interfaces.specs.Cables.{is_in, is_whole as is_whole_at}
@@ -40,6 +40,10 @@ is_up g = is_synced g.ledger.book.stage && not g.stopped
 -- whether its routers run: it is up and isn't away
 abbrev pub is_running : Shown → Bool
 is_running g = is_up g && not g.away
+
+-- whether the gateway is apart: it is synced and not lone, and for so long as its settings say the peer hasn't answered
+abbrev pub is_apart : Shown → Bool
+is_apart g = is_book_apart g.ledger.book g.link g.moment
 
 -- whether the cable of one side or of both is out
 abbrev pub has_side_out : Shown → Bool

@@ -16,7 +16,7 @@ use Rattle.spec_step.specs.declared.events.Event.TheVariants.{Frame, Datagram as
 use Rattle.spec_step.specs.declared.events.Outcome.{Outcome}
 use Rattle.spec_step.specs.declared.events.Outcome.TheVariants.{Done, Dropped}
 use Rattle.spec_step.specs.GivingWay.{GivingWay}
-use Rattle.spec_step.specs.Parts.{arp_taken, datagram_taken, echo_taken, error_taken, flow_taken, idle_taken, link_answered, link_ticked, old_dropped, refused, side_plugged, word_taken}
+use Rattle.spec_step.specs.Parts.{alone_taken, arp_taken, datagram_taken, echo_taken, error_taken, flow_taken, idle_taken, link_answered, link_ticked, old_dropped, refused, side_plugged, word_taken}
 use Rattle.spec_step.specs.Routers.{BothAct, RouterActs}
 use Rattle.spec_step.specs.Shown.{GatewayAndOutput, Shown, scene}
 use Rattle.spec_step.specs.Verdict.{reading_on, verdict}
@@ -63,7 +63,7 @@ word_by s n (Some reason) = s
 abbrev pub Does : GatewayAndOutput → Event → GatewayAndOutput → Type 0
 Does s (Frame side bytes) s2 = FrameDoes s side bytes.now (reading_on s.shown side bytes.now) s2
 Does s (Comes bytes) s2 = s2 ≡ datagram_taken s bytes.now
-Does s (Tick now) s2 = (turned middle : GatewayAndOutput) × GivingWay (ticked s now) turned × BothAct turned table.Tick middle × (s2 ≡ idle_taken (old_dropped middle))
+Does s (Tick now) s2 = (turned middle : GatewayAndOutput) × GivingWay (ticked s now) turned × BothAct turned table.Tick middle × (s2 ≡ alone_taken (idle_taken (old_dropped middle)))
 Does s Stop s2 = (middle : GatewayAndOutput) × BothAct s table.Stop middle × (s2 ≡ stopped middle)
 Does s (PeerOff n) s2 = s2 ≡ word_by s n (word_refusal s.shown n)
 Does s (SideIs side up) s2 = s2 ≡ side_plugged s side up

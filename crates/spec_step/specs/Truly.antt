@@ -7,7 +7,7 @@ use Rattle.addresses.specs.declared.ethernet.Mac.{Mac}
 use Rattle.nat_types.specs.declared.gateways.Side.{Side}
 use Rattle.nat_types.specs.declared.gateways.Side.TheVariants.{Inside, Outside}
 use Rattle.nat_types.specs.declared.notes.NoteKind.{NoteKind}
-use Rattle.nat_types.specs.declared.notes.NoteKind.TheVariants.{Used, Released, Retaken, Synced, Crashed, Booted}
+use Rattle.nat_types.specs.declared.notes.NoteKind.TheVariants.{Used, Released, Retaken, Alone, Synced, Crashed, Booted}
 use Rattle.nat_types.specs.declared.notes.Note.{Note}
 use Rattle.nat_types.specs.declared.pairs.Pair.{Pair}
 use Rattle.arp.specs.declared.caches.CacheEntry.{CacheEntry}
@@ -34,6 +34,7 @@ abbrev pub used_in : NoteKind → List Pair
 used_in (Used pair) = pair ∷ []
 used_in (Released pair) = []
 used_in (Retaken pair) = []
+used_in (Alone pair) = []
 used_in Synced = []
 used_in Crashed = []
 used_in (Booted number) = []

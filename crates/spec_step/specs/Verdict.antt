@@ -1,10 +1,10 @@
 -- The verdict on a packet: what a gateway is to do with it, as a function of the packet and the gateway.
-use Rattle.std.specs.Prelude.{ℕ, Bool, nat_le, Option, Some, None, Result, Ok, Err, List, if◌then◌else◌}
+use Rattle.std.specs.Prelude.{ℕ, Bool, true, false, nat_le, Option, Some, None, Result, Ok, Err, List, if◌then◌else◌}
 use Rattle.addresses.specs.declared.ethernet.Mac.{Mac}
 use Rattle.addresses.specs.declared.internet.Ip.{Ip}
 use Rattle.nat_types.specs.declared.gateways.Side.{Side}
 use Rattle.nat_types.specs.declared.pairs.EntryState.{EntryState}
-use Rattle.nat_types.specs.declared.pairs.EntryState.TheVariants.{Pending, Doomed, Live, Closing, Held}
+use Rattle.nat_types.specs.declared.pairs.EntryState.TheVariants.{Pending, Doomed, Live, Closing, Alone, Held}
 use Rattle.nat_types.specs.declared.pairs.Pair.{Pair}
 use Rattle.arp.specs.Neighbours.{mac_at}
 use Rattle.ipv4.specs.declared.flows.Flow.{Flow}
@@ -38,7 +38,7 @@ use Rattle.spec_step.specs.declared.plans.Plan.{Plan}
 use Rattle.spec_step.specs.declared.plans.Plan.TheVariants.{Send, Ask, AskAgain, Wait}
 use Rattle.spec_step.specs.declared.plans.Reply.{Reply}
 use Rattle.spec_step.specs.declared.plans.Reply.TheVariants as reply
-use Rattle.spec_step.specs.Shown.{Shown, is_up, station_on}
+use Rattle.spec_step.specs.Shown.{Shown, is_apart, is_up, station_on}
 
 -- the side at which a translated packet leaves
 abbrev pub exit_by : Translation → Side
@@ -85,15 +85,18 @@ plan_from g flow by want.TheVariants.HostLimit = Err HostLimit
 
 -- the answer to the wish of the endpoint of a packet's source
 abbrev pub look_for : Shown → Flow → Want
-look_for g flow = (wish_of g.ledger.book (is_full g.link) (source_of flow)).answer
+look_for g flow = (wish_of g.ledger.book (is_apart g) (is_full g.link) (source_of flow)).answer
 
--- the pair of an outside port's entry, where it translates; a Doomed entry has no pair, and a packet can't wait for a
--- pair that doesn't translate
+-- the pair of an outside port's entry, where it translates: a marked one does. A Doomed entry has no pair, and a packet
+-- can't wait for a pair that doesn't translate.
 abbrev pub pair_in : EntryState → Pair → Result Pair Reason
-pair_in Pending p = Err CannotWait
+pair_in (Pending true) p = Ok p
+pair_in (Pending false) p = Err CannotWait
 pair_in Doomed p = Err NoBinding
 pair_in Live p = Ok p
-pair_in Closing p = Err CannotWait
+pair_in (Closing true) p = Ok p
+pair_in (Closing false) p = Err CannotWait
+pair_in Alone p = Ok p
 pair_in Held p = Ok p
 
 -- the pair of an entry that was found, or the reason why there is none to translate with

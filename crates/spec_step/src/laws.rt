@@ -1,14 +1,17 @@
 //! The laws of a step of a gateway. Each law is the contract of a function that does nothing.
 
-ghost use Rattle.std.specs.Prelude.{◌≡◌, ◌≢◌, ◌↔◌, Ok, ◌≤◌, ◌<◌, ◌+◌, ◌^◌, ◌∷◌, ◌++◌, ℕ, true, false, [], List, length, reverse, Err, Some};
+ghost use Rattle.std.specs.Prelude.{◌≡◌, ◌≢◌, ◌↔◌, Ok, ◌≤◌, ◌<◌, ◌+◌, ◌^◌, ◌∷◌, ◌++◌, ℕ, true, false, [], Bool, List, length, reverse, Err, Some};
+ghost use Rattle.std.specs.List.{AllByRecursion};
 ghost use Rattle.nat_types.specs.declared.gateways.GatewayId.{GatewayId};
 ghost use Rattle.nat_types.specs.declared.gateways.Side.{Side};
 ghost use Rattle.nat_types.specs.declared.notes.NoteKind.TheVariants.{Booted, Crashed};
 ghost use Rattle.nat_types.specs.declared.pairs.Endpoint.{Endpoint};
 ghost use Rattle.nat_types.specs.declared.notes.Note.{Note};
+ghost use Rattle.nat_types.specs.declared.pairs.Pair.{Pair};
 ghost use Rattle.nat_types.specs.declared.pairs.Key.{Key};
 ghost use Rattle.nat_types.specs.declared.records.Record.{Record};
 ghost use Rattle.nat_types.specs.Same.{same};
+ghost use Rattle.addresses.specs.declared.ethernet.Mac.{Mac};
 ghost use Rattle.settings.specs.declared.whole.Settings.{Settings};
 ghost use Rattle.icmp.specs.declared.packets.ErrorFlow.{ErrorFlow};
 ghost use Rattle.interfaces.specs.Stations.{is_active};
@@ -27,27 +30,31 @@ ghost use Rattle.spec_trace.specs.Past.{Idle};
 ghost use Rattle.spec_pair.specs.Talk.{note};
 ghost use Rattle.waiting.specs.Packets.{HeldPacket, hop_count};
 ghost use Rattle.bindings.specs.declared.entries.Entry.{Entry};
+ghost use Rattle.bindings.specs.Entries.{is_alone};
 ghost use Rattle.spec_binding.specs.declared.setups.Stage.TheVariants.{Paired};
-ghost use Rattle.spec_binding.specs.Books.{IsBook, is_lone};
-ghost use Rattle.spec_binding.specs.Ledgers.{release_all};
+ghost use Rattle.spec_binding.specs.Books.{IsBook, is_lone, is_synced};
+ghost use Rattle.spec_binding.specs.Ledgers.{go_on_all, release_all};
+ghost use Rattle.spec_binding.specs.Serving.{serving};
 ghost use Rattle.spec_step.specs.declared.events.Event.{Event};
 ghost use Rattle.spec_step.specs.declared.events.Event.TheVariants.{Tick};
 ghost use Rattle.spec_step.specs.declared.events.Outcome.TheVariants as outcome;
-ghost use Rattle.spec_step.specs.declared.plans.Plan.TheVariants.{Wait as WaitForPair};
+ghost use Rattle.spec_step.specs.declared.plans.Plan.TheVariants.{Send as SendBy, Wait as WaitForPair};
+ghost use Rattle.spec_step.specs.Apart.{IsUnmoved, WaitsForNobody};
 ghost use Rattle.spec_step.specs.Verdict.{error_plan, plan_of, reading_on, verdict};
 ghost use Rattle.spec_step.specs.Founding.{HasRanges, begun, bounds_of, founded, link_places};
-ghost use Rattle.spec_step.specs.GoingOn.{HasAllPairs, HasNoPort, MayGoOn, MayPassOn};
+ghost use Rattle.spec_step.specs.GoingOn.{GoesByOwn, HasAllPairs, HasNoPort, MayGoOn, MayPassOn};
 ghost use Rattle.spec_step.specs.Machine.{AreBytes, Goes, HasBytes, HasPushed, IsAlone, IsStanding, KeepsBytes};
 ghost use Rattle.spec_step.specs.Machine.{letters_in, words_in};
-ghost use Rattle.spec_step.specs.LettingGo.{CanAskForAll, HasRested, IsLetGo};
+ghost use Rattle.spec_step.specs.LettingGo.{CanAskForAll, HasRested, IsLetGo, NotesRelease};
+ghost use Rattle.spec_step.specs.LettingGo.{ReleasesAlone};
 ghost use Rattle.spec_step.specs.Others.{AreOthers};
 ghost use Rattle.spec_step.specs.OwnAnswers.{AreWithin, SaysJust, ShowsNothing, all_own_of, own_of};
-ghost use Rattle.spec_step.specs.Parts.{all_idle_done, all_taken, echo_taken, error_taken, flow_taken, length_in, refused, retaken_by};
+ghost use Rattle.spec_step.specs.Parts.{all_idle_done, all_sought_done, all_taken, echo_taken, error_taken, flow_taken, length_in, refused, retaken_by};
 ghost use Rattle.spec_step.specs.PassedOn.{ChangesLittle, HidesAllInside, LeavesPairs, TellsAll};
 ghost use Rattle.spec_step.specs.Rests.{AccountsOn, Rests, most_notes};
 ghost use Rattle.spec_step.specs.Settled.{AreIdle, HaveBegun, IsSettled};
-ghost use Rattle.spec_step.specs.Shown.{GatewayAndOutput, Shown, has_side_out, id_of, is_up, scene, station_on};
-ghost use Rattle.spec_step.specs.Sayings.{own_in};
+ghost use Rattle.spec_step.specs.Shown.{GatewayAndOutput, Shown, has_side_out, id_of, is_apart, is_up, scene, station_on};
+ghost use Rattle.spec_step.specs.Sayings.{AreOwnIn};
 ghost use Rattle.spec_step.specs.Seconds.{AreStepsSaying, StepOwn, answers_at, complaints_at, in_second};
 ghost use Rattle.spec_step.specs.Shown.{with_notes};
 ghost use Rattle.spec_step.specs.Steps.{Does, IsStepOn};
@@ -157,13 +164,13 @@ pub fn takings_say()
 }
 
 /// The own frames of a whole step are exactly those of its takings, in their order: of the frame
-/// that came, and of the packets whose wait it ended. A tick, a stop and the state of a side's
-/// cable have none.
+/// that came, and of the packets whose wait it ended. A tick has some only where the gateway is
+/// apart; a stop and the state of a side's cable have none.
 pub fn steps_say()
     ensures { (s : GatewayAndOutput) (event : Event) (s2 : GatewayAndOutput)
         → IsStepOn s event s2
         → HasBytes event → IsBook s.shown.ledger.book → KeepsBytes s.shown → IsSetUp s.shown
-        → SaysJust s s2 (own_in s event) }
+        → (own : List Sent) × (AreOwnIn s event own × SaysJust s s2 own) }
 {
     readings_law();
     frames_law();
@@ -351,6 +358,15 @@ pub fn idle_at_once()
         (with_notes s.told gone.notes) }
 {}
 
+/// Marking what waits, or telling the peer of what was made alone, one after another, changes the
+/// book, its lives, the link and the notes as one fold of the ledger says, and nothing else.
+pub fn sought_at_once()
+    ensures { (s : GatewayAndOutput) (apart : Bool) (keys : List Key) → let g = s.shown in
+        let gone = go_on_all apart g.moment keys g.ledger g.link in
+        all_sought_done apart s keys ≡ scene (record g { ledger = gone.ledger; link = gone.link })
+        (with_notes s.told gone.notes) }
+{}
+
 /// No step makes more notes than `most_notes` says.
 pub fn steps_note()
     ensures { (s : GatewayAndOutput) (event : Event) (s2 : GatewayAndOutput)
@@ -393,8 +409,9 @@ pub fn takes_over()
 {}
 
 /// A pair that has rested is let go. After its rest and a tick, an entry that may be let go is gone
-/// at a lone gateway. Else the entry is closing, where the peer may be asked for all such entries.
-/// The pair's release is noted.
+/// at a lone gateway. Else, where the peer may be asked for all such entries, the entry is closing,
+/// or gone where its pair was made alone. The pair's release is noted, and of a pair that was made
+/// alone it is so wherever the gateway isn't lone. A gateway that is apart releases no other pair.
 pub fn ticks_let_go()
     ensures alone { (s : GatewayAndOutput) (now : ℕ) (s2 : GatewayAndOutput) (x : Entry)
         → IsStepOn s (Tick now) s2 → is_lone s.shown.ledger.book.stage ≡ true
@@ -403,12 +420,47 @@ pub fn ticks_let_go()
         → IsStepOn s (Tick now) s2 → s.shown.ledger.book.stage ≡ Paired
         → CanAskForAll s.shown.ledger s.shown.link s2.shown.moment
         → HasRested s.shown.ledger s2.shown.moment x → IsLetGo s x s2 }
-{}
+    ensures made_alone { (s : GatewayAndOutput) (now : ℕ) (s2 : GatewayAndOutput) (x : Entry)
+        → IsStepOn s (Tick now) s2 → IsBook s.shown.ledger.book → KeepsBytes s.shown
+        → s.shown.ledger.book.stage ≡ Paired → is_alone x.state ≡ true
+        → HasRested s.shown.ledger s2.shown.moment x → NotesRelease s x.pair s2 }
+    ensures apart { (s : GatewayAndOutput) (now : ℕ) (s2 : GatewayAndOutput) (notes : List Note)
+        → IsStepOn s (Tick now) s2 → IsBook s.shown.ledger.book → KeepsBytes s.shown
+        → is_apart s2.shown ≡ true → s2.told.notes ≡ s.told.notes ++ notes
+        → AllByRecursion (λ n. ReleasesAlone s.shown.ledger n.what) notes }
+{
+    readings_law();
+}
+
+/// A gateway that is apart waits for nobody: after a tick at which it is apart no packet waits for a
+/// pair, and each pair of its table translates. While that is so, no packet comes to wait for one.
+pub fn alone_waits_for_nobody()
+    ensures tick { (s : GatewayAndOutput) (now : ℕ) (s2 : GatewayAndOutput) → IsStepOn s (Tick now) s2
+        → IsBook s.shown.ledger.book → KeepsBytes s.shown → is_apart s2.shown ≡ true
+        → WaitsForNobody s2.shown }
+    ensures packet { (g : Shown) (side : Side) (flow : Flow) (length : ℕ) (e : Endpoint)
+        → IsBook g.ledger.book → is_apart g ≡ true → WaitsForNobody g
+        → plan_of g side flow length ≢ Ok (WaitForPair e) }
+{
+    readings_law();
+}
+
+/// No step moves an endpoint: a pair that is its endpoint's pair and translates is so after each step
+/// that doesn't note its release.
+pub fn not_moved()
+    ensures { (s : GatewayAndOutput) (event : Event) (s2 : GatewayAndOutput) (e : Endpoint) (p : Pair)
+        → IsStepOn s event s2 → HasBytes event → IsBook s.shown.ledger.book → KeepsBytes s.shown
+        → is_synced s.shown.ledger.book.stage ≡ true → serving s.shown.ledger.book e ≡ Some p
+        → IsUnmoved s e p s2 }
+{
+    readings_law();
+}
 
 /// A packet whose pairs translate, or an error about one, is sent where it is valid, its time to
 /// live is above one, its next hop is known and it fits. A packet is dropped because no port is
 /// free (outcome 14), or because its host has all the pairs that it may have (outcome 18), exactly
-/// where a port has to be chosen for it and that is so.
+/// where a port has to be chosen for it and that is so. Of two pairs of its source a packet that is
+/// sent goes out by the one on a port that the gateway owns.
 pub fn goes_on_is_sent()
     ensures packet { (g : Shown) (side : Side) (bytes : List ℕ) (by : Translation)
         → MayGoOn g side bytes by → verdict g side bytes ≡ outcome.Sent }
@@ -418,4 +470,7 @@ pub fn goes_on_is_sent()
         → (verdict g side bytes ≡ outcome.Dropped NoPort) ↔ HasNoPort g side bytes }
     ensures host_limit { (g : Shown) (side : Side) (bytes : List ℕ)
         → (verdict g side bytes ≡ outcome.Dropped HostLimit) ↔ HasAllPairs g side bytes }
+    ensures own { (g : Shown) (side : Side) (flow : Flow) (length : ℕ) (by : Translation) (next : Mac)
+        → IsBook g.ledger.book → plan_of g side flow length ≡ Ok (SendBy by next)
+        → GoesByOwn g flow by }
 {}

@@ -8,11 +8,11 @@ mod turns;
 
 pub use events::{Event, Outcome};
 pub use laws::{
-    beginnings, beginnings_account, beginnings_settle, errors_hide, errors_leave_pairs,
-    few_in_one_second, gives_way, goes_on_is_sent, idle_at_once, never_alone, other_frames,
-    others_account, own_frames_show_nothing, own_leaves_pairs, parts_stand, steps_account,
-    steps_count, steps_go, steps_keep, steps_note, steps_pass_on, steps_say, steps_settle,
-    steps_tell, takes_over, takings_say, ticks_let_go,
+    alone_waits_for_nobody, beginnings, beginnings_account, beginnings_settle, errors_hide,
+    errors_leave_pairs, few_in_one_second, gives_way, goes_on_is_sent, idle_at_once, never_alone,
+    not_moved, other_frames, others_account, own_frames_show_nothing, own_leaves_pairs,
+    parts_stand, sought_at_once, steps_account, steps_count, steps_go, steps_keep, steps_note,
+    steps_pass_on, steps_say, steps_settle, steps_tell, takes_over, takings_say, ticks_let_go,
 };
 pub use plans::{Plan, Reply};
 pub use turns::Turn;

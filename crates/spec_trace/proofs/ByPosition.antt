@@ -4,15 +4,27 @@ use Rattle.std.proofs.lemmas.List.{reverse-reverse}
 use Rattle.nat_types.specs.declared.gateways.GatewayId.{GatewayId}
 use Rattle.nat_types.specs.declared.pairs.Pair.{Pair}
 use Rattle.nat_types.specs.declared.notes.Note.{Note}
-use Rattle.spec_trace.specs.Trace.{IsSynced, HasLetGo, IsAgreed, IsOpen, GoesOnWith, Fits, Silent, Kept, GoesOn, Idle}
-use Rattle.spec_trace.specs.Position.{SyncedSays, LetGoSays, AgreedSays, OpenSays, GoesOnSays, TranslatesSays, FitsSays, SilentSays, KeptSays, IdleSays}
-use Rattle.spec_trace.proofs.Sentences.{synced_so, released_so, agreed_so, open_so, goes_so, fits_so, silent_so, kept_so, idle_so}
+use Rattle.spec_trace.specs.Trace.{IsSynced, HasLetGo, IsInUse, IsPrivate, IsOnlyAt, IsAgreed, IsOpen, WasAlone, GoesOnWith, Fits, OnePort, OneEndpoint, Silent, Kept, AtMostTwo, GoesOn, Idle}
+use Rattle.spec_trace.specs.Position.{SyncedSays, LetGoSays, InUseSays, PrivateSays, OnlyAtSays, AgreedSays, OpenSays, WasAloneSays, GoesOnSays, TranslatesSays, FitsSays, OnePortSays, OneEndpointSays, SilentSays, KeptSays, AtMostTwoSays, IdleSays}
+use Rattle.spec_trace.proofs.Sentences.{synced_so, released_so, used_so, private_so, only_so, agreed_so, open_so, alone_so, goes_so, fits_so, one_port_so, one_endpoint_so, silent_so, kept_so, idle_so}
 
 pub synced_law : (i : GatewayId) (t : List Note) → IsSynced i t ↔ SyncedSays i t
 synced_law i t = subst (λ (x : List Note). IsSynced i t ↔ SyncedSays i x) (reverse-reverse t) (synced_so i (reverse t))
 
 pub release_law : (i : GatewayId) (p : Pair) (t : List Note) → HasLetGo i p t ↔ LetGoSays i p t
 release_law i p t = subst (λ (x : List Note). HasLetGo i p t ↔ LetGoSays i p x) (reverse-reverse t) (released_so i p (reverse t))
+
+pub in_use_law : (i : GatewayId) (p : Pair) (t : List Note) → IsInUse i p t ↔ InUseSays i p t
+in_use_law i p t = subst (λ (x : List Note). IsInUse i p t ↔ InUseSays i p x) (reverse-reverse t) (used_so i p (reverse t))
+
+pub private_law : (i : GatewayId) (p : Pair) (t : List Note) → IsPrivate i p t ↔ PrivateSays i p t
+private_law i p t = subst (λ (x : List Note). IsPrivate i p t ↔ PrivateSays i p x) (reverse-reverse t) (private_so i p (reverse t))
+
+pub only_law : (i : GatewayId) (p : Pair) (t : List Note) → IsOnlyAt i p t ↔ OnlyAtSays i p t
+only_law i p t = subst (λ (x : List Note). IsOnlyAt i p t ↔ OnlyAtSays i p x) (reverse-reverse t) (only_so i p (reverse t))
+
+pub alone_law : (p : Pair) (t : List Note) → WasAlone p t ↔ WasAloneSays p t
+alone_law p t = subst (λ (x : List Note). WasAlone p t ↔ WasAloneSays p x) (reverse-reverse t) (alone_so p (reverse t))
 
 pub agreed_law : (i : GatewayId) (p : Pair) (t : List Note) → IsAgreed i p t ↔ AgreedSays i p t
 agreed_law i p t = subst (λ (x : List Note). IsAgreed i p t ↔ AgreedSays i p x) (reverse-reverse t) (agreed_so i p (reverse t))
@@ -25,6 +37,12 @@ goes_law i p t = subst (λ (x : List Note). GoesOnWith i p t ↔ GoesOnSays i p 
 
 pub fits_law : (t : List Note) → Fits t ↔ FitsSays t
 fits_law t = subst (λ (x : List Note). Fits t ↔ FitsSays x) (reverse-reverse t) (fits_so (reverse t))
+
+pub one_port_law : (t : List Note) → OnePort t ↔ OnePortSays t
+one_port_law t = subst (λ (x : List Note). OnePort t ↔ OnePortSays x) (reverse-reverse t) (one_port_so (reverse t))
+
+pub one_endpoint_law : (t : List Note) → OneEndpoint t ↔ OneEndpointSays t
+one_endpoint_law t = subst (λ (x : List Note). OneEndpoint t ↔ OneEndpointSays x) (reverse-reverse t) (one_endpoint_so (reverse t))
 
 pub silent_law : (t : List Note) → Silent t ↔ SilentSays t
 silent_law t = subst (λ (x : List Note). Silent t ↔ SilentSays x) (reverse-reverse t) (silent_so (reverse t))
@@ -40,3 +58,6 @@ translates_law translates t = (
   λ h i s p. (λ g. (h i ((synced_law i t).1 s) p).0 ((goes_law i p t).1 g), λ b. (goes_law i p t).0 ((h i ((synced_law i t).1 s) p).1 b)),
   λ h i s p. (λ g. (h i ((synced_law i t).0 s) p).0 ((goes_law i p t).0 g), λ b. (goes_law i p t).1 ((h i ((synced_law i t).0 s) p).1 b)),
 )
+
+pub at_most_two_law : (holds : GatewayId → Pair → Bool) (t : List Note) → AtMostTwo (λ i p. IsTrue (holds i p)) t ↔ AtMostTwoSays (λ i p. IsTrue (holds i p)) t
+at_most_two_law holds t = (λ h i s. h i ((synced_law i t).1 s), λ h i s. h i ((synced_law i t).0 s))

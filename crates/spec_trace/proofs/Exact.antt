@@ -7,12 +7,16 @@ use Rattle.nat_types.specs.declared.notes.Note.{Note}
 use Rattle.spec_trace.specs.declared.checker.AuditFault.{AuditFault}
 use Rattle.spec_trace.specs.declared.checker.AuditFault.TheVariants.{NoMemory, NotFits, NotKept, NotSilent}
 use Rattle.spec_trace.specs.Past as past
-use Rattle.spec_trace.specs.Trace.{Fits, Silent, Kept}
-use Rattle.spec_trace.specs.Audit.{ListsHold, FirstNotSilent, FirstNotFits, FaultSays, IsFound}
+use Rattle.spec_trace.specs.Trace.{Silent, Kept}
+use Rattle.spec_trace.specs.Audit.{ListsHold, FitsUnlessAlone, FirstNotSilent, FirstNotFits, FaultSays, IsFound}
 
-fits_end : (xs ys : List Note) → past.Fits (xs ++ ys) → past.Fits ys
-fits_end [] ys f = f
-fits_end (x ∷ xs) ys f = fits_end xs ys f.1
+port_end : (xs ys : List Note) → past.OnePort (xs ++ ys) → past.OnePort ys
+port_end [] ys f = f
+port_end (x ∷ xs) ys f = port_end xs ys f.1
+
+endpoint_end : (xs ys : List Note) → past.OneEndpoint (xs ++ ys) → past.OneEndpoint ys
+endpoint_end [] ys f = f
+endpoint_end (x ∷ xs) ys f = endpoint_end xs ys f.1
 
 silent_end : (xs ys : List Note) → past.Silent (xs ++ ys) → past.Silent ys
 silent_end [] ys s = s
@@ -22,14 +26,17 @@ parts : (k : ℕ) (xs : List Note) → reverse xs ≡ reverse (drop k xs) ++ rev
 parts k xs = ap reverse (sym (take-append-drop k xs)) ∙ reverse-append (take k xs) (drop k xs)
 
 -- the beginning of a trace that fits, fits
-fits_first : (k : ℕ) (xs : List Note) → Fits xs → Fits (take k xs)
-fits_first k xs f = fits_end (reverse (drop k xs)) (reverse (take k xs)) (subst past.Fits (parts k xs) f)
+fits_first : (k : ℕ) (xs : List Note) → FitsUnlessAlone xs → FitsUnlessAlone (take k xs)
+fits_first k xs f = (
+  port_end (reverse (drop k xs)) (reverse (take k xs)) (subst past.OnePort (parts k xs) f.0),
+  endpoint_end (reverse (drop k xs)) (reverse (take k xs)) (subst past.OneEndpoint (parts k xs) f.1),
+)
 
 silent_first : (k : ℕ) (xs : List Note) → Silent xs → Silent (take k xs)
 silent_first k xs s = silent_end (reverse (drop k xs)) (reverse (take k xs)) (subst past.Silent (parts k xs) s)
 
-fits_sooner : (xs : List Note) (k j : ℕ) → k ≤ j → Fits (take j xs) → Fits (take k xs)
-fits_sooner xs k j le f = subst Fits (take-take k j xs le) (fits_first k (take j xs) f)
+fits_sooner : (xs : List Note) (k j : ℕ) → k ≤ j → FitsUnlessAlone (take j xs) → FitsUnlessAlone (take k xs)
+fits_sooner xs k j le f = subst FitsUnlessAlone (take-take k j xs le) (fits_first k (take j xs) f)
 
 silent_sooner : (xs : List Note) (k j : ℕ) → k ≤ j → Silent (take j xs) → Silent (take k xs)
 silent_sooner xs k j le s = subst Silent (take-take k j xs le) (silent_first k (take j xs) s)
@@ -78,7 +85,7 @@ one_fault xs z o (NotSilent a) NotKept fo go f h = absurd (f.2 (silent_first a x
 one_fault xs z o (NotSilent a) (NotSilent b) fo go f h = ap (λ x. NotSilent x) (loud_loud xs a b f h)
 
 -- no fault can be said where the trace fits and is silent and the tables are kept
-pub no_fault : (xs : List Note) (zero one : List Pair) (f : AuditFault) → Fits xs → Silent xs → Kept (ListsHold zero one) xs → IsFound f → FaultSays xs zero one f → ⊥
+pub no_fault : (xs : List Note) (zero one : List Pair) (f : AuditFault) → FitsUnlessAlone xs → Silent xs → Kept (ListsHold zero one) xs → IsFound f → FaultSays xs zero one f → ⊥
 no_fault xs z o NoMemory fits silent kept fo f = fo
 no_fault xs z o (NotFits a) fits silent kept fo f = f.2 (fits_first a xs fits)
 no_fault xs z o NotKept fits silent kept fo f = f.2 kept

@@ -7,3 +7,5 @@ mod Notes
 mod Exact
 mod Rows
 mod Growth
+mod Plain
+pub mod Offered

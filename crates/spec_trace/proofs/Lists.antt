@@ -66,6 +66,17 @@ without_iff q p xs agreed b if_same f =
       | inr s ↦ subst (λ k. Contains (filter test xs) q ↔ IsTrue (cond (k && agreed) false b)) (sym s) (λ c. f.0 (had c), λ h. kept_by test xs q (f.1 h) (ap not s))
     ]
 
+-- a list without the pairs that are lost has the pairs that are open after a crash
+pub less_iff : (q : Pair) (xs : List Pair) (lost : Pair → Bool) (b : Bool) → (Contains xs q ↔ IsTrue b) → (Contains (filter (λ x. not (lost x)) xs) q ↔ IsTrue (cond (lost q) false b))
+less_iff q xs lost b f =
+    let test : Pair → Bool = λ x. not (lost x) in
+    let had : Contains (filter test xs) q → Contains xs q = λ c. All-contains (Contains xs) (filter test xs) q (All-filter test (Contains xs) xs (All-contains_itself xs)) c in
+    let passed : Contains (filter test xs) q → test q ≡ true = λ c. All-contains (λ x. test x ≡ true) (filter test xs) q (filter_passes test xs) c in
+    elim (cases_Bool (lost q)) [
+      | inl s ↦ subst (λ k. Contains (filter test xs) q ↔ IsTrue (cond k false b)) (sym s) (λ c. absurd (both_ways (lost q) (not-true (lost q) (passed c)) s), λ h. absurd (cc))
+      | inr s ↦ subst (λ k. Contains (filter test xs) q ↔ IsTrue (cond k false b)) (sym s) (λ c. f.0 (had c), λ h. kept_by test xs q (f.1 h) (ap not s))
+    ]
+
 -- the first i + 1 notes, reversed, are note i before the first i notes, reversed
 pub reverse_take : (xs : List Note) (i : ℕ) (n : Note) → i < length xs → n ≡ get_or xs i n → reverse (take (i + 1) xs) ≡ n ∷ reverse (take i xs)
 reverse_take xs i n h e = ap reverse (take_more xs i n h) ∙ reverse-append (take i xs) (get_or xs i n ∷ []) ∙ ap (λ (x : Note). x ∷ reverse (take i xs)) (sym e)

@@ -5,10 +5,10 @@ use Rattle.nat_types.specs.declared.gateways.GatewayId.TheVariants.{Zero, One}
 use Rattle.addresses.specs.declared.transport.Protocol.TheVariants.{Icmp, Tcp, Udp}
 use Rattle.nat_types.specs.declared.pairs.Pair.{Pair}
 use Rattle.nat_types.specs.declared.notes.NoteKind.{NoteKind}
-use Rattle.nat_types.specs.declared.notes.NoteKind.TheVariants.{Used, Released, Retaken, Synced, Crashed, Booted}
+use Rattle.nat_types.specs.declared.notes.NoteKind.TheVariants.{Used, Released, Retaken, Alone, Synced, Crashed, Booted}
 use Rattle.nat_types.specs.declared.notes.Note.{Note}
 use Rattle.nat_types.specs.Same.{same_key, same_endpoint, same_pair}
-use Rattle.spec_trace.specs.Past.{is_open, goes_on, Idle}
+use Rattle.spec_trace.specs.Past.{is_open, is_private, goes_on, Idle}
 use Rattle.spec_trace.specs.OneBox.{Map, Allot, Use, Drop, moves_at, AreTimely, IsRun}
 use Rattle.spec_trace.proofs.Box.{run_open}
 
@@ -54,6 +54,30 @@ row_goes_on = refl
 row_next_life : goes_on One pair_p (note One 2 (Booted 2) ∷ note One 2 Crashed ∷ note One 1 (Retaken pair_p) ∷ []) ≡ false
 unfolding same_pair same_key same_endpoint
 row_next_life = refl
+
+-- a pair alone and used at one gateway is open while the other is synced; it is lost where the one crashes, and not where
+-- the other has it in use
+row_alone : is_open pair_p (note Zero 2 (Used pair_p) ∷ note Zero 1 (Alone pair_p) ∷ note One 0 Synced ∷ []) ≡ true
+unfolding same_pair same_key same_endpoint
+row_alone = refl
+
+row_lost : is_open pair_p (note Zero 3 Crashed ∷ note Zero 2 (Used pair_p) ∷ note Zero 1 (Alone pair_p) ∷ note One 0 Synced ∷ []) ≡ false
+unfolding same_pair same_key same_endpoint
+row_lost = refl
+
+row_told : is_open pair_p (note Zero 4 Crashed ∷ note One 3 (Retaken pair_p) ∷ note Zero 2 (Used pair_p) ∷ note Zero 1 (Alone pair_p) ∷ note One 0 Synced ∷ []) ≡ true
+unfolding same_pair same_key same_endpoint
+row_told = refl
+
+-- a gateway may drop a pair by itself that the other knows nothing of
+row_dropped : is_open pair_p (note Zero 3 (Released pair_p) ∷ note Zero 2 (Used pair_p) ∷ note Zero 1 (Alone pair_p) ∷ note One 0 Synced ∷ []) ≡ false
+unfolding same_pair same_key same_endpoint
+row_dropped = refl
+
+-- a pair is no longer private once its gateway takes it over
+row_private : is_private Zero pair_p (note Zero 3 (Retaken pair_p) ∷ note Zero 2 (Used pair_p) ∷ note Zero 1 (Alone pair_p) ∷ []) ≡ false
+unfolding same_pair same_key same_endpoint
+row_private = refl
 
 -- a pair is idle its rest after its last use, and isn't one centisecond earlier
 row_idle : Idle (note Zero 30000 (Released pair_p) ∷ note Zero 0 (Used pair_p) ∷ [])

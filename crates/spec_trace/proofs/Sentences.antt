@@ -5,11 +5,11 @@ use Rattle.nat_types.specs.declared.gateways.GatewayId.{GatewayId}
 use Rattle.nat_types.specs.declared.gateways.GatewayId.TheVariants.{Zero}
 use Rattle.nat_types.specs.declared.pairs.Pair.{Pair}
 use Rattle.nat_types.specs.declared.notes.NoteKind.{NoteKind}
-use Rattle.nat_types.specs.declared.notes.NoteKind.TheVariants.{Used, Released, Retaken, Synced, Crashed, Booted}
+use Rattle.nat_types.specs.declared.notes.NoteKind.TheVariants.{Used, Released, Retaken, Alone, Synced, Crashed, Booted}
 use Rattle.nat_types.specs.declared.notes.Note.{Note}
 use Rattle.nat_types.specs.Same.{same, other, same_pair}
-use Rattle.spec_trace.specs.Past.{synced_after, is_synced, released_after, has_released, is_agreed, open_after, is_open, goes_after, goes_on, DoFit, FitsAt, Fits, SilentAt, Silent, rest_of, UsesAt, UsedInLife, IdleAt, Idle}
-use Rattle.spec_trace.specs.Position.{is_state_word, is_state, SyncedSays, is_pair_word, is_on_pair, LetGoSays, AgreedSays, Deletes, OpenSays, Each, FitsHere, FitsSays, SilentHere, SilentSays, KeptSays, is_boot_word, is_of_life, GoesOnSays, UseSays, IdleHere, IdleSays}
+use Rattle.spec_trace.specs.Past.{synced_after, is_synced, released_after, has_released, is_in_use, private_after, is_private, is_only_at, is_agreed, open_after, is_open, is_alone_word, was_alone, goes_after, goes_on, DoFit, FitsAt, Fits, OnePortAt, OnePort, OneEndpointAt, OneEndpoint, SilentAt, Silent, IsHeldApart, rest_of, UsesAt, UsedInLife, IdleAt, Idle}
+use Rattle.spec_trace.specs.Position.{is_state_word, is_state, SyncedSays, is_pair_word, is_on_pair, LetGoSays, InUseSays, is_private_word, is_of_privacy, PrivateSays, OnlyAtSays, AgreedSays, Deletes, Loses, OpenSays, WasAloneSays, Each, FitsHere, FitsSays, OnePortHere, OnePortSays, OneEndpointHere, OneEndpointSays, SilentHere, SilentSays, KeptSays, is_boot_word, is_of_life, GoesOnSays, UseSays, IdleHere, IdleSays}
 use Rattle.nat_types.proofs.Offered.{same-eq, same-true, pair-eq, pair-true}
 use Rattle.spec_trace.proofs.Places.{at_within, at_old, at_last, at_cases, take_old, take_here, last_of, Says, says, last_unique, none_unique, reverse_more}
 
@@ -18,6 +18,7 @@ abbrev is_synced_word : NoteKind → Bool
 is_synced_word (Used p) = false
 is_synced_word (Released p) = false
 is_synced_word (Retaken p) = false
+is_synced_word (Alone p) = false
 is_synced_word Synced = true
 is_synced_word Crashed = false
 is_synced_word (Booted n) = false
@@ -41,6 +42,7 @@ synced_step : (i j : GatewayId) (at : ℕ) (w : NoteKind) (b : Bool) (o : Option
 synced_step i j at (Used p) b o e = ap (synced_of i) (quiet (same i j) (Some (record { by = j; at = at; what = Used p })) o)
 synced_step i j at (Released p) b o e = ap (synced_of i) (quiet (same i j) (Some (record { by = j; at = at; what = Released p })) o)
 synced_step i j at (Retaken p) b o e = ap (synced_of i) (quiet (same i j) (Some (record { by = j; at = at; what = Retaken p })) o)
+synced_step i j at (Alone p) b o e = ap (synced_of i) (quiet (same i j) (Some (record { by = j; at = at; what = Alone p })) o)
 synced_step i j at Synced true o e = rw e refl
 synced_step i j at Synced false o e = rw e refl
 synced_step i j at Crashed true o e = rw e refl
@@ -56,6 +58,7 @@ synced_word : (w : NoteKind) → is_synced_word w ≡ true → w ≡ Synced
 synced_word (Used p) e = absurd (cc)
 synced_word (Released p) e = absurd (cc)
 synced_word (Retaken p) e = absurd (cc)
+synced_word (Alone p) e = absurd (cc)
 synced_word Synced e = refl
 synced_word Crashed e = absurd (cc)
 synced_word (Booted n) e = absurd (cc)
@@ -78,6 +81,7 @@ abbrev is_released : NoteKind → Bool
 is_released (Used p) = false
 is_released (Released p) = true
 is_released (Retaken p) = false
+is_released (Alone p) = false
 is_released Synced = false
 is_released Crashed = false
 is_released (Booted n) = false
@@ -92,7 +96,9 @@ released_step i p j at (Used q) false o e = rw e refl
 released_step i p j at (Released q) true o e = rw e refl
 released_step i p j at (Released q) false o e = rw e refl
 released_step i p j at (Retaken q) true o e = rw e refl
+released_step i p j at (Alone q) true o e = rw e refl
 released_step i p j at (Retaken q) false o e = rw e refl
+released_step i p j at (Alone q) false o e = rw e refl
 released_step i p j at Synced b o e = ap released_of (quiet (same i j) (Some (record { by = j; at = at; what = Synced })) o)
 released_step i p j at Crashed b o e = ap released_of (quiet (same i j) (Some (record { by = j; at = at; what = Crashed })) o)
 released_step i p j at (Booted n) b o e = ap released_of (quiet (same i j) (Some (record { by = j; at = at; what = Booted n })) o)
@@ -105,6 +111,7 @@ released_word : (p : Pair) (w : NoteKind) → is_pair_word p w ≡ true → is_r
 released_word p (Used q) s e = absurd (cc)
 released_word p (Released q) s e = ap (λ (x : Pair). Released x) (sym (pair-eq p q s))
 released_word p (Retaken q) s e = absurd (cc)
+released_word p (Alone q) s e = absurd (cc)
 released_word p Synced s e = absurd (cc)
 released_word p Crashed s e = absurd (cc)
 released_word p (Booted n) s e = absurd (cc)
@@ -119,23 +126,12 @@ released_so i p t = (
   λ h. released_last i p t ∙ ap released_of (last_unique (is_on_pair i p) t h.0 h.1) ∙ ap is_released h.2,
 )
 
-pub agreed_so : (i : GatewayId) (p : Pair) (t : List Note) → IsTrue (is_agreed i p t) ↔ AgreedSays i p (reverse t)
-agreed_so i p t = (
-  λ h. elim (or_cases (not (is_synced (other i) t)) (has_released (other i) p t) h) [
-    | inl a ↦ inl (λ s. both_ways (is_synced (other i) t) (not-true (is_synced (other i) t) a) ((synced_so (other i) t).1 s))
-    | inr a ↦ inr ((released_so (other i) p t).0 a)
-  ],
-  λ h. elim h [
-    | inl a ↦ or_left (not (is_synced (other i) t)) (has_released (other i) p t) (not_from_false (is_synced (other i) t) (false_from_ne_true (is_synced (other i) t) (λ e. a ((synced_so (other i) t).0 e))))
-    | inr a ↦ or_right (not (is_synced (other i) t)) (has_released (other i) p t) ((released_so (other i) p t).1 a)
-  ],
-)
-
--- whether a note is Used or Retaken
+-- whether a note is Used, Retaken or Alone
 abbrev is_on_word : NoteKind → Bool
 is_on_word (Used p) = true
 is_on_word (Released p) = false
 is_on_word (Retaken p) = true
+is_on_word (Alone p) = true
 is_on_word Synced = false
 is_on_word Crashed = false
 is_on_word (Booted n) = false
@@ -157,7 +153,9 @@ goes_step i p j at (Used q) false o e = ap (λ c. cond c true (goes_of o)) (ap (
 goes_step i p j at (Released q) true o e = ap (λ c. cond c false (goes_of o)) (ap (λ x. same i j && x) (sym (or_no (same_pair p q))) ∙ e)
 goes_step i p j at (Released q) false o e = ap (λ c. cond c false (goes_of o)) (ap (λ x. same i j && x) (sym (or_no (same_pair p q))) ∙ e)
 goes_step i p j at (Retaken q) true o e = ap (λ c. cond c true (goes_of o)) (ap (λ x. same i j && x) (sym (or_no (same_pair p q))) ∙ e)
+goes_step i p j at (Alone q) true o e = ap (λ c. cond c true (goes_of o)) (ap (λ x. same i j && x) (sym (or_no (same_pair p q))) ∙ e)
 goes_step i p j at (Retaken q) false o e = ap (λ c. cond c true (goes_of o)) (ap (λ x. same i j && x) (sym (or_no (same_pair p q))) ∙ e)
+goes_step i p j at (Alone q) false o e = ap (λ c. cond c true (goes_of o)) (ap (λ x. same i j && x) (sym (or_no (same_pair p q))) ∙ e)
 goes_step i p j at Synced true o e = absurd (both_ways (same i j && false) (and_no (same i j)) e)
 goes_step i p j at Synced false o e = refl
 goes_step i p j at Crashed true o e = absurd (both_ways (same i j && false) (and_no (same i j)) e)
@@ -169,10 +167,11 @@ goes_last : (i : GatewayId) (p : Pair) (t : List Note) → goes_on i p t ≡ goe
 goes_last i p [] = refl
 goes_last i p (n ∷ t) = ap (goes_after i p n.by n.what) (goes_last i p t) ∙ goes_step i p n.by n.at n.what (same i n.by && (is_pair_word p n.what || is_boot_word n.what)) (last_of (is_of_life i p) t) refl
 
-on_word : (p : Pair) (w : NoteKind) → (is_pair_word p w || is_boot_word w) ≡ true → is_on_word w ≡ true → (w ≡ Used p) ⊎ (w ≡ Retaken p)
+on_word : (p : Pair) (w : NoteKind) → (is_pair_word p w || is_boot_word w) ≡ true → is_on_word w ≡ true → (w ≡ Used p) ⊎ ((w ≡ Retaken p) ⊎ (w ≡ Alone p))
 on_word p (Used q) s e = inl (ap (λ (x : Pair). Used x) (sym (pair-eq p q (sym (or_no (same_pair p q)) ∙ s))))
 on_word p (Released q) s e = absurd (cc)
-on_word p (Retaken q) s e = inr (ap (λ (x : Pair). Retaken x) (sym (pair-eq p q (sym (or_no (same_pair p q)) ∙ s))))
+on_word p (Retaken q) s e = inr (inl (ap (λ (x : Pair). Retaken x) (sym (pair-eq p q (sym (or_no (same_pair p q)) ∙ s)))))
+on_word p (Alone q) s e = inr (inr (ap (λ (x : Pair). Alone x) (sym (pair-eq p q (sym (or_no (same_pair p q)) ∙ s)))))
 on_word p Synced s e = absurd (cc)
 on_word p Crashed s e = absurd (cc)
 on_word p (Booted n) s e = absurd (cc)
@@ -184,8 +183,121 @@ goes_to i p t (Some n) s e = (n, s, on_word p n.what (and_parts (same i n.by) (i
 pub goes_so : (i : GatewayId) (p : Pair) (t : List Note) → IsTrue (goes_on i p t) ↔ GoesOnSays i p (reverse t)
 goes_so i p t = (
   λ h. goes_to i p (reverse t) (last_of (is_of_life i p) t) (says (is_of_life i p) t) (sym (goes_last i p t) ∙ h),
-  λ h. goes_last i p t ∙ ap goes_of (last_unique (is_of_life i p) t h.0 h.1) ∙ elim h.2 [ inl a ↦ ap is_on_word a | inr a ↦ ap is_on_word a ],
+  λ h. goes_last i p t ∙ ap goes_of (last_unique (is_of_life i p) t h.0 h.1) ∙ elim h.2 [ inl a ↦ ap is_on_word a | inr b ↦ elim b [ inl a ↦ ap is_on_word a | inr a ↦ ap is_on_word a ] ],
 )
+
+pub used_so : (i : GatewayId) (p : Pair) (t : List Note) → IsTrue (is_in_use i p t) ↔ InUseSays i p (reverse t)
+used_so i p t = (
+  λ h. let both = and_parts (is_synced i t) (goes_on i p t) h in ((synced_so i t).0 both.0, (goes_so i p t).0 both.1),
+  λ h. and_from (is_synced i t) (goes_on i p t) ((synced_so i t).1 h.0) ((goes_so i p t).1 h.1),
+)
+
+-- whether a note is Alone
+abbrev is_alone : NoteKind → Bool
+is_alone (Used p) = false
+is_alone (Released p) = false
+is_alone (Retaken p) = false
+is_alone (Alone p) = true
+is_alone Synced = false
+is_alone Crashed = false
+is_alone (Booted n) = false
+
+abbrev private_of : Option Note → Bool
+private_of None = false
+private_of (Some n) = is_alone n.what
+
+private_step : (i : GatewayId) (p : Pair) (j : GatewayId) (at : ℕ) (w : NoteKind) (b : Bool) (o : Option Note) → (same i j && (is_private_word p w || is_boot_word w)) ≡ b → private_after i p j w (private_of o) ≡ private_of (cond b (Some (record { by = j; at = at; what = w })) o)
+private_step i p j at (Used q) true o e = absurd (both_ways (same i j && false) (and_no (same i j)) e)
+private_step i p j at (Used q) false o e = refl
+private_step i p j at (Released q) true o e = ap (λ c. cond c false (private_of o)) (ap (λ x. same i j && x) (sym (or_no (same_pair p q))) ∙ e)
+private_step i p j at (Released q) false o e = ap (λ c. cond c false (private_of o)) (ap (λ x. same i j && x) (sym (or_no (same_pair p q))) ∙ e)
+private_step i p j at (Retaken q) true o e = ap (λ c. cond c false (private_of o)) (ap (λ x. same i j && x) (sym (or_no (same_pair p q))) ∙ e)
+private_step i p j at (Retaken q) false o e = ap (λ c. cond c false (private_of o)) (ap (λ x. same i j && x) (sym (or_no (same_pair p q))) ∙ e)
+private_step i p j at (Alone q) true o e = ap (λ c. cond c true (private_of o)) (ap (λ x. same i j && x) (sym (or_no (same_pair p q))) ∙ e)
+private_step i p j at (Alone q) false o e = ap (λ c. cond c true (private_of o)) (ap (λ x. same i j && x) (sym (or_no (same_pair p q))) ∙ e)
+private_step i p j at Synced true o e = absurd (both_ways (same i j && false) (and_no (same i j)) e)
+private_step i p j at Synced false o e = refl
+private_step i p j at Crashed true o e = absurd (both_ways (same i j && false) (and_no (same i j)) e)
+private_step i p j at Crashed false o e = refl
+private_step i p j at (Booted n) true o e = ap (λ c. cond c false (private_of o)) (sym (and_yes (same i j)) ∙ e)
+private_step i p j at (Booted n) false o e = ap (λ c. cond c false (private_of o)) (sym (and_yes (same i j)) ∙ e)
+
+private_last : (i : GatewayId) (p : Pair) (t : List Note) → is_private i p t ≡ private_of (last_of (is_of_privacy i p) t)
+private_last i p [] = refl
+private_last i p (n ∷ t) = ap (private_after i p n.by n.what) (private_last i p t) ∙ private_step i p n.by n.at n.what (same i n.by && (is_private_word p n.what || is_boot_word n.what)) (last_of (is_of_privacy i p) t) refl
+
+private_word : (p : Pair) (w : NoteKind) → (is_private_word p w || is_boot_word w) ≡ true → is_alone w ≡ true → w ≡ Alone p
+private_word p (Used q) s e = absurd (cc)
+private_word p (Released q) s e = absurd (cc)
+private_word p (Retaken q) s e = absurd (cc)
+private_word p (Alone q) s e = ap (λ (x : Pair). Alone x) (sym (pair-eq p q (sym (or_no (same_pair p q)) ∙ s)))
+private_word p Synced s e = absurd (cc)
+private_word p Crashed s e = absurd (cc)
+private_word p (Booted n) s e = absurd (cc)
+
+private_to : (i : GatewayId) (p : Pair) (t : List Note) (o : Option Note) → Says (is_of_privacy i p) t o → private_of o ≡ true → PrivateSays i p t
+private_to i p t None s e = absurd (cc)
+private_to i p t (Some n) s e = (n, s, private_word p n.what (and_parts (same i n.by) (is_private_word p n.what || is_boot_word n.what) s.2).1 e)
+
+pub private_so : (i : GatewayId) (p : Pair) (t : List Note) → IsTrue (is_private i p t) ↔ PrivateSays i p (reverse t)
+private_so i p t = (
+  λ h. private_to i p (reverse t) (last_of (is_of_privacy i p) t) (says (is_of_privacy i p) t) (sym (private_last i p t) ∙ h),
+  λ h. private_last i p t ∙ ap private_of (last_unique (is_of_privacy i p) t h.0 h.1) ∙ ap is_alone h.2,
+)
+
+pub only_so : (i : GatewayId) (p : Pair) (t : List Note) → IsTrue (is_only_at i p t) ↔ OnlyAtSays i p (reverse t)
+only_so i p t = (
+  λ h. let both = and_parts (is_private i p t) (not (is_in_use (other i) p t)) h in ((private_so i p t).0 both.0, λ u. both_ways (is_in_use (other i) p t) (not-true (is_in_use (other i) p t) both.1) ((used_so (other i) p t).1 u)),
+  λ h. and_from (is_private i p t) (not (is_in_use (other i) p t)) ((private_so i p t).1 h.0) (not_from_false (is_in_use (other i) p t) (false_from_ne_true (is_in_use (other i) p t) (λ e. h.1 ((used_so (other i) p t).0 e)))),
+)
+
+gone_so : (i : GatewayId) (p : Pair) (t : List Note) → IsTrue (not (is_synced (other i) t) || has_released (other i) p t) ↔ ((SyncedSays (other i) (reverse t) → ⊥) ⊎ LetGoSays (other i) p (reverse t))
+gone_so i p t = (
+  λ h. elim (or_cases (not (is_synced (other i) t)) (has_released (other i) p t) h) [
+    | inl a ↦ inl (λ s. both_ways (is_synced (other i) t) (not-true (is_synced (other i) t) a) ((synced_so (other i) t).1 s))
+    | inr a ↦ inr ((released_so (other i) p t).0 a)
+  ],
+  λ h. elim h [
+    | inl a ↦ or_left (not (is_synced (other i) t)) (has_released (other i) p t) (not_from_false (is_synced (other i) t) (false_from_ne_true (is_synced (other i) t) (λ e. a ((synced_so (other i) t).0 e))))
+    | inr a ↦ or_right (not (is_synced (other i) t)) (has_released (other i) p t) ((released_so (other i) p t).1 a)
+  ],
+)
+
+pub agreed_so : (i : GatewayId) (p : Pair) (t : List Note) → IsTrue (is_agreed i p t) ↔ AgreedSays i p (reverse t)
+agreed_so i p t = (
+  λ h. elim (or_cases (not (is_synced (other i) t) || has_released (other i) p t) (is_only_at i p t) h) [ inl a ↦ inl ((gone_so i p t).0 a) | inr a ↦ inr ((only_so i p t).0 a) ],
+  λ h. elim h [ inl a ↦ or_left (not (is_synced (other i) t) || has_released (other i) p t) (is_only_at i p t) ((gone_so i p t).1 a) | inr a ↦ or_right (not (is_synced (other i) t) || has_released (other i) p t) (is_only_at i p t) ((only_so i p t).1 a) ],
+)
+
+alone_word : (p : Pair) (w : NoteKind) → is_alone_word p w ≡ true → w ≡ Alone p
+alone_word p (Used q) e = absurd (cc)
+alone_word p (Released q) e = absurd (cc)
+alone_word p (Retaken q) e = absurd (cc)
+alone_word p (Alone q) e = ap (λ (x : Pair). Alone x) (sym (pair-eq p q e))
+alone_word p Synced e = absurd (cc)
+alone_word p Crashed e = absurd (cc)
+alone_word p (Booted n) e = absurd (cc)
+
+none_alone : (p : Pair) → WasAloneSays p [] → ⊥
+none_alone p o = let h : None ≡ Some o.1 = o.2 in cc
+
+pub alone_so : (p : Pair) (t : List Note) → IsTrue (was_alone p t) ↔ WasAloneSays p (reverse t)
+alone_so p [] = (λ h. absurd (cc), λ h. absurd (none_alone p h))
+alone_so p (n ∷ t) = (
+  λ h. subst (λ (x : List Note). WasAloneSays p x) (sym (reverse_more n t)) (elim (or_cases (is_alone_word p n.what) (was_alone p t) h) [
+    | inl e ↦ (length (reverse t), n, at_last (reverse t) n, alone_word p n.what e)
+    | inr e ↦ let o = (alone_so p t).0 e in (o.0, o.1, at_old (reverse t) (n ∷ []) o.0 o.1 o.2, o.3)
+  ]),
+  λ h. let o : WasAloneSays p (reverse t ++ n ∷ []) = subst (λ (x : List Note). WasAloneSays p x) (reverse_more n t) h in
+      elim (at_cases (reverse t) n o.0 o.1 o.2) [
+        | inl old ↦ or_right (is_alone_word p n.what) (was_alone p t) ((alone_so p t).1 (o.0, o.1, old, o.3))
+        | inr new ↦ or_left (is_alone_word p n.what) (was_alone p t) (ap (is_alone_word p) (ap (λ (x : Note). x.what) new.1 ∙ o.3) ∙ pair-true p p refl)
+      ],
+)
+
+-- a note after which the pair isn't open: it is an agreed deletion, or loses the pair
+abbrev Ends : Pair → Note → List Note → Type 0
+Ends p n xs = Deletes p n xs ⊎ Loses p n xs
 
 -- a pair is open after a use of it
 open_new : (p : Pair) (xs : List Note) (n : Note) → n.what ≡ Used p → OpenSays p (xs ++ n ∷ [])
@@ -200,23 +312,23 @@ open_new p xs n e = (
   ],
 )
 
-open_old : (p : Pair) (xs : List Note) (n : Note) → OpenSays p xs → (Deletes p n xs → ⊥) → OpenSays p (xs ++ n ∷ [])
+open_old : (p : Pair) (xs : List Note) (n : Note) → OpenSays p xs → (Ends p n xs → ⊥) → OpenSays p (xs ++ n ∷ [])
 open_old p xs n o never = (
   o.0,
   o.1,
   at_old xs (n ∷ []) o.0 o.1 o.2,
   o.3,
   λ j m lt at d. elim (at_cases xs n j m at) [
-    | inl old ↦ o.4 j m lt old (subst (λ (x : List Note). Deletes p m x) (take_old xs n j m old) d)
-    | inr new ↦ never (subst (λ (x : Note). Deletes p x xs) (sym new.1) (subst (λ (x : List Note). Deletes p m x) (take_here xs n j new.0) d))
+    | inl old ↦ o.4 j m lt old (subst (λ (x : List Note). Ends p m x) (take_old xs n j m old) d)
+    | inr new ↦ never (subst (λ (x : Note). Ends p x xs) (sym new.1) (subst (λ (x : List Note). Ends p m x) (take_here xs n j new.0) d))
   ],
 )
 
-open_less : (p : Pair) (xs : List Note) (n : Note) → OpenSays p (xs ++ n ∷ []) → (n.what ≡ Used p) ⊎ (OpenSays p xs × (Deletes p n xs → ⊥))
+open_less : (p : Pair) (xs : List Note) (n : Note) → OpenSays p (xs ++ n ∷ []) → (n.what ≡ Used p) ⊎ (OpenSays p xs × (Ends p n xs → ⊥))
 open_less p xs n o = elim (at_cases xs n o.0 o.1 o.2) [
   | inl old ↦ inr (
-    (o.0, o.1, old, o.3, λ j m lt at d. o.4 j m lt (at_old xs (n ∷ []) j m at) (subst (λ (x : List Note). Deletes p m x) (sym (take_old xs n j m at)) d)),
-    λ d. o.4 (length xs) n (at_within xs o.0 o.1 old) (at_last xs n) (subst (λ (x : List Note). Deletes p n x) (sym (take_here xs n (length xs) refl)) d),
+    (o.0, o.1, old, o.3, λ j m lt at d. o.4 j m lt (at_old xs (n ∷ []) j m at) (subst (λ (x : List Note). Ends p m x) (sym (take_old xs n j m at)) d)),
+    λ d. o.4 (length xs) n (at_within xs o.0 o.1 old) (at_last xs n) (subst (λ (x : List Note). Ends p n x) (sym (take_here xs n (length xs) refl)) d),
   )
   | inr new ↦ inl (ap (λ (x : Note). x.what) new.1 ∙ o.3)
 ]
@@ -234,38 +346,47 @@ used_same p q e = cc
 released_same : (p q : Pair) → Released q ≡ Released p → p ≡ q
 released_same p q e = cc
 
--- whether a note alone decides if the pair is open: it uses the pair, or is an agreed deletion of
--- it
+-- whether a note alone decides if the pair is open: it uses the pair, is an agreed deletion of it, or loses it
 abbrev is_about : Pair → GatewayId → NoteKind → List Note → Bool
 is_about p i (Used q) t = same_pair p q
 is_about p i (Released q) t = same_pair p q && is_agreed i p t
 is_about p i (Retaken q) t = false
+is_about p i (Alone q) t = false
 is_about p i Synced t = false
-is_about p i Crashed t = false
+is_about p i Crashed t = is_only_at i p t
 is_about p i (Booted n) t = false
 
-open_to : (p : Pair) (i : GatewayId) (at : ℕ) (w : NoteKind) (t : List Note) (b : Bool) → (IsTrue (is_open p t) → OpenSays p (reverse t)) → is_about p i w t ≡ b → open_after p w (is_agreed i p t) (is_open p t) ≡ true → OpenSays p (reverse t ++ record { by = i; at = at; what = w } ∷ [])
-open_to p i at (Used q) t true was e h = open_new p (reverse t) (record { by = i; at = at; what = Used q }) (ap (λ (x : Pair). Used x) (sym (pair-eq p q e)))
-open_to p i at (Used q) t false was e h = open_old p (reverse t) (record { by = i; at = at; what = Used q }) (was (sym (ap (λ b. cond b true (is_open p t)) e) ∙ h)) (λ d. let x : Used q ≡ Released p = d.0 in cc)
-open_to p i at (Released q) t true was e h = absurd (let x : false ≡ true = sym (ap (λ b. cond b false (is_open p t)) e) ∙ h in cc)
-open_to p i at (Released q) t false was e h = open_old p (reverse t) (record { by = i; at = at; what = Released q }) (was (sym (ap (λ b. cond b false (is_open p t)) e) ∙ h)) (λ d. both_ways (same_pair p q && is_agreed i p t) e (and_from (same_pair p q) (is_agreed i p t) (pair-true p q (released_same p q d.0)) ((agreed_so i p t).1 d.1)))
-open_to p i at (Retaken q) t b was e h = open_old p (reverse t) (record { by = i; at = at; what = Retaken q }) (was h) (λ d. let x : Retaken q ≡ Released p = d.0 in cc)
-open_to p i at Synced t b was e h = open_old p (reverse t) (record { by = i; at = at; what = Synced }) (was h) (λ d. let x : Synced ≡ Released p = d.0 in cc)
-open_to p i at Crashed t b was e h = open_old p (reverse t) (record { by = i; at = at; what = Crashed }) (was h) (λ d. let x : Crashed ≡ Released p = d.0 in cc)
-open_to p i at (Booted n) t b was e h = open_old p (reverse t) (record { by = i; at = at; what = Booted n }) (was h) (λ d. let x : Booted n ≡ Released p = d.0 in cc)
+no_end : (p : Pair) (w : NoteKind) (A B : Type 0) → (w ≡ Released p → A → ⊥) → (w ≡ Crashed → B → ⊥) → ((w ≡ Released p) × A) ⊎ ((w ≡ Crashed) × B) → ⊥
+no_end p w A B a b (inl h) = a h.0 h.1
+no_end p w A B a b (inr h) = b h.0 h.1
 
-open_from : (p : Pair) (i : GatewayId) (w : NoteKind) (t : List Note) (b : Bool) → (OpenSays p (reverse t) → IsTrue (is_open p t)) → is_about p i w t ≡ b → (w ≡ Used p) ⊎ (OpenSays p (reverse t) × ((w ≡ Released p) × AgreedSays i p (reverse t) → ⊥)) → open_after p w (is_agreed i p t) (is_open p t) ≡ true
+open_to : (p : Pair) (i : GatewayId) (at : ℕ) (w : NoteKind) (t : List Note) (b : Bool) → (IsTrue (is_open p t) → OpenSays p (reverse t)) → is_about p i w t ≡ b → open_after p w (is_agreed i p t) (is_only_at i p t) (is_open p t) ≡ true → OpenSays p (reverse t ++ record { by = i; at = at; what = w } ∷ [])
+open_to p i at (Used q) t true was e h = open_new p (reverse t) (record { by = i; at = at; what = Used q }) (ap (λ (x : Pair). Used x) (sym (pair-eq p q e)))
+open_to p i at (Used q) t false was e h = open_old p (reverse t) (record { by = i; at = at; what = Used q }) (was (sym (ap (λ b. cond b true (is_open p t)) e) ∙ h)) (no_end p (Used q) _ _ (λ d a. cc) (λ d a. cc))
+open_to p i at (Released q) t true was e h = absurd (let x : false ≡ true = sym (ap (λ b. cond b false (is_open p t)) e) ∙ h in cc)
+open_to p i at (Released q) t false was e h = open_old p (reverse t) (record { by = i; at = at; what = Released q }) (was (sym (ap (λ b. cond b false (is_open p t)) e) ∙ h)) (no_end p (Released q) _ _ (λ d a. both_ways (same_pair p q && is_agreed i p t) e (and_from (same_pair p q) (is_agreed i p t) (pair-true p q (released_same p q d)) ((agreed_so i p t).1 a))) (λ d a. cc))
+open_to p i at (Retaken q) t b was e h = open_old p (reverse t) (record { by = i; at = at; what = Retaken q }) (was h) (no_end p (Retaken q) _ _ (λ d a. cc) (λ d a. cc))
+open_to p i at (Alone q) t b was e h = open_old p (reverse t) (record { by = i; at = at; what = Alone q }) (was h) (no_end p (Alone q) _ _ (λ d a. cc) (λ d a. cc))
+open_to p i at Synced t b was e h = open_old p (reverse t) (record { by = i; at = at; what = Synced }) (was h) (no_end p Synced _ _ (λ d a. cc) (λ d a. cc))
+open_to p i at Crashed t true was e h = absurd (let x : false ≡ true = sym (ap (λ b. cond b false (is_open p t)) e) ∙ h in cc)
+open_to p i at Crashed t false was e h = open_old p (reverse t) (record { by = i; at = at; what = Crashed }) (was (sym (ap (λ b. cond b false (is_open p t)) e) ∙ h)) (no_end p Crashed _ _ (λ d a. cc) (λ d a. both_ways (is_only_at i p t) e ((only_so i p t).1 a)))
+open_to p i at (Booted n) t b was e h = open_old p (reverse t) (record { by = i; at = at; what = Booted n }) (was h) (no_end p (Booted n) _ _ (λ d a. cc) (λ d a. cc))
+
+open_from : (p : Pair) (i : GatewayId) (w : NoteKind) (t : List Note) (b : Bool) → (OpenSays p (reverse t) → IsTrue (is_open p t)) → is_about p i w t ≡ b → (w ≡ Used p) ⊎ (OpenSays p (reverse t) × (((w ≡ Released p) × AgreedSays i p (reverse t)) ⊎ ((w ≡ Crashed) × OnlyAtSays i p (reverse t)) → ⊥)) → open_after p w (is_agreed i p t) (is_only_at i p t) (is_open p t) ≡ true
 open_from p i (Used q) t b was e (inl h) = ap (λ c. cond c true (is_open p t)) (pair-true p q (used_same p q h))
 open_from p i (Used q) t b was e (inr h) = cond_true (same_pair p q) (is_open p t) (was h.0)
 open_from p i (Released q) t b was e (inl h) = absurd (cc)
-open_from p i (Released q) t true was e (inr h) = let parts = and_parts (same_pair p q) (is_agreed i p t) e in absurd (h.1 (ap (λ (x : Pair). Released x) (sym (pair-eq p q parts.0)), (agreed_so i p t).0 parts.1))
+open_from p i (Released q) t true was e (inr h) = let parts = and_parts (same_pair p q) (is_agreed i p t) e in absurd (h.1 (inl (ap (λ (x : Pair). Released x) (sym (pair-eq p q parts.0)), (agreed_so i p t).0 parts.1)))
 open_from p i (Released q) t false was e (inr h) = ap (λ c. cond c false (is_open p t)) e ∙ was h.0
 open_from p i (Retaken q) t b was e (inl h) = absurd (cc)
 open_from p i (Retaken q) t b was e (inr h) = was h.0
+open_from p i (Alone q) t b was e (inl h) = absurd (cc)
+open_from p i (Alone q) t b was e (inr h) = was h.0
 open_from p i Synced t b was e (inl h) = absurd (cc)
 open_from p i Synced t b was e (inr h) = was h.0
 open_from p i Crashed t b was e (inl h) = absurd (cc)
-open_from p i Crashed t b was e (inr h) = was h.0
+open_from p i Crashed t true was e (inr h) = absurd (h.1 (inr (refl, (only_so i p t).0 e)))
+open_from p i Crashed t false was e (inr h) = ap (λ c. cond c false (is_open p t)) e ∙ was h.0
 open_from p i (Booted n) t b was e (inl h) = absurd (cc)
 open_from p i (Booted n) t b was e (inr h) = was h.0
 
@@ -295,6 +416,7 @@ pub fits_here : (i : GatewayId) (at : ℕ) (w : NoteKind) (t : List Note) → Fi
 fits_here i at (Used r) t = (λ f p q e o. subst (λ (x : Pair). DoFit q x) (sym (used_same p r e)) (f q ((open_so q t).1 o)), λ f q o. f r q refl ((open_so q t).0 o))
 fits_here i at (Released r) t = (λ f p q e o. absurd (cc), λ f. tt)
 fits_here i at (Retaken r) t = (λ f p q e o. absurd (cc), λ f. tt)
+fits_here i at (Alone r) t = (λ f p q e o. absurd (cc), λ f. tt)
 fits_here i at Synced t = (λ f p q e o. absurd (cc), λ f. tt)
 fits_here i at Crashed t = (λ f p q e o. absurd (cc), λ f. tt)
 fits_here i at (Booted n) t = (λ f p q e o. absurd (cc), λ f. tt)
@@ -306,10 +428,55 @@ fits_so (n ∷ t) = (
   λ f. let parts : FitsHere n (reverse t) × Each FitsHere (reverse t) = each_less FitsHere (reverse t) n (subst (Each FitsHere) (reverse_more n t) f) in ((fits_here n.by n.at n.what t).1 parts.0, (fits_so t).1 parts.1),
 )
 
+pub one_port_here : (i : GatewayId) (at : ℕ) (w : NoteKind) (t : List Note) → OnePortAt w t ↔ OnePortHere (record { by = i; at = at; what = w }) (reverse t)
+one_port_here i at (Used r) t = (λ f p q e o k. f q ((open_so q t).1 o) (k ∙ ap (λ (x : Pair). x.key) (used_same p r e)) ∙ sym (ap (λ (x : Pair). x.endpoint) (used_same p r e)), λ f q o. f r q refl ((open_so q t).0 o))
+one_port_here i at (Released r) t = (λ f p q e o. absurd (cc), λ f. tt)
+one_port_here i at (Retaken r) t = (λ f p q e o. absurd (cc), λ f. tt)
+one_port_here i at (Alone r) t = (λ f p q e o. absurd (cc), λ f. tt)
+one_port_here i at Synced t = (λ f p q e o. absurd (cc), λ f. tt)
+one_port_here i at Crashed t = (λ f p q e o. absurd (cc), λ f. tt)
+one_port_here i at (Booted n) t = (λ f p q e o. absurd (cc), λ f. tt)
+
+pub one_port_so : (t : List Note) → OnePort t ↔ OnePortSays (reverse t)
+one_port_so [] = (λ f. none_each OnePortHere, λ f. tt)
+one_port_so (n ∷ t) = (
+  λ f. subst (Each OnePortHere) (sym (reverse_more n t)) (each_more OnePortHere (reverse t) n ((one_port_so t).0 f.1) ((one_port_here n.by n.at n.what t).0 f.0)),
+  λ f. let parts : OnePortHere n (reverse t) × Each OnePortHere (reverse t) = each_less OnePortHere (reverse t) n (subst (Each OnePortHere) (reverse_more n t) f) in ((one_port_here n.by n.at n.what t).1 parts.0, (one_port_so t).1 parts.1),
+)
+
+alone_either : (p q : Pair) (t : List Note) → IsTrue (was_alone p t || was_alone q t) → WasAloneSays p (reverse t) ⊎ WasAloneSays q (reverse t)
+alone_either p q t h = elim (or_cases (was_alone p t) (was_alone q t) h) [ inl a ↦ inl ((alone_so p t).0 a) | inr a ↦ inr ((alone_so q t).0 a) ]
+
+alone_both : (p q : Pair) (t : List Note) → WasAloneSays p (reverse t) ⊎ WasAloneSays q (reverse t) → IsTrue (was_alone p t || was_alone q t)
+alone_both p q t (inl a) = or_left (was_alone p t) (was_alone q t) ((alone_so p t).1 a)
+alone_both p q t (inr a) = or_right (was_alone p t) (was_alone q t) ((alone_so q t).1 a)
+
+pub one_endpoint_here : (i : GatewayId) (at : ℕ) (w : NoteKind) (t : List Note) → OneEndpointAt w t ↔ OneEndpointHere (record { by = i; at = at; what = w }) (reverse t)
+one_endpoint_here i at (Used r) t = (
+  λ f p q e o n k. let same_one : p ≡ r = used_same p r e in
+      subst (λ (x : Pair). WasAloneSays x (reverse t) ⊎ WasAloneSays q (reverse t)) (sym same_one)
+      (alone_either r q t (f q ((open_so q t).1 o) (n ∙ ap (λ (x : Pair). x.endpoint) same_one) (λ h. k (h ∙ sym (ap (λ (x : Pair). x.key) same_one))))),
+  λ f q o n k. alone_both r q t (f r q refl ((open_so q t).0 o) n k),
+)
+one_endpoint_here i at (Released r) t = (λ f p q e o. absurd (cc), λ f. tt)
+one_endpoint_here i at (Retaken r) t = (λ f p q e o. absurd (cc), λ f. tt)
+one_endpoint_here i at (Alone r) t = (λ f p q e o. absurd (cc), λ f. tt)
+one_endpoint_here i at Synced t = (λ f p q e o. absurd (cc), λ f. tt)
+one_endpoint_here i at Crashed t = (λ f p q e o. absurd (cc), λ f. tt)
+one_endpoint_here i at (Booted n) t = (λ f p q e o. absurd (cc), λ f. tt)
+
+pub one_endpoint_so : (t : List Note) → OneEndpoint t ↔ OneEndpointSays (reverse t)
+one_endpoint_so [] = (λ f. none_each OneEndpointHere, λ f. tt)
+one_endpoint_so (n ∷ t) = (
+  λ f. subst (Each OneEndpointHere) (sym (reverse_more n t)) (each_more OneEndpointHere (reverse t) n ((one_endpoint_so t).0 f.1) ((one_endpoint_here n.by n.at n.what t).0 f.0)),
+  λ f. let parts : OneEndpointHere n (reverse t) × Each OneEndpointHere (reverse t) = each_less OneEndpointHere (reverse t) n (subst (Each OneEndpointHere) (reverse_more n t) f) in ((one_endpoint_here n.by n.at n.what t).1 parts.0, (one_endpoint_so t).1 parts.1),
+)
+
 pub silent_here : (i : GatewayId) (at : ℕ) (w : NoteKind) (t : List Note) → SilentAt i w t ↔ SilentHere (record { by = i; at = at; what = w }) (reverse t)
 silent_here i at (Used r) t = (λ f p e. (synced_so i t).0 f, λ f. (synced_so i t).1 (f r refl))
 silent_here i at (Released r) t = (λ f p e. absurd (cc), λ f. tt)
 silent_here i at (Retaken r) t = (λ f p e. absurd (cc), λ f. tt)
+silent_here i at (Alone r) t = (λ f p e. absurd (cc), λ f. tt)
 silent_here i at Synced t = (λ f p e. absurd (cc), λ f. tt)
 silent_here i at Crashed t = (λ f p e. absurd (cc), λ f. tt)
 silent_here i at (Booted n) t = (λ f p e. absurd (cc), λ f. tt)
@@ -321,10 +488,10 @@ silent_so (n ∷ t) = (
   λ f. let parts : SilentHere n (reverse t) × Each SilentHere (reverse t) = each_less SilentHere (reverse t) n (subst (Each SilentHere) (reverse_more n t) f) in ((silent_here n.by n.at n.what t).1 parts.0, (silent_so t).1 parts.1),
 )
 
-pub kept_so : (Holds : GatewayId → Pair → Type 0) (t : List Note) → ((p : Pair) → IsTrue (is_open p t) → (i : GatewayId) → IsTrue (is_synced i t) → Holds i p) ↔ KeptSays Holds (reverse t)
+pub kept_so : (Holds : GatewayId → Pair → Type 0) (t : List Note) → ((p : Pair) → IsTrue (is_open p t) → (i : GatewayId) → IsTrue (is_synced i t) → Holds i p ⊎ IsHeldApart Holds p t) ↔ KeptSays Holds (reverse t)
 kept_so Holds t = (
-  λ h p o i s. h p ((open_so p t).1 o) i ((synced_so i t).1 s),
-  λ h p o i s. h p ((open_so p t).0 o) i ((synced_so i t).0 s),
+  λ h p o i s. elim (h p ((open_so p t).1 o) i ((synced_so i t).1 s)) [ inl a ↦ inl a | inr a ↦ inr (a.0, (synced_so a.0 t).0 a.1, (private_so a.0 p t).0 a.2, a.3) ],
+  λ h p o i s. elim (h p ((open_so p t).0 o) i ((synced_so i t).0 s)) [ inl a ↦ inl a | inr a ↦ inr (a.0, (synced_so a.0 t).1 a.1, (private_so a.0 p t).1 a.2, a.3) ],
 )
 
 -- a use of the pair at the end of the trace is one in the present life
@@ -373,6 +540,7 @@ use_to i p u j at (Used q) t was (inl h) = use_new i p u (reverse t) (record { b
 use_to i p u j at (Used q) t was (inr h) = use_old i p u (reverse t) (record { by = j; at = at; what = Used q }) (was h) (λ b g w. absurd (cc))
 use_to i p u j at (Released q) t was h = use_old i p u (reverse t) (record { by = j; at = at; what = Released q }) (was h) (λ b g w. absurd (cc))
 use_to i p u j at (Retaken q) t was h = use_old i p u (reverse t) (record { by = j; at = at; what = Retaken q }) (was h) (λ b g w. absurd (cc))
+use_to i p u j at (Alone q) t was h = use_old i p u (reverse t) (record { by = j; at = at; what = Alone q }) (was h) (λ b g w. absurd (cc))
 use_to i p u j at Synced t was h = use_old i p u (reverse t) (record { by = j; at = at; what = Synced }) (was h) (λ b g w. absurd (cc))
 use_to i p u j at Crashed t was h = use_old i p u (reverse t) (record { by = j; at = at; what = Crashed }) (was h) (λ b g w. absurd (cc))
 use_to i p u j at (Booted n) t was h = use_old i p u (reverse t) (record { by = j; at = at; what = Booted n }) (was h.1) (λ b g w. h.0 (sym g))
@@ -383,7 +551,9 @@ use_from i p u j at (Used q) t was (inr h) = inr (was h.0)
 use_from i p u j at (Released q) t was (inl h) = absurd (let x : Released q ≡ Used p = h.1 in cc)
 use_from i p u j at (Released q) t was (inr h) = was h.0
 use_from i p u j at (Retaken q) t was (inl h) = absurd (let x : Retaken q ≡ Used p = h.1 in cc)
+use_from i p u j at (Alone q) t was (inl h) = absurd (let x : Alone q ≡ Used p = h.1 in cc)
 use_from i p u j at (Retaken q) t was (inr h) = was h.0
+use_from i p u j at (Alone q) t was (inr h) = was h.0
 use_from i p u j at Synced t was (inl h) = absurd (let x : Synced ≡ Used p = h.1 in cc)
 use_from i p u j at Synced t was (inr h) = was h.0
 use_from i p u j at Crashed t was (inl h) = absurd (let x : Crashed ≡ Used p = h.1 in cc)
@@ -405,6 +575,7 @@ idle_here i at (Released r) t = (
   λ f u o. f r u refl ((use_so i r u t).0 o),
 )
 idle_here i at (Retaken r) t = (λ f p u e o. absurd (cc), λ f. tt)
+idle_here i at (Alone r) t = (λ f p u e o. absurd (cc), λ f. tt)
 idle_here i at Synced t = (λ f p u e o. absurd (cc), λ f. tt)
 idle_here i at Crashed t = (λ f p u e o. absurd (cc), λ f. tt)
 idle_here i at (Booted n) t = (λ f p u e o. absurd (cc), λ f. tt)

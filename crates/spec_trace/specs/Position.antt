@@ -5,7 +5,7 @@ use Rattle.nat_types.specs.declared.gateways.GatewayId.{GatewayId}
 use Rattle.nat_types.specs.declared.gateways.GatewayId.TheVariants.{Zero}
 use Rattle.nat_types.specs.declared.pairs.Pair.{Pair}
 use Rattle.nat_types.specs.declared.notes.NoteKind.{NoteKind}
-use Rattle.nat_types.specs.declared.notes.NoteKind.TheVariants.{Used, Released, Retaken, Synced, Crashed, Booted}
+use Rattle.nat_types.specs.declared.notes.NoteKind.TheVariants.{Used, Released, Retaken, Alone, Synced, Crashed, Booted}
 use Rattle.nat_types.specs.declared.notes.Note.{Note}
 use Rattle.nat_types.specs.Same.{same, other, same_pair}
 use Rattle.spec_trace.specs.Past.{DoFit, rest_of}
@@ -31,6 +31,7 @@ abbrev pub is_state_word : NoteKind → Bool
 is_state_word (Used pair) = false
 is_state_word (Released pair) = false
 is_state_word (Retaken pair) = false
+is_state_word (Alone pair) = false
 is_state_word Synced = true
 is_state_word Crashed = true
 is_state_word (Booted number) = true
@@ -45,16 +46,17 @@ SyncedSays gateway trace =
     ((note : Note) × LastIs (is_state gateway) trace note × (note.what ≡ Synced))
     ⊎ (NoneIs (is_state gateway) trace × (gateway ≡ Zero))
 
--- whether a note is Used, Released or Retaken, of the pair
+-- whether a note is Used, Released, Retaken or Alone, of the pair
 abbrev pub is_pair_word : Pair → NoteKind → Bool
 is_pair_word pair (Used noted) = same_pair pair noted
 is_pair_word pair (Released noted) = same_pair pair noted
 is_pair_word pair (Retaken noted) = same_pair pair noted
+is_pair_word pair (Alone noted) = same_pair pair noted
 is_pair_word pair Synced = false
 is_pair_word pair Crashed = false
 is_pair_word pair (Booted number) = false
 
--- whether a note is the gateway's, and Used, Released or Retaken of the pair
+-- whether a note is the gateway's, and Used, Released, Retaken or Alone of the pair
 abbrev pub is_on_pair : GatewayId → Pair → Note → Bool
 is_on_pair gateway pair note = same gateway note.by && is_pair_word pair note.what
 
@@ -63,21 +65,83 @@ abbrev pub LetGoSays : GatewayId → Pair → List Note → Type 0
 LetGoSays gateway pair trace =
     (note : Note) × LastIs (is_on_pair gateway pair) trace note × (note.what ≡ Released pair)
 
--- a release by the gateway, after this trace, is agreed: the other gateway isn't synced, or has let the pair go
+-- whether a note is Booted
+abbrev pub is_boot_word : NoteKind → Bool
+is_boot_word (Used pair) = false
+is_boot_word (Released pair) = false
+is_boot_word (Retaken pair) = false
+is_boot_word (Alone pair) = false
+is_boot_word Synced = false
+is_boot_word Crashed = false
+is_boot_word (Booted number) = true
+
+-- whether a note is the gateway's, and Used, Released, Retaken or Alone of the pair, or Booted
+abbrev pub is_of_life : GatewayId → Pair → Note → Bool
+is_of_life gateway pair note =
+    same gateway note.by && (is_pair_word pair note.what || is_boot_word note.what)
+
+-- the last note of the gateway on the pair isn't Released, and no life of the gateway began since
+abbrev pub GoesOnSays : GatewayId → Pair → List Note → Type 0
+GoesOnSays gateway pair trace =
+    (note : Note) × LastIs (is_of_life gateway pair) trace note
+    × ((note.what ≡ Used pair) ⊎ ((note.what ≡ Retaken pair) ⊎ (note.what ≡ Alone pair)))
+
+-- In use: the gateway is synced, and the pair goes on there.
+abbrev pub InUseSays : GatewayId → Pair → List Note → Type 0
+InUseSays gateway pair trace = SyncedSays gateway trace × GoesOnSays gateway pair trace
+
+-- whether a note is Released, Retaken or Alone, of the pair
+abbrev pub is_private_word : Pair → NoteKind → Bool
+is_private_word pair (Used noted) = false
+is_private_word pair (Released noted) = same_pair pair noted
+is_private_word pair (Retaken noted) = same_pair pair noted
+is_private_word pair (Alone noted) = same_pair pair noted
+is_private_word pair Synced = false
+is_private_word pair Crashed = false
+is_private_word pair (Booted number) = false
+
+-- whether a note is the gateway's, and Released, Retaken or Alone of the pair, or Booted
+abbrev pub is_of_privacy : GatewayId → Pair → Note → Bool
+is_of_privacy gateway pair note =
+    same gateway note.by && (is_private_word pair note.what || is_boot_word note.what)
+
+-- Private: among the gateway's notes Alone, Retaken and Released of the pair the last is Alone, and no life of the
+-- gateway began since.
+abbrev pub PrivateSays : GatewayId → Pair → List Note → Type 0
+PrivateSays gateway pair trace =
+    (note : Note) × LastIs (is_of_privacy gateway pair) trace note × (note.what ≡ Alone pair)
+
+-- the pair is private to the gateway and not in use at the other
+abbrev pub OnlyAtSays : GatewayId → Pair → List Note → Type 0
+OnlyAtSays gateway pair trace =
+    PrivateSays gateway pair trace × (InUseSays (other gateway) pair trace → ⊥)
+
+-- a release by the gateway, after this trace, is agreed: the other gateway isn't synced, or has let the pair go, or the
+-- pair is private to the gateway and not in use at the other
 abbrev pub AgreedSays : GatewayId → Pair → List Note → Type 0
 AgreedSays gateway pair trace =
-    (SyncedSays (other gateway) trace → ⊥) ⊎ LetGoSays (other gateway) pair trace
+    ((SyncedSays (other gateway) trace → ⊥) ⊎ LetGoSays (other gateway) pair trace)
+    ⊎ OnlyAtSays gateway pair trace
 
 -- Agreed deletion: the note releases the pair, and after the notes before it that release is agreed.
 abbrev pub Deletes : Pair → Note → List Note → Type 0
 Deletes pair note before = (note.what ≡ Released pair) × AgreedSays note.by pair before
 
--- Open: there is a Used note of the pair, and no note after it is an agreed deletion of the pair.
+-- Lost with its box: the note is a crash of the one gateway that has the pair.
+abbrev pub Loses : Pair → Note → List Note → Type 0
+Loses pair note before = (note.what ≡ Crashed) × OnlyAtSays note.by pair before
+
+-- Open: there is a Used note of the pair, and no note after it is an agreed deletion of the pair or loses it.
 abbrev pub OpenSays : Pair → List Note → Type 0
 OpenSays pair trace =
     (k : ℕ) × (note : Note) × (note_at trace k ≡ Some note) × (note.what ≡ Used pair)
     × ((j : ℕ) (later : Note) → k < j → note_at trace j ≡ Some later →
-    Deletes pair later (take j trace) → ⊥)
+    Deletes pair later (take j trace) ⊎ Loses pair later (take j trace) → ⊥)
+
+-- Was alone: there is an Alone note of the pair.
+abbrev pub WasAloneSays : Pair → List Note → Type 0
+WasAloneSays pair trace =
+    (k : ℕ) × (note : Note) × (note_at trace k ≡ Some note) × (note.what ≡ Alone pair)
 
 -- P holds of each note and the notes before it
 abbrev pub Each : (Note → List Note → Type 0) → List Note → Type 0
@@ -91,6 +155,27 @@ FitsHere note before = (pair q : Pair) → note.what ≡ Used pair → OpenSays 
 abbrev pub FitsSays : List Note → Type 0
 FitsSays trace = Each FitsHere trace
 
+-- a pair that the note uses has the endpoint of each pair on its key that is open just before
+abbrev pub OnePortHere : Note → List Note → Type 0
+OnePortHere note before =
+    (pair q : Pair) → note.what ≡ Used pair → OpenSays q before → q.key ≡ pair.key →
+    q.endpoint ≡ pair.endpoint
+
+-- One port, by position: OnePortHere holds at each note.
+abbrev pub OnePortSays : List Note → Type 0
+OnePortSays trace = Each OnePortHere trace
+
+-- where a pair that is open just before has the endpoint of a pair that the note uses, at another key, one of the two
+-- was alone
+abbrev pub OneEndpointHere : Note → List Note → Type 0
+OneEndpointHere note before =
+    (pair q : Pair) → note.what ≡ Used pair → OpenSays q before → q.endpoint ≡ pair.endpoint →
+    (q.key ≡ pair.key → ⊥) → WasAloneSays pair before ⊎ WasAloneSays q before
+
+-- One endpoint, by position: OneEndpointHere holds at each note.
+abbrev pub OneEndpointSays : List Note → Type 0
+OneEndpointSays trace = Each OneEndpointHere trace
+
 -- where the note uses a pair, its gateway is synced just before
 abbrev pub SilentHere : Note → List Note → Type 0
 SilentHere note before = (pair : Pair) → note.what ≡ Used pair → SyncedSays note.by before
@@ -99,31 +184,25 @@ SilentHere note before = (pair : Pair) → note.what ≡ Used pair → SyncedSay
 abbrev pub SilentSays : List Note → Type 0
 SilentSays trace = Each SilentHere trace
 
--- Kept: each open pair is held by each synced gateway.
+-- a synced gateway to which the pair is private holds it
+abbrev pub HeldApartSays : (GatewayId → Pair → Type 0) → Pair → List Note → Type 0
+HeldApartSays Holds pair trace =
+    (gateway : GatewayId) × SyncedSays gateway trace × PrivateSays gateway pair trace
+    × Holds gateway pair
+
+-- Kept: each open pair is held by each synced gateway, or is private to a synced gateway that holds it.
 abbrev pub KeptSays : (GatewayId → Pair → Type 0) → List Note → Type 0
 KeptSays Holds trace =
     (pair : Pair) → OpenSays pair trace → (gateway : GatewayId) → SyncedSays gateway trace →
-    Holds gateway pair
+    Holds gateway pair ⊎ HeldApartSays Holds pair trace
 
--- whether a note is Booted
-abbrev pub is_boot_word : NoteKind → Bool
-is_boot_word (Used pair) = false
-is_boot_word (Released pair) = false
-is_boot_word (Retaken pair) = false
-is_boot_word Synced = false
-is_boot_word Crashed = false
-is_boot_word (Booted number) = true
-
--- whether a note is the gateway's, and Used, Released or Retaken of the pair, or Booted
-abbrev pub is_of_life : GatewayId → Pair → Note → Bool
-is_of_life gateway pair note =
-    same gateway note.by && (is_pair_word pair note.what || is_boot_word note.what)
-
--- the last note of the gateway on the pair is Used or Retaken, and no life of the gateway began since
-abbrev pub GoesOnSays : GatewayId → Pair → List Note → Type 0
-GoesOnSays gateway pair trace =
-    (note : Note) × LastIs (is_of_life gateway pair) trace note
-    × ((note.what ≡ Used pair) ⊎ (note.what ≡ Retaken pair))
+-- At most two: a synced gateway doesn't hold three pairs of one endpoint.
+abbrev pub AtMostTwoSays : (GatewayId → Pair → Type 0) → List Note → Type 0
+AtMostTwoSays Holds trace =
+    (gateway : GatewayId) → SyncedSays gateway trace → (p q s : Pair) →
+    Holds gateway p → Holds gateway q → Holds gateway s →
+    p.endpoint ≡ q.endpoint → q.endpoint ≡ s.endpoint →
+    (p.key ≡ q.key → ⊥) → (q.key ≡ s.key → ⊥) → (p.key ≡ s.key → ⊥) → ⊥
 
 -- Goes on: a synced gateway translates with exactly the pairs that go on there.
 abbrev pub TranslatesSays : (GatewayId → Pair → Type 0) → List Note → Type 0

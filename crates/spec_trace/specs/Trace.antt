@@ -13,6 +13,22 @@ IsSynced gateway trace = IsTrue (past.is_synced gateway (reverse trace))
 abbrev pub HasLetGo : GatewayId → Pair → List Note → Type 0
 HasLetGo gateway pair trace = IsTrue (past.has_released gateway pair (reverse trace))
 
+-- the pair is in use at the gateway, which is synced
+abbrev pub IsInUse : GatewayId → Pair → List Note → Type 0
+IsInUse gateway pair trace = IsTrue (past.is_in_use gateway pair (reverse trace))
+
+-- the pair is private to the gateway: the other may not know of it
+abbrev pub IsPrivate : GatewayId → Pair → List Note → Type 0
+IsPrivate gateway pair trace = IsTrue (past.is_private gateway pair (reverse trace))
+
+-- the pair is private to the gateway and not in use at the other: a crash of the gateway, as the next note, loses it
+abbrev pub IsOnlyAt : GatewayId → Pair → List Note → Type 0
+IsOnlyAt gateway pair trace = IsTrue (past.is_only_at gateway pair (reverse trace))
+
+-- the pair was alone: a gateway made it, or went on with it, without the other's answer
+abbrev pub WasAlone : Pair → List Note → Type 0
+WasAlone pair trace = IsTrue (past.was_alone pair (reverse trace))
+
 -- a release of the pair by the gateway, as the next note, is an agreed deletion
 abbrev pub IsAgreed : GatewayId → Pair → List Note → Type 0
 IsAgreed gateway pair trace = IsTrue (past.is_agreed gateway pair (reverse trace))
@@ -21,7 +37,7 @@ IsAgreed gateway pair trace = IsTrue (past.is_agreed gateway pair (reverse trace
 abbrev pub IsOpen : Pair → List Note → Type 0
 IsOpen pair trace = IsTrue (past.is_open pair (reverse trace))
 
--- the pair goes on at the gateway: its last note on the pair in its present life is Used or Retaken
+-- the pair goes on at the gateway: its last note on the pair in its present life is there and isn't Released
 abbrev pub GoesOnWith : GatewayId → Pair → List Note → Type 0
 GoesOnWith gateway pair trace = IsTrue (past.goes_on gateway pair (reverse trace))
 
@@ -29,13 +45,25 @@ GoesOnWith gateway pair trace = IsTrue (past.goes_on gateway pair (reverse trace
 abbrev pub Fits : List Note → Type 0
 Fits trace = past.Fits (reverse trace)
 
+-- One port: no outside port of an open pair serves another endpoint
+abbrev pub OnePort : List Note → Type 0
+OnePort trace = past.OnePort (reverse trace)
+
+-- One endpoint: no endpoint gets another port, save where one of the two pairs was alone
+abbrev pub OneEndpoint : List Note → Type 0
+OneEndpoint trace = past.OneEndpoint (reverse trace)
+
 -- Silent: no gateway uses a pair while it isn't synced
 abbrev pub Silent : List Note → Type 0
 Silent trace = past.Silent (reverse trace)
 
--- Kept: each synced gateway holds each open pair
+-- Kept: each open pair is held by each synced gateway, or by a synced one to which it is private
 abbrev pub Kept : (GatewayId → Pair → Type 0) → List Note → Type 0
 Kept Holds trace = past.Kept Holds (reverse trace)
+
+-- At most two: no synced gateway holds three pairs of one endpoint
+abbrev pub AtMostTwo : (GatewayId → Pair → Type 0) → List Note → Type 0
+AtMostTwo Holds trace = past.AtMostTwo Holds (reverse trace)
 
 -- Goes on: each synced gateway translates with exactly the pairs that go on there
 abbrev pub GoesOn : (GatewayId → Pair → Type 0) → List Note → Type 0

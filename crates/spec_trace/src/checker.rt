@@ -2,11 +2,11 @@
 //! and which gateways are synced.
 ghost use Rattle.std.specs.Prelude.{◌≡◌, ◌+◌, not, List, ◌∷◌, filter, reverse, ◌&&◌, IsTrue, ◌↔◌, OnOk, OnErr, IfErr, All, Contains};
 ghost use Rattle.nat_types.specs.Same.{other, same, same_pair};
-ghost use Rattle.nat_types.specs.declared.notes.Note.{Note as Noted};
+ghost use Rattle.nat_types.specs.declared.gateways.GatewayId.TheVariants.{Zero, One};
 ghost use Rattle.spec_trace.specs.Past as past;
-ghost use Rattle.spec_trace.specs.Trace.{Fits, Silent, Kept};
+ghost use Rattle.spec_trace.specs.Trace.{Silent, Kept};
 ghost use Rattle.memory.specs.Memory.{WasRefused};
-ghost use Rattle.spec_trace.specs.Audit.{ListsHold, FaultSays, AreOpen, IsFound, Judged, by_gateway};
+ghost use Rattle.spec_trace.specs.Audit.{ListsHold, DoSuit, IsHeld, FitsUnlessAlone, FaultSays, AreOpen, IsFound, Judged, by_gateway};
 ghost use Rattle.spec_trace.specs.declared.checker.AuditFault.TheVariants as faults;
 
 use memory::push;
@@ -19,8 +19,8 @@ use thiserror::Error;
 pub enum AuditFault {
     #[error("out of memory")]
     NoMemory,
-    /// The pair used at this note shares only its key, or only its endpoint, with a pair that is
-    /// open just before the note.
+    /// The pair used at this note shares only its key with a pair that is open just before the note,
+    /// or only its endpoint, and neither of the two was ever alone.
     #[error("note {0} uses a pair that does not fit the open pairs")]
     NotFits(usize),
     #[error("a synced gateway does not hold an open pair")]
@@ -86,7 +86,7 @@ fn released_after(gone: bool, gateway: GatewayId, pair: Pair, note: &Note) -> bo
     ensures { result ≡ past.released_after gateway pair note.now.by note.now.what gone }
 {
     match note.what {
-        NoteKind::Used(noted) | NoteKind::Retaken(noted) => {
+        NoteKind::Used(noted) | NoteKind::Retaken(noted) | NoteKind::Alone(noted) => {
             gone && !is_on(gateway, pair, note.by, noted)
         }
         NoteKind::Released(noted) => gone || is_on(gateway, pair, note.by, noted),
@@ -104,45 +104,164 @@ fn has_released(trace: &[Note], gateway: GatewayId, pair: Pair) -> bool
     gone
 }
 
+/// Whether a gateway is synced after these notes.
+fn is_synced(trace: &[Note], gateway: GatewayId) -> bool
+    ensures { result ≡ past.is_synced gateway (reverse trace.now) }
+{
+    let mut synced = is_same(gateway, GatewayId::Zero);
+    for note in trace {
+        synced = synced_after(synced, gateway, *note);
+    }
+    synced
+}
+
+/// Whether a pair goes on at a gateway after a note, where `on` says whether it did before the note.
+fn goes_after(on: bool, gateway: GatewayId, pair: Pair, note: &Note) -> bool
+    ensures { result ≡ past.goes_after gateway pair note.now.by note.now.what on }
+{
+    match note.what {
+        NoteKind::Used(noted) | NoteKind::Retaken(noted) | NoteKind::Alone(noted) => {
+            on || is_on(gateway, pair, note.by, noted)
+        }
+        NoteKind::Released(noted) => on && !is_on(gateway, pair, note.by, noted),
+        NoteKind::Booted(_) => on && !is_same(gateway, note.by),
+        _ => on,
+    }
+}
+
+fn goes_on(trace: &[Note], gateway: GatewayId, pair: Pair) -> bool
+    ensures { result ≡ past.goes_on gateway pair (reverse trace.now) }
+{
+    let mut on = false;
+    for note in trace {
+        on = goes_after(on, gateway, pair, note);
+    }
+    on
+}
+
+/// Whether a pair is private to a gateway after a note, where `private` says whether it was before
+/// the note.
+fn private_after(private: bool, gateway: GatewayId, pair: Pair, note: &Note) -> bool
+    ensures { result ≡ past.private_after gateway pair note.now.by note.now.what private }
+{
+    match note.what {
+        NoteKind::Alone(noted) => private || is_on(gateway, pair, note.by, noted),
+        NoteKind::Released(noted) | NoteKind::Retaken(noted) => {
+            private && !is_on(gateway, pair, note.by, noted)
+        }
+        NoteKind::Booted(_) => private && !is_same(gateway, note.by),
+        _ => private,
+    }
+}
+
+fn is_private(trace: &[Note], gateway: GatewayId, pair: Pair) -> bool
+    ensures { result ≡ past.is_private gateway pair (reverse trace.now) }
+{
+    let mut private = false;
+    for note in trace {
+        private = private_after(private, gateway, pair, note);
+    }
+    private
+}
+
+/// Whether a pair is private to a gateway and not in use at the other, after these notes.
+fn is_only_at(trace: &[Note], gateway: GatewayId, pair: Pair) -> bool
+    ensures { result ≡ past.is_only_at gateway pair (reverse trace.now) }
+{
+    let other = gateway.other();
+    is_private(trace, gateway, pair) && !(is_synced(trace, other) && goes_on(trace, other, pair))
+}
+
+fn is_alone_note(pair: Pair, note: &Note) -> bool
+    ensures { result ≡ past.is_alone_word pair note.now.what }
+{
+    match note.what {
+        NoteKind::Alone(noted) => is_same_pair(pair, noted),
+        _ => false,
+    }
+}
+
+fn was_alone(trace: &[Note], pair: Pair) -> bool
+    ensures { result ≡ past.was_alone pair (reverse trace.now) }
+{
+    let mut alone = false;
+    for note in trace {
+        alone = is_alone_note(pair, note) || alone;
+    }
+    alone
+}
+
 fn has(pairs: &[Pair], pair: Pair) -> bool
     ensures { IsTrue result ↔ Contains pairs.now pair }
 {
     pairs.contains(&pair)
 }
 
-/// Whether two pairs share both their key and their endpoint, or neither.
-fn do_fit(p: Pair, q: Pair) -> bool
-    ensures { IsTrue result ↔ past.DoFit p q }
+/// Whether a pair that is used after these notes may stand beside an open one: they share their key
+/// only with their endpoint, and an endpoint alone only where one of them was alone.
+fn do_fit(before: &[Note], used: Pair, pair: Pair) -> bool
+    ensures { IsTrue result ↔ DoSuit (reverse before.now) used pair }
 {
-    (p.key == q.key) == (p.endpoint == q.endpoint)
+    if pair.key == used.key {
+        return pair.endpoint == used.endpoint;
+    }
+    pair.endpoint != used.endpoint || was_alone(before, used) || was_alone(before, pair)
 }
 
-fn fits_all(opens: &[Pair], pair: Pair) -> bool
-    ensures { IsTrue result ↔ All (λ q. past.DoFit q pair) opens.now }
+fn fits_all(opens: &[Pair], before: &[Note], used: Pair) -> bool
+    ensures { IsTrue result ↔ All (DoSuit (reverse before.now) used) opens.now }
 {
-    opens.iter().all(|open| do_fit(*open, pair))
+    opens.iter().all(|open| do_fit(before, used, *open))
 }
 
-fn has_all(table: &[Pair], opens: &[Pair]) -> bool
-    ensures { IsTrue result ↔ All (Contains table.now) opens.now }
+/// Whether an open pair is held by each synced gateway, or by a synced one to which it is private.
+/// `zero` and `one` are the tables of gateway 0 and gateway 1.
+fn is_kept(trace: &[Note], synced: (bool, bool), zero: &[Pair], one: &[Pair], pair: Pair) -> bool
+    requires zero { synced.0 ≡ past.is_synced Zero (reverse trace.now) }
+    requires one { synced.1 ≡ past.is_synced One (reverse trace.now) }
+    ensures { IsTrue result ↔ IsHeld zero.now one.now (reverse trace.now) pair }
 {
-    opens.iter().all(|open| has(table, *open))
+    let at_zero = has(zero, pair);
+    let at_one = has(one, pair);
+    if synced.0 && at_zero && is_private(trace, GatewayId::Zero, pair) {
+        return true;
+    }
+    if synced.1 && at_one && is_private(trace, GatewayId::One, pair) {
+        return true;
+    }
+    (!synced.0 || at_zero) && (!synced.1 || at_one)
 }
 
-/// Whether each synced gateway has all open pairs in its table. `zero` and `one` are the tables of
-/// gateway 0 and gateway 1.
-fn are_kept(opens: &[Pair], synced: (bool, bool), zero: &[Pair], one: &[Pair]) -> bool
-    ensures { IsTrue result
-        ↔ ((IsTrue synced.0 → All (Contains zero.now) opens.now)
-        × (IsTrue synced.1 → All (Contains one.now) opens.now)) }
+/// Whether each open pair is kept.
+fn are_kept(
+    opens: &[Pair],
+    trace: &[Note],
+    synced: (bool, bool),
+    zero: &[Pair],
+    one: &[Pair],
+) -> bool
+    requires zero { synced.0 ≡ past.is_synced Zero (reverse trace.now) }
+    requires one { synced.1 ≡ past.is_synced One (reverse trace.now) }
+    ensures { IsTrue result ↔ All (IsHeld zero.now one.now (reverse trace.now)) opens.now }
 {
-    (!synced.0 || has_all(zero, opens)) && (!synced.1 || has_all(one, opens))
+    opens
+        .iter()
+        .all(|open| is_kept(trace, synced, zero, one, *open))
 }
 
 fn remove(opens: &mut Vec<Pair>, pair: Pair)
     ensures { opens.new.items ≡ filter (λ q. not (same_pair q pair)) opens.old.items }
 {
     opens.retain(|open| !is_same_pair(*open, pair));
+}
+
+/// Takes from the open pairs those that are lost with the box of a gateway that crashes after these
+/// notes.
+fn lose(opens: &mut Vec<Pair>, before: &[Note], gateway: GatewayId)
+    ensures { opens.new.items
+        ≡ filter (λ q. not (past.is_only_at gateway q (reverse before.now))) opens.old.items }
+{
+    opens.retain(|open| !is_only_at(before, gateway, *open));
 }
 
 fn of_gateway(gateway: GatewayId, zero: bool, one: bool) -> bool
@@ -154,15 +273,21 @@ fn of_gateway(gateway: GatewayId, zero: bool, one: bool) -> bool
     }
 }
 
-/// Judges one note. `opens` has the pairs open before the note, and `synced` says whether its
-/// gateway is synced there.
-fn judge(opens: &[Pair], synced: bool, note: &Note, position: usize) -> Result<(), AuditFault>
-    ensures ok { OnOk result
-        ((t : List Noted) → AreOpen opens.now t → synced ≡ past.is_synced note.now.by t →
-        past.FitsAt note.now.what t × past.SilentAt note.now.by note.now.what t) }
-    ensures err { IfErr result
-        (λ f. (t : List Noted) → AreOpen opens.now t → synced ≡ past.is_synced note.now.by t →
-        Judged t note.now position f) }
+/// Judges one note. `before` has the notes before it, `opens` the pairs open there, and `synced` says
+/// whether its gateway is synced there.
+fn judge(
+    opens: &[Pair],
+    before: &[Note],
+    synced: bool,
+    note: &Note,
+    position: usize,
+) -> Result<(), AuditFault>
+    requires pairs { AreOpen opens.now (reverse before.now) }
+    requires synced { synced ≡ past.is_synced note.now.by (reverse before.now) }
+    ensures ok { OnOk result (past.OnePortAt note.now.what (reverse before.now)
+        × past.OneEndpointAt note.now.what (reverse before.now)
+        × past.SilentAt note.now.by note.now.what (reverse before.now)) }
+    ensures err { IfErr result (λ f. Judged (reverse before.now) note.now position f) }
     ensures found { IfErr result IsFound }
 {
     match note.what {
@@ -170,13 +295,22 @@ fn judge(opens: &[Pair], synced: bool, note: &Note, position: usize) -> Result<(
             if !synced {
                 return Err(AuditFault::NotSilent(position));
             }
-            if !fits_all(opens, pair) {
+            if !fits_all(opens, before, pair) {
                 return Err(AuditFault::NotFits(position));
             }
             Ok(())
         }
         _ => Ok(()),
     }
+}
+
+/// Whether a release of a pair after these notes is an agreed deletion. `alone` says that the other
+/// gateway isn't synced.
+fn is_agreed(before: &[Note], alone: bool, gateway: GatewayId, pair: Pair) -> bool
+    requires { alone ≡ not (past.is_synced (other gateway) (reverse before.now)) }
+    ensures { result ≡ past.is_agreed gateway pair (reverse before.now) }
+{
+    alone || has_released(before, gateway.other(), pair) || is_only_at(before, gateway, pair)
 }
 
 /// Changes the list of open pairs as one note does. `before` has the notes before it, and `alone`
@@ -201,9 +335,13 @@ fn follow(
             Ok(())
         }
         NoteKind::Released(pair) => {
-            if alone || has_released(before, note.by.other(), pair) {
+            if is_agreed(before, alone, note.by, pair) {
                 remove(opens, pair);
             }
+            Ok(())
+        }
+        NoteKind::Crashed => {
+            lose(opens, before, note.by);
             Ok(())
         }
         _ => Ok(()),
@@ -215,7 +353,7 @@ fn follow(
 /// and `NotKept` is answered only where no note has a fault. Answers `NoMemory` where the list of
 /// open pairs can't grow.
 pub fn audit(alloc: Global, trace: &[Note], zero: &[Pair], one: &[Pair]) -> Result<(), AuditFault>
-    ensures fits { OnOk result (Fits trace.now) }
+    ensures fits { OnOk result (FitsUnlessAlone trace.now) }
     ensures silent { OnOk result (Silent trace.now) }
     ensures kept { OnOk result (Kept (ListsHold zero.now one.now) trace.now) }
     ensures fault { IfErr result (FaultSays trace.now zero.now one.now) }
@@ -228,12 +366,12 @@ pub fn audit(alloc: Global, trace: &[Note], zero: &[Pair], one: &[Pair]) -> Resu
     for (i, note) in trace.iter().enumerate() {
         let synced = of_gateway(note.by, zero_synced, one_synced);
         let alone = !of_gateway(note.by.other(), zero_synced, one_synced);
-        judge(&opens, synced, note, i + 1)?;
+        judge(&opens, &trace[..i], synced, note, i + 1)?;
         follow(&mut opens, &trace[..i], alone, note)?;
         zero_synced = synced_after(zero_synced, GatewayId::Zero, *note);
         one_synced = synced_after(one_synced, GatewayId::One, *note);
     }
-    if are_kept(&opens, (zero_synced, one_synced), zero, one) {
+    if are_kept(&opens, trace, (zero_synced, one_synced), zero, one) {
         Ok(())
     } else {
         Err(AuditFault::NotKept)

@@ -1,11 +1,11 @@
 use Rattle.std.proofs.Common.{Bool, subst, sym, ap, ◌∙◌}
 use Rattle.spec_binding.specs.declared.changes.Change.{Change}
-use Rattle.spec_binding.specs.declared.changes.Change.TheVariants.{Add}
+use Rattle.spec_binding.specs.declared.changes.Change.TheVariants.{Add, Turn}
 use Rattle.spec_binding.specs.WellFormed.{Fits}
 use Rattle.activity.specs.Lives.{came}
 use Rattle.bindings.specs.Table.{IsPast}
 use Rattle.bind_core.specs.Changes.{LivesOn, table_after, table_book}
-use Rattle.bind_core.proofs.Changing.{stays-added, added-table, made-table}
+use Rattle.bind_core.proofs.Changing.{own-turn, stays-added, added-table, made-table}
 use Rattle.bind_core.proofs.Porting.{gained-table}
 use Rattle.bind_core.proofs.deeds.change_table.Goals as goal
 
@@ -16,6 +16,11 @@ returns-in-Add-clause-lives c =
       stays = λ q past stays has. stays-added c.in-Add.entry.pair.key c.args.table.now c.add_entry.new.table fits.key c.add_entry.ensures.others q past has;
       begins = subst (λ (b : Bool). IsPast c.add_entry.new.table c.in-Add.entry.pair.key (came b c.args.now)) c.came_by_install.ensures c.add_entry.ensures.begins;
     }
+
+pub set_state-requires : goal.set_state-requires
+set_state-requires c = λ y there.
+    let fits : Fits (table_book c.args.table.now) (Turn c.in-Turn.key c.in-Turn.state) = subst (λ (ch : Change). Fits (table_book c.args.table.now) ch) c.in-Turn.is c.requires.fits in
+    own-turn c.args.table.now.entries c.in-Turn.key fits.0.entry c.in-Turn.state fits.0.found fits.0.own fits.1 y there
 
 pub returns-in-Turn-clause-exact : goal.returns-in-Turn-clause-exact
 returns-in-Turn-clause-exact c = c.set_state.ensures.entries ∙ ap (λ (ch : Change). table_after c.args.now ch c.args.table.now) (sym c.in-Turn.is)

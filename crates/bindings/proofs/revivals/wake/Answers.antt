@@ -3,10 +3,11 @@ use Rattle.std.proofs.lemmas.Bool.{both_ways}
 use Rattle.nat_types.specs.declared.pairs.Key.{Key}
 use Rattle.nat_types.specs.declared.pairs.EntryState.{EntryState}
 use Rattle.bindings.specs.declared.entries.Entry.{Entry}
-use Rattle.bindings.specs.Entries.{is_pair, slot_of}
+use Rattle.slots.specs.declared.ranks.Rank.{Rank}
+use Rattle.bindings.specs.Entries.{is_of_rank, is_pair, slot_of}
 use Rattle.bindings.specs.Lists.{with_state}
 use Rattle.bindings.specs.Revivals.{woken}
-use Rattle.bindings.proofs.Revived.{woken-pair}
+use Rattle.bindings.proofs.Revived.{woken-pair, woken-rank}
 use Rattle.bindings.proofs.Walks.{behind-less, next-held, wake-all, wake-end, wake-next, length-behind_turned}
 use Rattle.bindings.proofs.revivals.wake.Goals as goal
 
@@ -17,14 +18,18 @@ pub turn-requires : goal.turn-requires
 turn-requires c =
     let held = next-held 0 c.loop-entry.last c.loop-entry.store.entries c.in-Some.entry c.recall.ensures.order (sym c.in-Some.ensures) in
     let state : is_pair c.woken_state.result ≡ is_pair c.in-Some.entry.state = ap is_pair c.woken_state.ensures ∙ woken-pair c.in-Some.entry.state in
+    let ranked = λ (rank : Rank). ap (is_of_rank rank) c.woken_state.ensures ∙ woken-rank rank c.in-Some.entry.state in
     let same = λ (x : Entry) (h : slot_of c.loop-entry.store.entries c.key_of-key.result ≡ Some x). ap (λ (o : Option Entry). o) (sym h ∙ ap (slot_of c.loop-entry.store.entries) c.key_of-key.ensures ∙ held) in
     record {
-      pair = λ x h p. one-state x c.in-Some.entry (same x h) ∙ sym state ∙ p;
+      pair = λ x h rank p. one-rank x c.in-Some.entry (same x h) rank ∙ sym (ranked rank) ∙ p;
       endpoints = λ x h p q. absurd (both_ways (is_pair c.woken_state.result) q (state ∙ sym (one-state x c.in-Some.entry (same x h)) ∙ p));
     }
   where
     one-state : (x e : Entry) → Some x ≡ Some e → is_pair x.state ≡ is_pair e.state
     one-state x e h = (let same : x ≡ e = cc in ap (λ (y : Entry). is_pair y.state) same)
+
+    one-rank : (x e : Entry) → Some x ≡ Some e → (rank : Rank) → is_of_rank rank x.state ≡ is_of_rank rank e.state
+    one-rank x e h rank = (let same : x ≡ e = cc in ap (λ (y : Entry). is_of_rank rank y.state) same)
 
 pub loop-entry-preserved : goal.loop-entry-preserved
 loop-entry-preserved c =

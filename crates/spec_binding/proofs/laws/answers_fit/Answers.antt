@@ -9,7 +9,7 @@ pub returns-clause-row : goal.returns-clause-row
 returns-clause-row c = λ b rests r is formed. (row-sound b rests r is formed).answer
 
 pub returns-clause-wished : goal.returns-clause-wished
-returns-clause-wished c = λ b full e is formed. (wish-sound b full e is formed).answer
+returns-clause-wished c = λ b apart full e is formed. (wish-sound b apart full e is formed).answer
 
 pub returns-clause-idle : goal.returns-clause-idle
 returns-clause-idle c = λ b ask k is. (idle-sound b ask k is).answer

@@ -1,8 +1,14 @@
 use Rattle.spec_pair.proofs.Props as laws
 use Rattle.spec_pair.proofs.laws.promises_in_order.Goals as goal
 
-pub returns-clause-fits : goal.returns-clause-fits
-returns-clause-fits c = laws.fits_in_order
+pub returns-clause-one_port : goal.returns-clause-one_port
+returns-clause-one_port c = laws.port_in_order
+
+pub returns-clause-one_endpoint : goal.returns-clause-one_endpoint
+returns-clause-one_endpoint c = laws.endpoint_in_order
+
+pub returns-clause-at_most_two : goal.returns-clause-at_most_two
+returns-clause-at_most_two c = laws.two_in_order
 
 pub returns-clause-kept : goal.returns-clause-kept
 returns-clause-kept c = laws.kept_in_order

@@ -1,4 +1,4 @@
-use Rattle.spec_step.proofs.GoingOn.{error-sent, host-limit, no-port, packet-sent}
+use Rattle.spec_step.proofs.GoingOn.{error-sent, host-limit, no-port, packet-sent, sent-by-own}
 use Rattle.spec_step.proofs.laws.goes_on_is_sent.Goals as goal
 
 pub returns-clause-packet : goal.returns-clause-packet
@@ -12,3 +12,6 @@ returns-clause-no_port c = no-port
 
 pub returns-clause-host_limit : goal.returns-clause-host_limit
 returns-clause-host_limit c = host-limit
+
+pub returns-clause-own : goal.returns-clause-own
+returns-clause-own c = sent-by-own

@@ -1,11 +1,10 @@
-use Rattle.std.proofs.Common.{◌<◌, length, take, reverse, List, IsTrue, sym, ◌∙◌, subst, arith}
-use Rattle.std.specs.List.{All, Contains}
+use Rattle.std.proofs.Common.{◌<◌, length, take, reverse, List, arith}
+use Rattle.std.specs.List.{All}
 use Rattle.std.proofs.lemmas.Bool.{both_ways}
 use Rattle.std.proofs.lemmas.Result.{err_from_is_err_and}
 use Rattle.nat_types.specs.declared.notes.Note.{Note}
-use Rattle.nat_types.specs.declared.pairs.Pair.{Pair}
-use Rattle.spec_trace.specs.Audit.{AreOpen, Going}
-use Rattle.spec_trace.proofs.Notes.{gateway_is, going_on, going_next, going_end, charged, isnt_kept, is_kept}
+use Rattle.spec_trace.specs.Audit.{IsHeld, Going}
+use Rattle.spec_trace.proofs.Notes.{going_on, going_next, going_end, charged, isnt_kept, is_kept}
 use Rattle.spec_trace.proofs.checker.audit.Goals as goal
 
 pub returns-in_err-judge-clause-fault : goal.returns-in_err-judge-clause-fault
@@ -13,25 +12,23 @@ returns-in_err-judge-clause-fault c =
     let p = err_from_is_err_and c.from_residual.result c.from_residual.ensures.1 in
     let t : List Note = reverse (take c.loop-i.i c.args.trace.now) in
     let g : Going c.loop-i.opens.items c.loop-i.zero_synced c.loop-i.one_synced t = c.loop-i.invariant in
-    let open_ : AreOpen c.deref.result.now t = subst (λ (ps : List Pair). AreOpen ps t) (sym c.deref.ensures.value) g.pairs in
     let lt : c.loop-i.i < length c.args.trace.now = omega arith in
-    rw (p.1, p.2) (charged c.args.trace.now c.loop-i.i c.index-trace-i.result c.args.zero.now c.args.one.now c.in_err-judge.field-0.0 lt c.index-trace-i.is g.fits g.silent (c.in_err-judge.ensures.err t open_ (c.of_gateway-synced.ensures ∙ gateway_is _ c.loop-i.zero_synced c.loop-i.one_synced t g.zero_is g.one_is)))
+    rw (p.1, p.2) (charged c.args.trace.now c.loop-i.i c.index-trace-i.result c.args.zero.now c.args.one.now c.in_err-judge.field-0.0 lt c.index-trace-i.is (g.one_port, g.one_endpoint) g.silent c.in_err-judge.ensures.err)
 
 pub loop-i-preserved : goal.loop-i-preserved
 loop-i-preserved c =
     let t : List Note = reverse (take c.loop-i.i c.args.trace.now) in
     let g : Going c.loop-i.opens.items c.loop-i.zero_synced c.loop-i.one_synced t = c.loop-i.invariant in
-    let open_ : AreOpen c.deref.result.now t = subst (λ (ps : List Pair). AreOpen ps t) (sym c.deref.ensures.value) g.pairs in
     let lt : c.loop-i.i < length c.args.trace.now = omega arith in
     going_next _ _ _ c.args.trace.now c.loop-i.i c.index-trace-i.result lt c.index-trace-i.is
     (going_on c.loop-i.opens.items c.follow.new.opens.items c.loop-i.zero_synced c.loop-i.one_synced c.synced_after-zero_synced.result c.synced_after-one_synced.result c.index-trace-i.result t g c.in_ok-follow.ensures.ok c.synced_after-zero_synced.ensures c.synced_after-one_synced.ensures
-    (c.in_ok-judge.ensures.ok t open_ (c.of_gateway-synced.ensures ∙ gateway_is _ c.loop-i.zero_synced c.loop-i.one_synced t g.zero_is g.one_is)))
+    c.in_ok-judge.ensures.ok)
 
 pub returns-clause-fault : goal.returns-clause-fault
 returns-clause-fault c =
     let g : Going c.loop-i.opens.items c.loop-i.zero_synced c.loop-i.one_synced (reverse c.args.trace.now) = going_end _ _ _ c.args.trace.now c.loop-i.i c.loop-i-test.false c.loop-i.invariant in
-    let bad : (IsTrue c.loop-i.zero_synced → All (Contains c.args.zero.now) c.loop-i.opens.items) × (IsTrue c.loop-i.one_synced → All (Contains c.args.one.now) c.loop-i.opens.items) → ⊥ = λ h. both_ways _ c.if-are_kept.false (c.are_kept.ensures.1 (rw c.deref-2.ensures.value h)) in
-    (g.fits, g.silent, isnt_kept c.loop-i.opens.items c.args.zero.now c.args.one.now c.loop-i.zero_synced c.loop-i.one_synced (reverse c.args.trace.now) g bad)
+    let bad : All (IsHeld c.args.zero.now c.args.one.now (reverse c.args.trace.now)) c.loop-i.opens.items → ⊥ = λ h. both_ways _ c.if-are_kept.false (c.are_kept.ensures.1 (rw c.deref-2.ensures.value h)) in
+    ((g.one_port, g.one_endpoint), g.silent, isnt_kept c.loop-i.opens.items c.args.zero.now c.args.one.now c.loop-i.zero_synced c.loop-i.one_synced (reverse c.args.trace.now) g bad)
 
 pub returns-then-are_kept-clause-kept : goal.returns-then-are_kept-clause-kept
 returns-then-are_kept-clause-kept c =

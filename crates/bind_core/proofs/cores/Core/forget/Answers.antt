@@ -17,7 +17,7 @@ invariant_of-self c =
     let between = c.self.invariant.bounds in
     record {
       book = subst IsBook (sym (forgotten (core_of c.self.inside) c.clear.new.self c.new-self-inside.result _ _ same between.zero between.one c.new-self-inside.ensures))
-          (subst (λ (k : Core). IsBook (empty_book k.id k.table.zero k.table.one k.limit)) (sym c.self.view_is) c.requires.kept);
+          (subst (λ (k : Core). IsBook (empty_book k.id k.table.zero k.table.one k.limit k.alone)) (sym c.self.view_is) c.requires.kept);
       bounds = still-between c.self.inside.table c.clear.new.self c.self.inside.bounds zero one between;
       zero = ap (λ (p : Progress). p.zero) c.new-self-inside.ensures ∙ sym between.zero ∙ sym zero;
       one = ap (λ (p : Progress). p.one) c.new-self-inside.ensures ∙ sym between.one ∙ sym one;

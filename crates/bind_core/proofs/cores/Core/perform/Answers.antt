@@ -20,7 +20,7 @@ invariant_of-self c =
     let steady = subst (λ (k : Core). is_promised (book_of k) ≡ true → IsSteady (book_of k) c.args.row.change) (sym c.self.view_is) c.requires.steady in
     let same = c.change_table.ensures.exact in
     let made = made-after c.args.now (core_of c.self.inside) c.args.row c.change_table.new.table c.is_wanting-self-inside.result _ same c.is_wanting-self-inside.ensures
-    (coming-after record { proposed = c.steady_batch_law.ensures.proposed; turned = c.steady_batch_law.ensures.turned } c.self.inside.cursor c.args.now c.args.row.change (core_of c.self.inside) c.change_table.new.table c.self.invariant.book.keys refl steady same) in
+    (coming-after record { proposed = c.steady_batch_law.ensures.proposed; turned = c.steady_batch_law.ensures.turned; dropped = c.steady_batch_law.ensures.dropped } c.self.inside.cursor c.args.now c.args.row.change (core_of c.self.inside) c.change_table.new.table c.self.invariant.book.keys refl steady same) in
     let kept = c.self.invariant.room in
     let places = ap (λ (t : Table). t.capacity) same in
     record {
@@ -36,7 +36,7 @@ returns-clause-core c =
     let steady = subst (λ (k : Core). is_promised (book_of k) ≡ true → IsSteady (book_of k) c.args.row.change) (sym c.self.view_is) c.requires.steady in
     let same = c.change_table.ensures.exact in
     made-after c.args.now (core_of c.self.inside) c.args.row c.change_table.new.table c.is_wanting-self-inside.result _ same c.is_wanting-self-inside.ensures
-    (coming-after record { proposed = c.steady_batch_law.ensures.proposed; turned = c.steady_batch_law.ensures.turned } c.self.inside.cursor c.args.now c.args.row.change (core_of c.self.inside) c.change_table.new.table c.self.invariant.book.keys refl steady same)
+    (coming-after record { proposed = c.steady_batch_law.ensures.proposed; turned = c.steady_batch_law.ensures.turned; dropped = c.steady_batch_law.ensures.dropped } c.self.inside.cursor c.args.now c.args.row.change (core_of c.self.inside) c.change_table.new.table c.self.invariant.book.keys refl steady same)
     ∙ ap (λ (k : Core). core_after c.args.now k c.args.row) c.self.view_is
 
 pub returns-clause-pasts : goal.returns-clause-pasts

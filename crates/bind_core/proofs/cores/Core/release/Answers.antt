@@ -47,7 +47,7 @@ pub returns : goal.returns
 returns c =
     let b = book_of c.args.self.now in
     let is = c.idle_row_of-row.ensures ∙ ap (λ (ask : Bool). idle_row b ask c.args.key) c.may_ask-ask.ensures in
-    let row = idle_row b (may_ask c.args.now c.args.link.now) c.args.key in
+    let row = idle_row b (may_ask c.args.now b c.args.link.now) c.args.key in
     record {
       ledger = ledger-then c.args.now c.args.self.now c.perform.new.self c.idle_row_of-row.result row c.perform.ensures.core is;
       link = c.perform.ensures.link ∙ ap (λ (x : Transition). answered c.args.link.now x.answer) is;

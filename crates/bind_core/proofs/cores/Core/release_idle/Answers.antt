@@ -1,11 +1,11 @@
 use Rattle.std.proofs.Common.{◌≡◌, ◌≤◌, ◌++◌, [], Some, slice_get, length, refl, sym, ap, ◌∙◌, arith}
 use Rattle.std.proofs.lemmas.List.{append-nil}
 use Rattle.bindings.specs.Table.{idle_keys_of}
-use Rattle.spec_binding.specs.Books.{is_lone}
+use Rattle.spec_binding.specs.Books.{is_apart, is_lone}
 use Rattle.spec_binding.specs.Ledgers.{Ledger, LetGo, release_all}
 use Rattle.bind_core.specs.Cores.{Core, book_of, ledger_of}
 use Rattle.bind_core.proofs.Performing.{works-as}
-use Rattle.bind_core.proofs.Releasing.{few-idle, one-more-at, gone, TickLaws, released-works}
+use Rattle.bind_core.proofs.Releasing.{IsReleased, few-idle, one-more-at, gone, still-apart, still-few, TickLaws, released-works}
 use Rattle.bind_core.proofs.cores.Core.release_idle.Goals as goal
 
 pub returns-clause-len : goal.returns-clause-len
@@ -31,8 +31,13 @@ pub loop-i-preserved : goal.loop-i-preserved
 loop-i-preserved c =
     let keys = idle_keys_of c.args.self.now.table (is_lone c.args.self.now.stage) c.args.now in
     let found : slice_get keys c.loop-i.i ≡ Some c.idle_key_at-key.result = sym (ap (λ ks. slice_get ks c.loop-i.i) c.loop-i.invariant.idle) ∙ c.idle_key_at-key.ensures in
-    let more = one-more-at c.args.now c.loop-i.i keys c.idle_key_at-key.result (ledger_of c.loop-i.self) c.loop-i.link c.loop-i.notes.items (ledger_of c.release.new.self) c.release.new.link c.release.new.notes.items found
+    let released : IsReleased c.args.now c.idle_key_at-key.result (ledger_of c.loop-i.self) c.loop-i.link c.loop-i.notes.items (ledger_of c.release.new.self) c.release.new.link c.release.new.notes.items =
     record { ledger = c.release.ensures.ledger; link = c.release.ensures.link; notes = c.release.ensures.notes } in
+    let more = one-more-at c.args.now c.loop-i.i keys c.idle_key_at-key.result (ledger_of c.loop-i.self) c.loop-i.link c.loop-i.notes.items (ledger_of c.release.new.self) c.release.new.link c.release.new.notes.items found released in
+    let apart = still-apart c.args.now c.idle_key_at-key.result (ledger_of c.loop-i.self) c.loop-i.link c.loop-i.notes.items (ledger_of c.release.new.self) c.release.new.link c.release.new.notes.items released in
+    let few = still-few c.args.now c.idle_key_at-key.result (ledger_of c.loop-i.self) c.loop-i.link c.loop-i.notes.items (ledger_of c.release.new.self) c.release.new.link c.release.new.notes.items released in
+    let had = c.loop-i.notes.ok.0 in
+    let has = c.release.new.notes.ok.0 in
     let len = c.loop-i.invariant.len in
     let longer = c.release.ensures.len in
     record {
@@ -43,6 +48,8 @@ loop-i-preserved c =
       idle = c.release.ensures.idle ∙ c.loop-i.invariant.idle;
       len = omega (arith, len, longer);
       capacity = c.release.ensures.capacity ∙ c.loop-i.invariant.capacity;
+      apart = apart ∙ c.loop-i.invariant.apart;
+      few = λ is. let before = c.loop-i.invariant.few is in let left = few (c.loop-i.invariant.apart ∙ is) in omega (arith, before, left, had, has);
     }
 
 -- before the first key, only the list of idle keys has changed
@@ -58,6 +65,8 @@ loop-i-init c =
       idle = ap (λ (k : Core). k.idle) c.list_idle.ensures;
       len = omega arith;
       capacity = refl;
+      apart = ap (λ (k : Core). is_apart (book_of k) c.args.link.now c.args.now) c.list_idle.ensures;
+      few = λ is. let left = ap (λ (k : Core). length k.table.entries) c.list_idle.ensures in omega (arith, left);
     }
 
 -- no key is left
@@ -78,6 +87,12 @@ pub returns-clause-notes : goal.returns-clause-notes
 returns-clause-notes c =
     sym (ap (λ (g : LetGo). c.loop-i.notes.items ++ g.notes) (gone c.args.now c.loop-i.i _ (ledger_of c.loop-i.self) c.loop-i.link (none-left c)) ∙ append-nil c.loop-i.notes.items)
     ∙ c.loop-i.invariant.notes
+
+pub returns-clause-apart : goal.returns-clause-apart
+returns-clause-apart c = c.loop-i.invariant.apart
+
+pub returns-clause-few : goal.returns-clause-few
+returns-clause-few c = c.loop-i.invariant.few
 
 pub returns-clause-works : goal.returns-clause-works
 returns-clause-works c = λ h n stands.

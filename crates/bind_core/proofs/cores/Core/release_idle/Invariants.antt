@@ -1,8 +1,8 @@
-use Rattle.std.proofs.Common.{◌≡◌, ◌+◌, ◌≤◌, ◌++◌, drop, vec_len, vec_capacity}
+use Rattle.std.proofs.Common.{◌≡◌, ◌+◌, ◌≤◌, ◌++◌, true, drop, length, vec_len, vec_capacity}
 use Rattle.bindings.specs.Table.{idle_keys_of}
-use Rattle.spec_binding.specs.Books.{is_lone}
+use Rattle.spec_binding.specs.Books.{is_apart, is_lone}
 use Rattle.spec_binding.specs.Ledgers.{release_all}
-use Rattle.bind_core.specs.Cores.{ledger_of}
+use Rattle.bind_core.specs.Cores.{book_of, ledger_of}
 use Rattle.bind_core.proofs.cores.Core.release_idle.Given as goal
 
 -- releasing the keys that are left gives what releasing all would give
@@ -14,6 +14,8 @@ pub record SoFar (l : goal.Live-loop-i) : Type 0 where
   pub idle : l.self.idle ≡ idle_keys_of l.fn.self.table (is_lone l.fn.self.stage) l.now
   pub len : vec_len l.notes ≤ vec_len l.fn.notes + l.i
   pub capacity : vec_capacity l.notes ≡ vec_capacity l.fn.notes
+  pub apart : is_apart (book_of l.self) l.link l.now ≡ is_apart (book_of l.fn.self) l.fn.link l.now
+  pub few : is_apart (book_of l.fn.self) l.fn.link l.now ≡ true → vec_len l.notes + length l.self.table.entries ≤ vec_len l.fn.notes + length l.fn.self.table.entries
 
 abbrev pub invariant-loop-i : goal.invariant-loop-i
 invariant-loop-i l = SoFar l

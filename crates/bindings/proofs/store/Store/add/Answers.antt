@@ -1,7 +1,9 @@
-use Rattle.std.proofs.Common.{refl, sym, ap, ◌∙◌}
+use Rattle.std.proofs.Common.{refl, sym, ap, subst, ◌∙◌}
 use Rattle.slots.specs.Rows.{PortSlots, Row}
 use Rattle.bindings.specs.declared.store.Item.{Item}
 use Rattle.bindings.specs.Entries.{entry_in}
+use Rattle.bindings.specs.Stores.{entries_of, IsTally}
+use Rattle.bindings.proofs.Counts.{tally-few, tally-put}
 use Rattle.bindings.proofs.Kept.{entries-put, lives-put}
 use Rattle.bindings.proofs.Changes.{number-none}
 use Rattle.bindings.proofs.Stored.{added, row-absent, put-rows}
@@ -16,7 +18,7 @@ pub list_pair-requires-clause-free : goal.list_pair-requires-clause-free
 list_pair-requires-clause-free c =
     let i = c.self.inside in
     let free = rw (← c.self.view_is) at c.requires.free in
-    λ pair. c.self.invariant.0.indexed c.args.pair.endpoint ∙ number-none i.slots.rows c.args.pair.endpoint (free pair)
+    λ rank pair. c.self.invariant.0.indexed rank c.args.pair.endpoint ∙ number-none rank i.slots.rows c.args.pair.endpoint (free rank pair)
 
 pub invariant_of-self : goal.invariant_of-self
 invariant_of-self c =
@@ -33,7 +35,11 @@ invariant_of-self c =
         count = c.set_in_time.ensures.count ∙ c.self.invariant.1.count ∙ sym limit;
         room = rw limit c.self.invariant.1.room;
       },
+      subst (λ es. IsTally es c.plus-self-inside.result) (sym (ap entries_of rows ∙ entries-put r i.slots.rows c.self.invariant.0.keyed refl)) (tally-put r.item.entry (entries_of i.slots.rows) i.tally c.plus-self-inside.result c.self.invariant.2 c.plus-self-inside.ensures.waiting c.plus-self-inside.ensures.alone),
     )
+
+pub plus-self-inside-requires : goal.plus-self-inside-requires
+plus-self-inside-requires c = (let few = tally-few c.self.inside.slots.rows c.self.inside.tally c.self.invariant.2 c.recall_few.ensures in record { waiting = few.waiting; alone = few.alone })
 
 pub set_in_time-requires : goal.set_in_time-requires
 set_in_time-requires c = record { count = c.self.invariant.1.count ∙ sym (ap (λ (s : PortSlots Item). s.limit) c.insert-number.ensures.rows) }

@@ -2,6 +2,7 @@ use Rattle.std.proofs.Common.{ap, sym, subst, ◌∙◌}
 use Rattle.activity.specs.Lives.{Activity, Agrees, with_packet, life_carried}
 use Rattle.slots.specs.Rows.{PortSlots}
 use Rattle.bindings.specs.declared.store.Item.{Item}
+use Rattle.bindings.specs.Stores.{IsTally}
 use Rattle.bindings.proofs.Timed.{changed-timed}
 use Rattle.bindings.proofs.Stored.{changed-life, item-of_life}
 use Rattle.bindings.proofs.store.Store.carry.Goals as goal
@@ -16,6 +17,7 @@ invariant_of-self c =
         count = c.set_in_time.ensures.count ∙ c.self.invariant.1.count ∙ sym c.put_packet.ensures.limit;
         room = rw c.put_packet.ensures.limit c.self.invariant.1.room;
       },
+      subst (λ es. IsTally es c.self.inside.tally) (sym (changed-life c.self.inside.slots c.put_packet.new.slots c.self.inside.index c.self.inside.found.items c.args.key (life_carried c.args.key.protocol c.args.packet) c.self.invariant.0 c.recall.ensures.order c.put_packet.ensures.some c.put_packet.ensures.none).2) c.self.invariant.2,
     )
 
 pub returns-clause-lives : goal.returns-clause-lives

@@ -1,4 +1,4 @@
-use Rattle.std.proofs.Common.{ap, sym, ◌∙◌}
+use Rattle.std.proofs.Common.{ap, refl, sym, ◌∙◌}
 use Rattle.slots.specs.Rows.{PortSlots}
 use Rattle.bindings.specs.declared.store.Item.{Item}
 use Rattle.bindings.proofs.Stored.{none-indexed}
@@ -16,4 +16,5 @@ invariant_of-self c =
         count = c.self.invariant.1.count ∙ sym limit;
         room = rw limit c.self.invariant.1.room;
       },
+      rw (rows, c.none-self-inside.ensures) (record { waiting = refl; alone = refl }),
     )

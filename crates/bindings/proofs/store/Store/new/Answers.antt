@@ -1,4 +1,4 @@
-use Rattle.std.proofs.Common.{false, ◌∙◌, arith}
+use Rattle.std.proofs.Common.{false, refl, ◌∙◌, arith}
 use Rattle.bindings.proofs.Stored.{none-indexed}
 use Rattle.bindings.proofs.Timed.{none-timed}
 use Rattle.bindings.proofs.store.Store.new.Goals as goal
@@ -11,4 +11,5 @@ invariant_of-result c = (
     count = c.in-Ok.ensures.count ∙ c.limit.ensures;
     room = (let a = c.in-Ok-with_room.ensures.capacity in let b = c.limit-2.ensures in omega (arith, a, b));
   },
+  rw (c.in_ok-slots.ensures.rows, c.none.ensures) (record { waiting = refl; alone = refl }),
 )

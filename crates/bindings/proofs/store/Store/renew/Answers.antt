@@ -2,6 +2,7 @@ use Rattle.std.proofs.Common.{ap, sym, subst, ◌∙◌}
 use Rattle.activity.specs.Lives.{Activity, Agrees, renewed, life_renewed}
 use Rattle.slots.specs.Rows.{PortSlots}
 use Rattle.bindings.specs.declared.store.Item.{Item}
+use Rattle.bindings.specs.Stores.{IsTally}
 use Rattle.bindings.proofs.Timed.{changed-timed}
 use Rattle.bindings.proofs.Stored.{changed-life, item-of_life}
 use Rattle.bindings.proofs.store.Store.renew.Goals as goal
@@ -16,6 +17,7 @@ invariant_of-self c =
         count = c.set_in_time.ensures.count ∙ c.self.invariant.1.count ∙ sym c.put_renewal.ensures.limit;
         room = rw c.put_renewal.ensures.limit c.self.invariant.1.room;
       },
+      subst (λ es. IsTally es c.self.inside.tally) (sym (changed-life c.self.inside.slots c.put_renewal.new.slots c.self.inside.index c.self.inside.found.items c.args.key (life_renewed c.args.now) c.self.invariant.0 c.recall.ensures.order c.put_renewal.ensures.some c.put_renewal.ensures.none).2) c.self.invariant.2,
     )
 
 pub returns-clause-lives : goal.returns-clause-lives

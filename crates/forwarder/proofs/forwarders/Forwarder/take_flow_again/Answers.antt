@@ -1,7 +1,7 @@
 use Rattle.std.proofs.Common.{List, Ok, Err, ap, refl, sym, ◌∙◌}
 use Rattle.nat_types.specs.declared.gateways.Side.{Side}
 use Rattle.nat_types.specs.declared.pairs.Endpoint.{Endpoint}
-use Rattle.waiting.specs.declared.waits.WaitsFor.TheVariants.{Hop}
+use Rattle.waiting.specs.declared.waits.WaitsFor.TheVariants.{Hop, Pair}
 use Rattle.waiting.specs.Packets.{HeldPacket, has_place}
 use Rattle.packet_rules.specs.Flows.{source_of}
 use Rattle.packet_rules.specs.Networks.{exit_of}
@@ -32,6 +32,12 @@ ask-requires-clause-place c =
     ap (λ (w : HeldPacket). has_place c.args.self.now.kept w.wait) c.again-copy.ensures
     ∙ ap (λ (s : Side). has_place c.args.self.now.kept (Hop s c.in-Ok-Ask.hop)) exit
     ∙ holds.1
+
+pub wait-requires-clause-wait : goal.wait-requires-clause-wait
+wait-requires-clause-wait c =
+    let made = plan-made c.in-Ok-Wait.is c.in-Ok-Wait.field-0-is c.plan.ensures in
+    let holds = plan-holds (shown_of c.args.self.now) c.side_of.result c.args.reading.flow c.args.reading.length (Ok (WaitFor c.in-Ok-Wait.endpoint)) (sym made) in
+    ap (λ (w : HeldPacket). w.wait) c.again-copy-in-Ok-Wait.ensures ∙ ap Pair holds.1
 
 pub wait-requires-clause-place : goal.wait-requires-clause-place
 wait-requires-clause-place c =

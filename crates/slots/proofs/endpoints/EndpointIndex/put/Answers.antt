@@ -1,36 +1,49 @@
-use Rattle.std.proofs.Common.{Some, sym, ◌∙◌, arith}
-use Rattle.slots.proofs.LookUps.{changed-one}
-use Rattle.slots.proofs.Counted.{put-new, put-again, was-there, was-absent}
+use Rattle.std.proofs.Common.{◌≡◌, Some, None, not, is_some, ap, sym, subst, ◌∙◌, arith}
+use Rattle.slots.specs.declared.ranks.Places.{Places}
+use Rattle.slots.specs.Ranks.{slot_in, with_slot}
+use Rattle.slots.specs.Endpoints.{look_up, AreRewritten}
+use Rattle.slots.proofs.LookUps.{changed-slot}
+use Rattle.slots.proofs.Counted.{count-within, more-slots, more-total, none-from}
 use Rattle.slots.proofs.endpoints.EndpointIndex.put.Goals as goal
 
--- the endpoint had a slot
+-- the endpoint had no slot of that rank
 pub invariant_of-self : goal.invariant_of-self
-invariant_of-self g c = (
-  λ a. c.self.invariant.0 a ∙ sym (put-again c.self.inside.numbers.entries c.insert.new.self.entries c.args.endpoint c.args.number c.in-Ok-Some.field-0-0 c.in-Ok-Some.ensures.entries (sym c.in-Ok-Some.field-0-is ∙ c.in-Ok-Some.ensures.old) a),
-  (let room = rw (← c.self.view_is) at c.requires in let len = rw c.in-Ok-Some.field-0-is at c.in-Ok-Some.ensures.len in omega (arith, room, len)),
-)
+invariant_of-self g c =
+    let es = c.self.inside.places.entries in
+    let fs = c.insert.new.map.entries in
+    let x = c.args.endpoint in
+    let places : c.with.result ≡ with_slot c.args.rank (Some c.args.number) (look_up es x) = c.with.ensures ∙ ap (with_slot c.args.rank (Some c.args.number)) c.places_of-places.ensures in
+    let r = subst (λ (p : Places). AreRewritten es x p fs) places c.insert.ensures.rewritten in
+    let held : c.get.result ≡ slot_in c.args.rank (look_up es x) = c.get.ensures ∙ ap (slot_in c.args.rank) c.places_of-places.ensures in
+    let none = none-from (slot_in c.args.rank (look_up es x)) (sym (ap is_some held) ∙ c.is_none.ensures ∙ ap not c.if-is_none.true) in (
+      λ a. (let more = more-slots es fs x c.args.rank c.args.number r none a in let now = c.add_one.ensures.counts a in let old = c.self.invariant.0 a in omega (arith, more, now, old)),
+      c.insert.ensures.served c.self.invariant.1,
+      (let more = more-total es fs x c.args.rank c.args.number r none in let old = c.self.invariant.2 in omega (arith, more, old)),
+      (let room = rw (← c.self.view_is) at c.requires.spare in omega (arith, room)),
+    )
 
-pub returns-in-Ok-Some-clause-slots : goal.returns-in-Ok-Some-clause-slots
-returns-in-Ok-Some-clause-slots g c = rw (← c.self.view_is) (changed-one c.self.inside.numbers.entries c.insert.new.self.entries c.args.endpoint (Some c.args.number) c.in-Ok-Some.ensures.updates.0)
+pub add_one-requires-clause-small : goal.add_one-requires-clause-small
+add_one-requires-clause-small g c =
+    let few = count-within c.self.inside.places.entries c.self.inside.counts c.args.endpoint.address c.self.invariant.0 in
+    let all = c.self.invariant.2 in
+    let room = rw (← c.self.view_is) at c.requires.spare in
+    omega (arith, few, all, room)
 
-pub returns-in-Ok-Some-clause-counted : goal.returns-in-Ok-Some-clause-counted
-returns-in-Ok-Some-clause-counted g c = rw (← c.self.view_is) (λ none. absurd (was-there c.self.inside.numbers.entries c.insert.new.self.entries c.args.endpoint c.in-Ok-Some.field-0-0 (sym c.in-Ok-Some.field-0-is ∙ c.in-Ok-Some.ensures.old) none))
+pub returns-then-is_none-clause-slots : goal.returns-then-is_none-clause-slots
+returns-then-is_none-clause-slots g c =
+    let es = c.self.inside.places.entries in
+    let fs = c.insert.new.map.entries in
+    let x = c.args.endpoint in
+    let places : c.with.result ≡ with_slot c.args.rank (Some c.args.number) (look_up es x) = c.with.ensures ∙ ap (with_slot c.args.rank (Some c.args.number)) c.places_of-places.ensures in
+    let r = subst (λ (p : Places). AreRewritten es x p fs) places c.insert.ensures.rewritten in
+    rw (← c.self.view_is) (changed-slot es fs x c.args.rank (Some c.args.number) r.slots)
 
-pub returns-in-Ok-Some-clause-recounted : goal.returns-in-Ok-Some-clause-recounted
-returns-in-Ok-Some-clause-recounted g c = rw (← c.self.view_is) (λ _ a. put-again c.self.inside.numbers.entries c.insert.new.self.entries c.args.endpoint c.args.number c.in-Ok-Some.field-0-0 c.in-Ok-Some.ensures.entries (sym c.in-Ok-Some.field-0-is ∙ c.in-Ok-Some.ensures.old) a)
-
--- the endpoint had none
-pub invariant_of-self-in-Ok-None : goal.invariant_of-self-in-Ok-None
-invariant_of-self-in-Ok-None g c = (
-  λ a. c.add_one.ensures.counts a ∙ (let more = put-new c.self.inside.numbers.entries c.insert.new.self.entries c.args.endpoint c.args.number c.in-Ok-None.ensures.entries (sym c.in-Ok-None.field-0-is ∙ c.in-Ok-None.ensures.old) a in let old = c.self.invariant.0 a in omega (arith, more, old)),
-  (let room = rw (← c.self.view_is) at c.requires in let len = rw c.in-Ok-None.field-0-is at c.in-Ok-None.ensures.len in omega (arith, room, len)),
-)
-
-pub returns-in-Ok-None-clause-slots : goal.returns-in-Ok-None-clause-slots
-returns-in-Ok-None-clause-slots g c = rw (← c.self.view_is) (changed-one c.self.inside.numbers.entries c.insert.new.self.entries c.args.endpoint (Some c.args.number) c.in-Ok-None.ensures.updates.0)
-
-pub returns-in-Ok-None-clause-counted : goal.returns-in-Ok-None-clause-counted
-returns-in-Ok-None-clause-counted g c = rw (← c.self.view_is) (λ _ a. put-new c.self.inside.numbers.entries c.insert.new.self.entries c.args.endpoint c.args.number c.in-Ok-None.ensures.entries (sym c.in-Ok-None.field-0-is ∙ c.in-Ok-None.ensures.old) a)
-
-pub returns-in-Ok-None-clause-recounted : goal.returns-in-Ok-None-clause-recounted
-returns-in-Ok-None-clause-recounted g c = rw (← c.self.view_is) (λ some. absurd (was-absent c.self.inside.numbers.entries c.insert.new.self.entries c.args.endpoint (sym c.in-Ok-None.field-0-is ∙ c.in-Ok-None.ensures.old) some))
+-- the endpoint had one
+pub returns-else-is_none-clause-slots : goal.returns-else-is_none-clause-slots
+returns-else-is_none-clause-slots g c =
+    let es = c.self.inside.places.entries in
+    let fs = c.insert.new.map.entries in
+    let x = c.args.endpoint in
+    let places : c.with.result ≡ with_slot c.args.rank (Some c.args.number) (look_up es x) = c.with.ensures ∙ ap (with_slot c.args.rank (Some c.args.number)) c.places_of-places.ensures in
+    let r = subst (λ (p : Places). AreRewritten es x p fs) places c.insert.ensures.rewritten in
+    rw (← c.self.view_is) (changed-slot es fs x c.args.rank (Some c.args.number) r.slots)

@@ -1,0 +1,82 @@
+-- Both gateways go by their settings after each event, and no note is Alone where these never make a pair alone.
+use Rattle.std.proofs.Common.{◌≡◌, ℕ, List, [], ◌∷◌, ◌++◌, reverse, Option, Some, None, refl, sym, ap, subst, ◌∙◌}
+use Rattle.std.proofs.lemmas.List.{reverse-append}
+use Rattle.nat_types.specs.Same.{other}
+use Rattle.nat_types.specs.declared.gateways.GatewayId.{GatewayId}
+use Rattle.nat_types.specs.declared.gateways.GatewayId.TheVariants.{Zero, One}
+use Rattle.nat_types.specs.declared.notes.NoteKind.TheVariants.{Crashed, Booted}
+use Rattle.nat_types.specs.declared.notes.Note.{Note}
+use Rattle.settings.specs.declared.whole.Settings.{Settings}
+use Rattle.spec_trace.specs.Plain.{IsPlain}
+use Rattle.output.specs.Output.{Output}
+use Rattle.spec_step.specs.Founding.{begun, founded}
+use Rattle.spec_step.specs.Rests.{Rests}
+use Rattle.spec_step.specs.Shown.{Shown, scene}
+use Rattle.frame_sim.specs.World.{Half, NeverAlone, World, founding_of, gateway_at, half, settings_of, with_half}
+use Rattle.frame_sim.specs.Events.{noting, since, stepped}
+use Rattle.frame_sim.specs.Scene.{AloneAfter, IsBySettings}
+use Rattle.frame_sim.proofs.Mails.{since-is}
+
+plain-append : (xs ys : List Note) → IsPlain xs → IsPlain ys → IsPlain (xs ++ ys)
+plain-append [] ys p q = q
+plain-append (x ∷ xs) ys p q = (p.0, plain-append xs ys p.1 q)
+
+plain-reverse : (xs : List Note) → IsPlain xs → IsPlain (reverse xs)
+plain-reverse [] p = tt
+plain-reverse (x ∷ xs) p = subst IsPlain (sym (reverse-append (x ∷ []) xs)) (plain-append (reverse xs) (x ∷ []) (plain-reverse xs p.1) (p.0, tt))
+
+one-more : (t : List Note) (n : Note) → n ∷ reverse t ≡ reverse (t ++ n ∷ [])
+one-more t n = sym (reverse-append t (n ∷ []))
+
+never-at : (w : World) (i : GatewayId) → NeverAlone w → (settings_of w i).alone ≡ 0
+never-at w Zero never = never.zero
+never-at w One never = never.one
+
+-- both gateways go by their settings, where the one of the event does and the other did
+alone-are : (w : World) (i : GatewayId) (h : Half) (trace : List Note) → AloneAfter (settings_of w i).alone h.gateway → ((j : GatewayId) → AloneAfter (settings_of w j).alone (gateway_at w j))
+    → (j : GatewayId) → AloneAfter (settings_of w j).alone (gateway_at (with_half w i h trace) j)
+alone-are w Zero h trace mine all Zero = mine
+alone-are w Zero h trace mine all One = all One
+alone-are w One h trace mine all Zero = all Zero
+alone-are w One h trace mine all One = mine
+
+by-settings-still : (w : World) (i : GatewayId) (h : Half) (trace : List Note) → AloneAfter (settings_of w i).alone h.gateway → (NeverAlone w → IsPlain (reverse trace)) → IsBySettings w → IsBySettings (with_half w i h trace)
+by-settings-still w i h trace mine plain was = record {
+  alone = alone-are w i h trace mine was.alone;
+  plain = λ never. plain (record { zero = never.zero; one = never.one });
+}
+
+pub step-by-settings : (w : World) (i : GatewayId) (g new : Shown) (told told2 : Output) → Rests (scene g told) (scene new told2) → gateway_at w i ≡ Some g → IsBySettings w → IsBySettings (stepped w i new told told2)
+step-by-settings w i g new told told2 x up was =
+    let trace2 = w.trace ++ since told.notes told2.notes in
+    let so : reverse trace2 ≡ reverse x.notes ++ reverse w.trace = ap (λ (xs : List Note). reverse (w.trace ++ xs)) (since-is told.notes x.notes told2.notes x.notes_are) ∙ reverse-append w.trace x.notes in
+    let mine : g.ledger.book.alone ≡ (settings_of w i).alone = subst (λ (o : Option Shown). AloneAfter (settings_of w i).alone o) up (was.alone i) in
+    by-settings-still w i (record (half w i) { gateway = Some new; sent = (half w i).sent ++ since told.datagrams told2.datagrams }) trace2 (x.alone ∙ mine)
+    (λ never. subst IsPlain (sym so) (plain-append (reverse x.notes) (reverse w.trace) (plain-reverse x.notes (x.plain (mine ∙ never-at w i never))) (was.plain never)))
+    was
+
+pub crash-by-settings : (w : World) (i : GatewayId) (moment : ℕ) → IsBySettings w → IsBySettings (with_half w i (record (half w i) { gateway = None }) (w.trace ++ noting i moment Crashed ∷ []))
+crash-by-settings w i moment was =
+    let n = noting i moment Crashed in
+    by-settings-still w i (record (half w i) { gateway = None }) (w.trace ++ n ∷ []) tt (λ never. subst IsPlain (one-more w.trace n) (tt, was.plain never)) was
+
+begun-alone : (settings : Settings) (i : GatewayId) (n : ℕ) → (begun settings i n).ledger.book.alone ≡ settings.alone
+unfolding begun
+begun-alone settings i n = refl
+
+founded-alone : (settings : Settings) → (founded settings 1).ledger.book.alone ≡ settings.alone
+unfolding founded begun
+founded-alone settings = refl
+
+pub boot-by-settings : (w : World) (i : GatewayId) (number : ℕ) → IsBySettings w → IsBySettings (with_half w i (record (half w i) { gateway = Some (begun (settings_of w i) i number); boot = number }) (w.trace ++ noting i 0 (Booted number) ∷ []))
+boot-by-settings w i number was =
+    let n = noting i 0 (Booted number) in
+    by-settings-still w i (record (half w i) { gateway = Some (begun (settings_of w i) i number); boot = number }) (w.trace ++ n ∷ []) (begun-alone (settings_of w i) i number)
+    (λ never. subst IsPlain (one-more w.trace n) (tt, was.plain never)) was
+
+pub founding-by-settings : (settings settings_one : Settings) → IsBySettings (founding_of settings settings_one)
+founding-by-settings settings settings_one = record { alone = alone; plain = λ never. tt }
+  where
+    alone : (i : GatewayId) → AloneAfter (settings_of (founding_of settings settings_one) i).alone (gateway_at (founding_of settings settings_one) i)
+    alone Zero = founded-alone settings
+    alone One = tt

@@ -1,0 +1,5 @@
+use Rattle.spec_pair.proofs.Telling as laws
+use Rattle.spec_pair.proofs.laws.tells_are_taken.Goals as goal
+
+pub returns : goal.returns
+returns c = laws.tells_are_taken

@@ -1,0 +1,6 @@
+use Rattle.std.proofs.Common.{◌≡◌, take, reverse}
+use Rattle.spec_trace.specs.Past as past
+use Rattle.spec_trace.proofs.checker.was_alone.Given as goal
+
+abbrev pub invariant-loop-note : goal.invariant-loop-note
+invariant-loop-note l = l.alone ≡ past.was_alone l.pair (reverse (take l.note-index l.trace))

@@ -1,0 +1,5 @@
+use Rattle.spec_trace.proofs.ByPosition as laws
+use Rattle.spec_trace.proofs.laws.one_port_by_position.Goals as goal
+
+pub returns : goal.returns
+returns c = laws.one_port_law
