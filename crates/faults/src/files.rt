@@ -240,7 +240,10 @@ impl Fault {
 /// Returns why the boot file at a path gave no number to a start.
 fn boot_cause<R: Files>(rt: &R, path: &str, fault: BootFault) -> BootCause {
     match fault {
-        BootFault::Device(fault) => BootCause::Device(fault),
+        BootFault::Device(fault) => match fs::metadata(rt, path) {
+            Ok(metadata) if !metadata.is_file() => BootCause::NotRegular,
+            _ => BootCause::Device(fault),
+        },
         BootFault::Damaged => match fs::metadata(rt, path) {
             Ok(metadata) if metadata.len() < BOOT_FILE_LENGTH => BootCause::Short,
             _ => BootCause::Invalid,

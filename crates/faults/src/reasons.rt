@@ -114,6 +114,10 @@ fn wanted_way(text: &str) -> &'static str {
 fn write_no_sockets<W: fmt::Write>(cause: SocketCause, f: &mut Formatter<W>) -> fmt::Result {
     match cause {
         SocketCause::NoPorts => f.write_str("  a place on loopback has no port in the settings\n"),
+        SocketCause::NotBound(end, ErrorKind::AddrInUse) => {
+            let address = SocketAddr::from(end);
+            writeln!(f, "  {address}: another way of this box has it")
+        }
         SocketCause::NotBound(end, cause) => {
             let (address, cause) = (SocketAddr::from(end), Cause(cause));
             writeln!(

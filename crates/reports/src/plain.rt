@@ -92,7 +92,7 @@ fn write_apart<W: fmt::Write>(f: &mut Formatter<W>, report: &Report) -> fmt::Res
     let made = Grouped(apart.made);
     writeln!(
         f,
-        "{total} in all, {private} pairs private, {made} made alone"
+        "{total} in all; pairs: {private} private, {made} made alone"
     )
 }
 
