@@ -24,10 +24,11 @@ use Rattle.spec_pair.specs.World.{box_in}
 use Rattle.spec_pair.specs.Mapped.{slot_in}
 use Rattle.spec_binding.specs.Machine.{machine_slot, slots_of}
 use Rattle.spec_step.specs.Shown.{Shown}
-use Rattle.frame_sim.specs.World.{HasKeys, World, gateway_at, half, entries_of, synced_at, ShowsSynced, Holds, IsKeptTogether, Translates}
+use Rattle.frame_sim.specs.World.{HasKeys, World, gateway_at, half, entries_of, synced_at, ShowsSynced, Holds, IsKeptTogether, IsShared, Translates}
 use Rattle.frame_sim.specs.Scene.{IsSound, box_at, ranges_of, scene_of}
 use Rattle.frame_sim.proofs.Stepping.{box-is}
 use Rattle.frame_sim.proofs.Turning.{synced-of}
+use Rattle.frame_sim.proofs.Plain.{goes-together, none-alone}
 
 -- a state in which the machine translates is one that translates
 translated-state : (s : EntryState) (e x : Endpoint) → machine.translated (slot_in s e) ≡ Some x → (translates s ≡ true) × (e ≡ x)
@@ -194,14 +195,19 @@ sound-promise P law w sound = law (ranges_of w.settings.ports) (scene_of w sound
 pub sound-two : Twos → (w : World) → HasKeys w.zero.gateway → HasKeys w.one.gateway → IsSound w → AtMostTwo (Holds w) w.trace
 sound-two law w zero one sound = holds-two w sound.pushed w.trace zero one (law (ranges_of w.settings.ports) (scene_of w sound.pushed) w.trace sound.scene refl)
 
-pub sound-plain : PlainFits → PlainKeeps → (w : World) → IsSound w → plain.IsPlain (reverse w.trace) → IsKeptTogether w
-sound-plain fits keeps w sound is = record {
+pub sound-plain : PlainFits → PlainKeeps → (w : World) → IsSound w → GoesOn (Translates w) w.trace → plain.IsPlain (reverse w.trace) → IsKeptTogether w
+sound-plain fits keeps w sound goes is = record {
+  none = λ p alone. none-alone p (reverse w.trace) is alone;
+  goes_on = goes-together (Translates w) (reverse w.trace) is goes;
   fits = fits (ranges_of w.settings.ports) (scene_of w sound.pushed) w.trace sound.scene refl is;
   kept = holds-plain w sound.pushed (reverse w.trace) (keeps (ranges_of w.settings.ports) (scene_of w sound.pushed) w.trace sound.scene refl is);
 }
 
 pub sound-kept : Keeps → (w : World) → IsSound w → Kept (Holds w) w.trace
 sound-kept law w sound = holds-kept w sound.pushed w.trace (law (ranges_of w.settings.ports) (scene_of w sound.pushed) w.trace sound.scene refl)
+
+pub sound-shared : Keeps → (w : World) → IsSound w → IsShared w
+sound-shared law w sound none p used i synced = elim (sound-kept law w sound p used i synced) [ inl a ↦ a | inr a ↦ absurd (none a.0 p a.2) ]
 
 pub sound-goes : Goes → (w : World) → HasKeys w.zero.gateway → HasKeys w.one.gateway → IsSound w → GoesOn (Translates w) w.trace
 sound-goes law w zero one sound = translates-on w sound.pushed w.trace zero one (law (ranges_of w.settings.ports) (scene_of w sound.pushed) w.trace sound.scene refl)

@@ -3,6 +3,7 @@ mod Fixed
 mod Mails
 mod Stepping
 mod Turning
+mod Plain
 mod Handing
 mod Keeping
 mod Short

@@ -1,3 +1,4 @@
+pub mod Plain
 pub mod World
 pub mod Events
 pub mod Halves

@@ -16,10 +16,11 @@ use Rattle.bindings.specs.Ports.{in_either}
 use Rattle.bindings.specs.Runs.{port_at}
 use Rattle.link.specs.Link.{pushed_count}
 use Rattle.spec_trace.specs.Plain as plain
-use Rattle.spec_trace.specs.Trace.{Fits, IsSynced}
+use Rattle.spec_trace.specs.Trace.{Fits, IsOpen, IsPrivate, IsSynced, WasAlone}
 use Rattle.spec_binding.specs.Books.{is_synced}
 use Rattle.spec_step.specs.Founding.{bounds_of, founded}
 use Rattle.spec_step.specs.Shown.{Shown}
+use Rattle.frame_sim.specs.Plain.{GoesOn as PlainGoesOn}
 
 -- One of the two gateways: the gateway where it is up, the number of its last boot (0 where it never booted), and all
 -- datagrams that it ever sent, the oldest first.
@@ -132,11 +133,19 @@ pub record NeverAlone (w : World) : Type 0 where
 abbrev pub ShowsSynced : World → Type 0
 ShowsSynced w = (i : GatewayId) → IsTrue (synced_at (gateway_at w i)) ↔ IsSynced i w.trace
 
--- Where no pair was ever alone: the trace fits, and each open pair is in the table of each synced gateway, by the words
--- as they are without the note Alone.
+-- Where no pair was ever alone: the trace fits, each open pair is in the table of each synced gateway, and a synced
+-- gateway translates with exactly the pairs that go on there, by the words as they are without the note Alone.
 pub record IsKeptTogether (w : World) : Type 0 where
+  pub none : (p : Pair) → WasAlone p w.trace → ⊥
   pub fits : Fits w.trace
   pub kept : plain.Kept (Holds w) (reverse w.trace)
+  pub goes_on : PlainGoesOn (Translates w) (reverse w.trace)
+
+-- While no pair is private, each open pair is held by each synced gateway.
+abbrev pub IsShared : World → Type 0
+IsShared w =
+    ((i : GatewayId) (p : Pair) → IsPrivate i p w.trace → ⊥) →
+    (p : Pair) → IsOpen p w.trace → (i : GatewayId) → IsSynced i w.trace → Holds w i p
 
 -- ---- the ports that the two own
 

@@ -13,7 +13,7 @@ ghost use Rattle.frame_sim.specs.Events.{TakesAt, datagram_for, may_be_told, may
 ghost use Rattle.frame_sim.specs.Lacks.{IsUnnoted, IsUnowned, IsUnpaired, IsUnstepped, IsUntranslated, WasUnbegun, WasUnrun, WasUntold, WasUntraced};
 ghost use Rattle.frame_sim.specs.Runs.{Answers, AreSteps, Gives, WasTaken, fault_of};
 ghost use Rattle.frame_sim.specs.Scene.{IsHanded};
-ghost use Rattle.frame_sim.specs.World.{HaveSameRanges, Holds, IsKeptTogether, IsOwned, NeverAlone, ShowsSynced, Translates, founding, founding_of, gateway_at, half, is_up, owned_by, pairs_of, settings_of, synced_at};
+ghost use Rattle.frame_sim.specs.World.{HaveSameRanges, Holds, IsKeptTogether, IsOwned, IsShared, NeverAlone, ShowsSynced, Translates, founding, founding_of, gateway_at, half, is_up, owned_by, pairs_of, settings_of, synced_at};
 
 use crate::halves::Half;
 use crate::{Step, WorldEvent, WorldFault};
@@ -226,6 +226,7 @@ impl<'a> World<'a> {
         ensures one_endpoint { OneEndpoint self.now.trace }
         ensures at_most_two { AtMostTwo (Holds self.now) self.now.trace }
         ensures kept { Kept (Holds self.now) self.now.trace }
+        ensures shared { IsShared self.now }
         // Where no pair was ever alone, the promises are those of two gateways that make no pair without the other.
         ensures together { IsPlain (reverse self.now.trace) → IsKeptTogether self.now }
         // By settings that never make a pair alone, no pair was ever alone.
@@ -328,6 +329,7 @@ impl<'a> World<'a> {
         ensures one_endpoint { OneEndpoint self.new.trace }
         ensures at_most_two { AtMostTwo (Holds self.new) self.new.trace }
         ensures kept { Kept (Holds self.new) self.new.trace }
+        ensures shared { IsShared self.new }
         ensures together { IsPlain (reverse self.new.trace) → IsKeptTogether self.new }
         ensures plain { NeverAlone self.new → IsPlain (reverse self.new.trace) }
         ensures silent { Silent self.new.trace }

@@ -1,13 +1,18 @@
 use Rattle.frame_sim.specs.Scene.{IsSound}
 use Rattle.frame_sim.proofs.Owning.{sound-owned}
-use Rattle.frame_sim.proofs.Keeping.{sound-goes, sound-kept, sound-plain, sound-promise, sound-says, sound-two}
+use Rattle.frame_sim.proofs.Keeping.{sound-goes, sound-kept, sound-plain, sound-promise, sound-says, sound-shared, sound-two}
 use Rattle.frame_sim.proofs.worlds.World.recall.Goals as goal
 
 pub returns-clause-at_most_two : goal.returns-clause-at_most_two
 returns-clause-at_most_two c = rw (← c.self.view_is) (sound-two c.promises_in_order.ensures.at_most_two _ c.recall.ensures c.recall-2.ensures c.self.invariant)
 
 pub returns-clause-together : goal.returns-clause-together
-returns-clause-together c = rw (← c.self.view_is) (sound-plain c.promises_without_alone.ensures.fits c.promises_without_alone.ensures.kept _ c.self.invariant)
+returns-clause-together c =
+    let goes = sound-goes c.promises_in_order.ensures.goes_on _ c.recall.ensures c.recall-2.ensures c.self.invariant in
+    rw (← c.self.view_is) (sound-plain c.promises_without_alone.ensures.fits c.promises_without_alone.ensures.kept _ c.self.invariant goes)
+
+pub returns-clause-shared : goal.returns-clause-shared
+returns-clause-shared c = rw (← c.self.view_is) (sound-shared c.promises_in_order.ensures.kept _ c.self.invariant)
 
 pub returns-clause-plain : goal.returns-clause-plain
 returns-clause-plain c = rw (← c.self.view_is) (let sound : IsSound _ = c.self.invariant in sound.by_settings.plain)
