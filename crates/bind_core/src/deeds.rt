@@ -326,19 +326,16 @@ fn is_same_pair(a: Pair, b: Pair) -> bool
 }
 
 /// Whether an entry has this pair and translates.
+#[inline(always)]
 pub(crate) fn is_carried(entry: Option<Entry>, pair: Pair) -> bool
     ensures { result ≡ is_carried_by entry pair }
 {
     match entry {
         Some(entry) => match entry.state {
-            EntryState::Live
-            | EntryState::Held
-            | EntryState::Alone
-            | EntryState::Pending { marked: true }
-            | EntryState::Closing { marked: true } => is_same_pair(entry.pair, pair),
             EntryState::Pending { marked: false }
             | EntryState::Closing { marked: false }
             | EntryState::Doomed => false,
+            _ => is_same_pair(entry.pair, pair),
         },
         None => false,
     }

@@ -278,13 +278,9 @@ pub(crate) fn known(pair: Pair, state: EntryState) -> PortRequest
     ensures { result ≡ known_wish pair state }
 {
     let answer = match state {
-        EntryState::Live
-        | EntryState::Held
-        | EntryState::Alone
-        | EntryState::Pending { marked: true }
-        | EntryState::Closing { marked: true } => Want::Port(pair.key.port),
         EntryState::Pending { marked: false } => Want::Wait,
         EntryState::Closing { marked: false } | EntryState::Doomed => Want::NotNow,
+        _ => Want::Port(pair.key.port),
     };
     wish(answer, quiet())
 }
@@ -439,16 +435,10 @@ fn used(pair: Pair, state: EntryState) -> Transition
     ensures { result ≡ used_row pair state }
 {
     match state {
-        EntryState::Live
-        | EntryState::Held
-        | EntryState::Alone
-        | EntryState::Pending { marked: true }
-        | EntryState::Closing { marked: true } => {
-            row(Change::Keep, None, Some(NoteKind::Used(pair)))
-        }
         EntryState::Pending { marked: false }
         | EntryState::Closing { marked: false }
         | EntryState::Doomed => quiet(),
+        _ => row(Change::Keep, None, Some(NoteKind::Used(pair))),
     }
 }
 

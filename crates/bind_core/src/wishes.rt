@@ -106,8 +106,24 @@ impl Core {
         ensures { let apart = is_apart_at (book_of self.now) link.now now
             in result ≡ (wish_of (book_of self.now) apart (is_full link.now) endpoint).answer }
     {
+        if !is_synced(self.stage) {
+            return Want::NotNow;
+        }
+        match self.table.port_of(endpoint) {
+            Some(entry) => known(entry.pair, entry.state).answer,
+            None => self.look_for_new(link, endpoint, now),
+        }
+    }
+
+    /// Returns what `want` would answer for an endpoint without a pair.
+    #[cold]
+    fn look_for_new(&self, link: &Link, endpoint: Endpoint, now: u64) -> Want
+        ensures { let apart = is_apart_at (book_of self.now) link.now now in
+            result ≡ (unknown_wish (book_of self.now) apart (is_full link.now) endpoint).answer }
+    {
         let apart = self.is_apart(link, now);
-        self.wish_for(apart, is_link_full(link), endpoint).answer
+        self.unknown_wish_for(apart, is_link_full(link), endpoint)
+            .answer
     }
 
     /// Returns what a packet of an endpoint has to do: go out by its pair's port, wait, or be

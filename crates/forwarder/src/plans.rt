@@ -41,15 +41,11 @@ pub(crate) fn pair_of(entry: Option<Entry>) -> Result<Pair, Reason>
     match entry {
         None => Err(Reason::NoBinding),
         Some(entry) => match entry.state {
-            EntryState::Live | EntryState::Alone | EntryState::Held => Ok(entry.pair),
-            EntryState::Pending { marked } | EntryState::Closing { marked } => {
-                if marked {
-                    Ok(entry.pair)
-                } else {
-                    Err(Reason::CannotWait)
-                }
+            EntryState::Pending { marked: false } | EntryState::Closing { marked: false } => {
+                Err(Reason::CannotWait)
             }
             EntryState::Doomed => Err(Reason::NoBinding),
+            _ => Ok(entry.pair),
         },
     }
 }
