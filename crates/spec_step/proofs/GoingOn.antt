@@ -53,7 +53,7 @@ use Rattle.spec_step.specs.declared.plans.Plan.{Plan}
 use Rattle.spec_step.specs.declared.plans.Plan.TheVariants.{Send, Ask, AskAgain, Wait}
 use Rattle.spec_step.specs.declared.plans.Reply.{Reply}
 use Rattle.spec_step.specs.declared.plans.Reply.TheVariants as reply
-use Rattle.spec_step.specs.GoingOn.{GoesByOwn, HasAllPairs, HasNoPort, HaveErrorPairs, HavePairs, IsOwnWhereTwo, MayGoOn, MayPassOn, NeedsPair, NeedsPort, Translates}
+use Rattle.spec_step.specs.GoingOn.{BeginsBy, GoesByOwn, HasAllPairs, HasNoPort, HaveErrorPairs, HavePairs, IsOwnWhereTwo, MayBegin, MayGoOn, MayPassOn, NeedsPair, NeedsPort, Translates}
 use Rattle.spec_step.specs.Shown.{Shown, is_apart, is_up, station_on}
 use Rattle.spec_step.specs.Verdict.{error_by, error_on, error_plan, exit_by, fits_at, hop_back, hop_to, if_fits, if_reply_fits, look_for, next_back, next_by, next_to, outcome_by, outcome_read, outcome_reply, pair_at, pair_in, pair_in_of, pair_out, plan_by, plan_from, plan_of, plan_on, plan_to, plan_via, reading_on, reply_to, reply_via, target_pair, verdict}
 use Rattle.spec_step.proofs.Sends.{AreFound, IsOwn, plan-sends}
@@ -151,6 +151,51 @@ packet-sent g side bytes by may =
     ∙ ap (λ (r : Result Direction Reason). outcome_by (and_then r (λ x. and_then (plan_on g flow x) (if_fits (fits_at g (exit_of x) length))))) may.way
     ∙ ap (λ (r : Result Plan Reason). outcome_by (and_then r (if_fits fits))) p.plan
     ∙ hop-sends g p.taken flow.destination may.hop fits (p.next ∙ may.next) may.fits
+
+-- ---- a packet that begins a pair, at a gateway that is apart
+
+begun-answer : (b : Book) (e : Endpoint) (full : Bool) (port : Port) → (new_wish b true full e (Some port)).answer ≡ want.TheVariants.Port port
+begun-answer b e full port = at (is_lone b.stage)
+  where
+    at : (lone : Bool) → (let r : PortRequest = cond lone (wish (want.TheVariants.Port port) (row (Add (entry_in Live (new_pair e port))) None (Some (Retaken (new_pair e port))))) (paired_wish true full (new_pair e port)) in r).answer ≡ want.TheVariants.Port port
+    at true = refl
+    at false = refl
+
+look-begun : (g : Shown) (flow : Flow) (port : Port) → is_synced g.ledger.book.stage ≡ true → is_apart g ≡ true
+    → entry_of g.ledger.book.entries (source_of flow) ≡ None → is_at_limit g.ledger.book flow.source ≡ false
+    → port_for g.ledger.book (source_of flow) ≡ Some port → look_for g flow ≡ want.TheVariants.Port port
+look-begun g flow port synced apart none below free =
+    let b = g.ledger.book in let e = source_of flow in let full = is_full g.link in
+    look-synced g flow synced
+    ∙ ap (λ (o : Option Entry). (wish_by b (is_apart g) full e o).answer) none
+    ∙ ap (λ (t : Bool). (let r : PortRequest = cond t (wish want.TheVariants.HostLimit quiet) (new_wish b (is_apart g) full e (port_for b e)) in r).answer) below
+    ∙ ap (λ (o : Option Port). (new_wish b (is_apart g) full e o).answer) free
+    ∙ ap (λ (t : Bool). (new_wish b t full e (Some port)).answer) apart
+    ∙ begun-answer b e full port
+
+begun-plan : (g : Shown) (flow : Flow) (port : Port) (by : Translation) → BeginsBy g flow port by → look_for g flow ≡ want.TheVariants.Port port
+    → plan_on g flow (way_of by) ≡ plan_by g flow by
+begun-plan g flow port (Outward p) begins look =
+    ap (λ (w : Want). plan_from g flow Outward w) look
+    ∙ ap (λ (q : Pair). plan_by g flow (Outward q)) (sym begins)
+begun-plan g flow port (Inward p) begins look = absurd begins
+begun-plan g flow port (Hairpin own other) begins look =
+    ap (λ (r : Result Pair Reason). and_then r (λ q. plan_from g flow (λ mine. Hairpin mine q) (look_for g flow))) begins.1
+    ∙ ap (λ (w : Want). plan_from g flow (λ mine. Hairpin mine other) w) look
+    ∙ ap (λ (q : Pair). plan_by g flow (Hairpin q other)) (sym begins.0)
+
+pub begun-sent : (g : Shown) (side : Side) (bytes : List ℕ) → is_apart g ≡ true → MayBegin g side bytes → verdict g side bytes ≡ Sent
+begun-sent g side bytes apart may =
+    let flow = may.packet.flow in
+    let length = may.packet.length in
+    let by = may.by in
+    let fits = fits_at g (exit_by by) length in
+    let synced = synced-reads g side bytes (Packet may.packet) may.reads in
+    let look = look-begun g flow may.port synced apart may.none may.below may.free in
+    ap (λ (r : Result Reading Reason). outcome_read g side r) may.reads
+    ∙ ap (λ (r : Result Direction Reason). outcome_by (and_then r (λ x. and_then (plan_on g flow x) (if_fits (fits_at g (exit_of x) length))))) may.way
+    ∙ ap (λ (r : Result Plan Reason). outcome_by (and_then r (if_fits fits))) (begun-plan g flow may.port by may.begins look)
+    ∙ hop-sends g by flow.destination may.hop fits may.next may.fits
 
 -- ---- an error
 

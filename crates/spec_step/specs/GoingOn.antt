@@ -2,6 +2,7 @@
 -- pairs that it may have.
 use Rattle.std.specs.Prelude.{◌≡◌, ℕ, true, false, Option, Some, None, Ok, List}
 use Rattle.addresses.specs.declared.ethernet.Mac.{Mac}
+use Rattle.addresses.specs.declared.transport.Port.{Port}
 use Rattle.nat_types.specs.declared.gateways.Side.{Side}
 use Rattle.nat_types.specs.declared.pairs.Endpoint.{Endpoint}
 use Rattle.nat_types.specs.declared.pairs.Pair.{Pair}
@@ -13,7 +14,7 @@ use Rattle.bindings.specs.declared.entries.Entry.{Entry}
 use Rattle.bindings.specs.Entries.{entry_of, own_entry_of, slot_of, translates}
 use Rattle.bindings.specs.Ports.{is_free_in}
 use Rattle.spec_binding.specs.Books.{owns}
-use Rattle.spec_binding.specs.Rows.{is_at_limit}
+use Rattle.spec_binding.specs.Rows.{is_at_limit, new_pair, port_for}
 use Rattle.packet_rules.specs.declared.networks.Direction.{Direction}
 use Rattle.packet_rules.specs.declared.networks.Direction.TheVariants as way
 use Rattle.packet_rules.specs.declared.readings.Reading.TheVariants.{Packet, Error}
@@ -120,3 +121,29 @@ pub record HasNoPort (g : Shown) (side : Side) (bytes : List ℕ) : Type 0 where
 pub record HasAllPairs (g : Shown) (side : Side) (bytes : List ℕ) : Type 0 where
   pub chooses : NeedsPort g side bytes
   pub reached : is_at_limit g.ledger.book chooses.packet.flow.source ≡ true
+
+-- ---- a packet that begins a pair
+
+-- the translation of a packet whose source gets a pair on this port
+abbrev pub BeginsBy : Shown → Flow → Port → Translation → Type 0
+BeginsBy g flow port (Outward p) = p ≡ new_pair (source_of flow) port
+BeginsBy g flow port (Inward p) = ⊥
+BeginsBy g flow port (Hairpin own other) =
+    (own ≡ new_pair (source_of flow) port) × (target_pair g flow ≡ Ok other)
+
+-- A packet may begin a pair: it is valid and its time to live is above one, its source has no pair, the host is below its
+-- limit, a port is free, the next hop's hardware address is known, and the packet is no longer than what is sent there.
+pub record MayBegin (g : Shown) (side : Side) (bytes : List ℕ) : Type 0 where
+  pub packet : Datagram
+  pub reads : reading_on g side bytes ≡ Ok (Packet packet)
+  pub none : entry_of g.ledger.book.entries (source_of packet.flow) ≡ None
+  pub below : is_at_limit g.ledger.book packet.flow.source ≡ false
+  pub port : Port
+  pub free : port_for g.ledger.book (source_of packet.flow) ≡ Some port
+  pub by : Translation
+  pub begins : BeginsBy g packet.flow port by
+  pub way : let flow = packet.flow in
+      direction_of g.networks side flow.protocol flow.source.0 flow.destination.0 ≡ Ok (way_of by)
+  pub hop : Mac
+  pub next : next_by g by packet.flow ≡ Some hop
+  pub fits : fits_at g (exit_by by) packet.length ≡ true

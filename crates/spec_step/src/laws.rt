@@ -42,7 +42,7 @@ ghost use Rattle.spec_step.specs.declared.plans.Plan.TheVariants.{Send as SendBy
 ghost use Rattle.spec_step.specs.Apart.{IsUnmoved, WaitsForNobody};
 ghost use Rattle.spec_step.specs.Verdict.{error_plan, plan_of, reading_on, verdict};
 ghost use Rattle.spec_step.specs.Founding.{HasRanges, begun, bounds_of, founded, link_places};
-ghost use Rattle.spec_step.specs.GoingOn.{GoesByOwn, HasAllPairs, HasNoPort, MayGoOn, MayPassOn};
+ghost use Rattle.spec_step.specs.GoingOn.{GoesByOwn, HasAllPairs, HasNoPort, MayBegin, MayGoOn, MayPassOn};
 ghost use Rattle.spec_step.specs.Machine.{AreBytes, Goes, HasBytes, HasPushed, IsAlone, IsStanding, KeepsBytes};
 ghost use Rattle.spec_step.specs.Machine.{letters_in, words_in};
 ghost use Rattle.spec_step.specs.LettingGo.{CanAskForAll, HasRested, IsLetGo, NotesRelease};
@@ -460,7 +460,8 @@ pub fn not_moved()
 /// live is above one, its next hop is known and it fits. A packet is dropped because no port is
 /// free (outcome 14), or because its host has all the pairs that it may have (outcome 18), exactly
 /// where a port has to be chosen for it and that is so. Of two pairs of its source a packet that is
-/// sent goes out by the one on a port that the gateway owns.
+/// sent goes out by the one on a port that the gateway owns. At a gateway that is apart a packet that
+/// may begin a pair is sent at once.
 pub fn goes_on_is_sent()
     ensures packet { (g : Shown) (side : Side) (bytes : List ℕ) (by : Translation)
         → MayGoOn g side bytes by → verdict g side bytes ≡ outcome.Sent }
@@ -473,4 +474,6 @@ pub fn goes_on_is_sent()
     ensures own { (g : Shown) (side : Side) (flow : Flow) (length : ℕ) (by : Translation) (next : Mac)
         → IsBook g.ledger.book → plan_of g side flow length ≡ Ok (SendBy by next)
         → GoesByOwn g flow by }
+    ensures alone { (g : Shown) (side : Side) (bytes : List ℕ) → is_apart g ≡ true
+        → MayBegin g side bytes → verdict g side bytes ≡ outcome.Sent }
 {}

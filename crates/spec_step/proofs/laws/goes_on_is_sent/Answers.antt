@@ -1,4 +1,4 @@
-use Rattle.spec_step.proofs.GoingOn.{error-sent, host-limit, no-port, packet-sent, sent-by-own}
+use Rattle.spec_step.proofs.GoingOn.{begun-sent, error-sent, host-limit, no-port, packet-sent, sent-by-own}
 use Rattle.spec_step.proofs.laws.goes_on_is_sent.Goals as goal
 
 pub returns-clause-packet : goal.returns-clause-packet
@@ -15,3 +15,6 @@ returns-clause-host_limit c = host-limit
 
 pub returns-clause-own : goal.returns-clause-own
 returns-clause-own c = sent-by-own
+
+pub returns-clause-alone : goal.returns-clause-alone
+returns-clause-alone c = begun-sent
