@@ -1,7 +1,7 @@
-"""The binding protocol of one gateway: by docs/PROTOCOL.md. Each part answers the endpoints whose packets need wait no
-longer, and notes by `note(name, pair)`."""
+"""The binding protocol of one gateway that never makes a pair alone: by docs/PROTOCOL.md. Each part answers the
+endpoints whose packets need wait no longer, and notes by `note(name, pair)`."""
 
-from link import ACCEPT, ASK, BEGIN, DONE, GRANT, INSTALL, NO, OWNER, PUT, REFUSE, WANT, YES
+from link import ACCEPT, ASK, BEGIN, DONE, GRANT, INSTALL, NO, OWNER, PUT, REFUSE, TELL, WANT, YES
 from table import CLOSING, DOOMED, HELD, LIVE, PENDING, Table
 
 
@@ -52,6 +52,8 @@ class Core:
         tag = record[0]
         if tag == INSTALL:
             return self.take_install(record[1])(now)
+        if tag == TELL:
+            return self.take_tell(record[1], now)
         if tag == ASK:
             return self.take_ask(record[1], now)
         if tag in (ACCEPT, REFUSE, YES, NO):
@@ -67,8 +69,7 @@ class Core:
     def take_install(self, pair):
         """What an Install comes to."""
         own = self.table.of_endpoint((pair[0], *pair[2:]))
-        of_sender = pair[1] in self.ranges and pair[1] not in self.table.owned
-        if not of_sender or pair[:2] in self.table.entries:
+        if not self.may_hold(pair):
             return lambda now: self.refuse(pair)
         if own is None:
             return lambda now: self.hold(pair, now)
@@ -76,6 +77,18 @@ class Core:
             own.state = DOOMED
             return lambda now: self.hold(pair, now)
         return lambda now: self.refuse(pair)
+
+    def may_hold(self, pair):
+        """A pair of the sender's ports: its port has no entry, and its endpoint no Held pair."""
+        of_sender = pair[1] in self.ranges and pair[1] not in self.table.owned
+        return of_sender and pair[:2] not in self.table.entries and self.table.held_of((pair[0], *pair[2:])) is None
+
+    def take_tell(self, pair, now):
+        """A pair that the other gateway made alone: it is taken beside any own one, whose packets wait on."""
+        if not self.may_hold(pair):
+            return self.refuse(pair)
+        self.hold(pair, now)
+        return []
 
     def refuse(self, pair):
         self.link.push((REFUSE, pair[:2]))
@@ -133,9 +146,9 @@ class Core:
             is_next = not self.named or first > max(self.named)
             if is_next and all(port in self.ranges for port in range(first, last + 1)):
                 self.named |= set(range(first, last + 1))
-        elif tag == PUT and self.loading:
+        elif tag in (PUT, TELL) and self.loading:
             self.loading = "puts"
-            self.put(record[1], now)
+            self.put(record[1], tag == TELL, now)
         elif tag == DONE and self.loading:
             self.finish()
         return []
@@ -143,9 +156,12 @@ class Core:
     def empty(self):
         self.table, self.loading, self.named = Table(), None, set()
 
-    def put(self, pair, now):
-        is_new = pair[:2] not in self.table.entries and self.table.of_endpoint((pair[0], *pair[2:])) is None
-        if pair[1] in self.ranges and is_new:
+    def put(self, pair, is_second, now):
+        """A pair of the batch. A second one of its endpoint is told, and is on a port of the other owner."""
+        others = [entry for entry in self.table.entries.values() if entry.endpoint == (pair[0], *pair[2:])]
+        is_owned = pair[1] in self.named
+        fits = all(is_second and (entry.key[1] in self.named) != is_owned for entry in others)
+        if pair[1] in self.ranges and pair[:2] not in self.table.entries and fits:
             self.table.add(pair, HELD, False, now)
             self.note("Retaken", pair)
 
@@ -180,8 +196,10 @@ class Core:
         self.link.push((BEGIN,))
         for first, last in self.table.runs():
             self.link.push((OWNER, first, last))
+        seen = set()
         for entry in self.table.ordered():
-            self.link.push((PUT, entry.pair))
+            self.link.push((TELL if entry.endpoint in seen else PUT, entry.pair))
+            seen.add(entry.endpoint)
         self.link.push((DONE,))
         return revived
 

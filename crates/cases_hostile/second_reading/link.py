@@ -4,9 +4,9 @@ records."""
 
 from wire import number, two
 
-INSTALL, ACCEPT, REFUSE, ASK, YES, NO, BEGIN, PUT, DONE, WANT, GRANT, OWNER = range(1, 13)
-WITH_PAIR, WITH_KEY, ALONE = (INSTALL, PUT), (ACCEPT, REFUSE, ASK, YES, NO), (BEGIN, DONE, WANT)
-ANSWERED = (INSTALL, ASK, WANT)
+INSTALL, ACCEPT, REFUSE, ASK, YES, NO, BEGIN, PUT, DONE, WANT, GRANT, OWNER, TELL = range(1, 14)
+WITH_PAIR, WITH_KEY, BARE = (INSTALL, PUT, TELL), (ACCEPT, REFUSE, ASK, YES, NO), (BEGIN, DONE, WANT)
+ANSWERED = (INSTALL, ASK, WANT, TELL)
 LAST_NUMBER = 2**63 - 1
 VERSION = 3
 
@@ -74,7 +74,7 @@ class Reader:
             if first > last:
                 raise Bad
             return tag, first, last
-        if tag in ALONE:
+        if tag in BARE:
             return (tag,)
         raise Bad
 

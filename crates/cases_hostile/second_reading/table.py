@@ -111,10 +111,17 @@ class Table:
         return [self.entries[key] for key in sorted(self.entries)]
 
     def of_endpoint(self, endpoint):
+        """An endpoint's pair: the one on an owned port, else the Held one."""
+        held = None
         for entry in self.entries.values():
             if entry.endpoint == endpoint and entry.state != DOOMED:
-                return entry
-        return None
+                if entry.state != HELD:
+                    return entry
+                held = entry
+        return held
+
+    def held_of(self, endpoint):
+        return next((entry for entry in self.entries.values() if entry.endpoint == endpoint and entry.state == HELD), None)
 
     def add(self, pair, state, by_install, now):
         entry = Entry(pair, state, by_install, now)
