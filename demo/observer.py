@@ -61,6 +61,11 @@ def receive(sock):
     return frame, time.time()
 
 
+def here(moment):
+    """A moment of the clock of the day, by the clock that never goes back."""
+    return moment - time.time() + time.monotonic()
+
+
 def marks_of(frame):
     """A frame's protocol, ends, and what marks its flow on both sides, if anything does: the first
     number of a connection, the text of a question, or that of a ping."""
@@ -93,10 +98,13 @@ class Observer:
 
     def __init__(self, networks, stack, folder=None, all_frames=True):
         self.networks = networks
+        self.stack = stack
         self.advertised = {}
         self.changes = []
         self.inside_ends = {}
         self.outside_ports = {}
+        # By the protocol and the endpoint of a flow: when it sent its SYNs and questions.
+        self.asked = {}
         self.virtual = networks.settings["outside"]["virtual"]
         self.sockets = {}
         self.files = {}
@@ -124,13 +132,24 @@ class Observer:
 
     def join(self, loop):
         for side, sock in self.sockets.items():
-            loop.watch(sock, lambda side=side: self.look(side))
+            self.watch(loop, side, sock)
 
-    def look(self, side):
+    def join_part(self, loop, side, bridge):
+        """Sees what another bridge of a side's switch passes on, too."""
+        with self.networks.switches[side].space.entered():
+            sock = card(bridge)
+        self.stack.callback(sock.close)
+        sock.setsockopt(socket.SOL_SOCKET, SO_TIMESTAMPNS, 1)
+        self.watch(loop, side, sock)
+
+    def watch(self, loop, side, sock):
+        loop.watch(sock, lambda: self.look(side, sock))
+
+    def look(self, side, sock):
         """Takes the frames that are there."""
         try:
             for _ in range(64):
-                frame, moment = receive(self.sockets[side])
+                frame, moment = receive(sock)
                 if side in self.files:
                     self.files[side].add(moment, frame)
                 if side != "link":
@@ -149,6 +168,7 @@ class Observer:
         protocol, source, target, mark = found
         if side == "inside" and target == SERVER:
             self.inside_ends.setdefault((protocol, mark), set()).add(source)
+            self.asked.setdefault((protocol, source), []).append(here(moment))
         if side == "outside" and source[0] == self.virtual:
             self.outside_ports.setdefault((protocol, mark), set()).add(source[1])
 
@@ -158,7 +178,7 @@ class Observer:
         if number is None:
             # Of another pair on the same networks.
             return
-        now = moment - time.time() + time.monotonic()
+        now = here(moment)
         if self.advertised.get(side, (None, 0))[0] != number:
             self.changes.append((now, side, number))
         self.advertised[side] = (number, now)
