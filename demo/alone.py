@@ -101,13 +101,12 @@ class Night:
         return int(flow.address in FAR or flow.address == MOVER and moment >= self.moved)
 
     def lasts(self, seconds, *makers):
-        """The last trouble goes on for so long after its beginning. Gives when it is over."""
+        """The last trouble goes on for so long after its beginning, and these boxes make pairs alone."""
         self.go_on(self.newcomers.troubles[-1].begun + seconds - time.monotonic())
         for number in makers:
             self.made.append(self.status(number)["apart"]["made"])
             self.current.say(f"box {number} made {self.made[-1]} pairs alone")
         self.newcomers.over = time.monotonic()
-        return self.newcomers.over
 
     def meets(self, number, is_turn=False):
         """The boxes meet, and tell each other what they made alone. Then box `number` is killed."""
@@ -164,6 +163,7 @@ class Night:
         owed, loose = self.ask()
         old = sum(flow not in self.newcomers.opened for flow in owed)
         held, moved, silent = verdict(owed)
+        silent += sum(not flow.answered and not self.may_be_lost(flow) for flow in self.newcomers.opened)
         moved += sum(len(set(flow.ports)) > 1 for flow in self.traffic.steady)
         spared = {end_of(flow) for flow in loose}
         endpoints, twice, shared = audit(self.current.observer, spared)
@@ -262,7 +262,7 @@ def cut(night):
     current.say(f"{MOVER} goes over to box 1, with {len(flows)} flows")
     night.lasts(1.5 * TROUBLE, 0, 1)
     night.may_be_lost = lambda flow: (
-        flow.address == MOVER and newcomers.answered[flow] < night.moved or night.is_at_meeting(flow))
+        flow.address == MOVER and newcomers.opened[flow] < night.moved or night.is_at_meeting(flow))
     night.halves.mend()
     return night.row("all is cut between the boxes", night.meets(0, True))
 
