@@ -165,7 +165,7 @@ class Night:
         held, moved, silent = verdict(owed)
         silent += sum(not flow.answered and not self.may_be_lost(flow) for flow in self.newcomers.opened)
         moved += sum(len(set(flow.ports)) > 1 for flow in self.traffic.steady)
-        spared = {end_of(flow) for flow in loose}
+        spared = {end_of(flow) for flow in self.newcomers.opened if self.may_be_lost(flow)}
         endpoints, twice, shared = audit(self.current.observer, spared)
         seen = self.current.observer.ports()[0]
         parted = sum(len(seen.get(end, ())) > 1 for end in spared)

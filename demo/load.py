@@ -15,7 +15,6 @@ import os
 import select
 import signal
 import socket
-import struct
 import sys
 import time
 
@@ -23,8 +22,9 @@ from cards import ROOM, SO_RCVBUFFORCE
 from pair import HOSTS
 
 FLOWS, FIRST_PORT = 50, 30_000
-# A question: which call of this program it is of, and its number, which is 0 until the time begins.
-QUESTION = struct.Struct("!IQ")
+# A question: which call of this program it is of, which flow asks it, and its number, which is 0 until the time begins.
+# Whoever sees it on both sides of the pair knows it again.
+QUESTION = "load %d %d %d"
 # An answer that comes later than that after the last question is lost.
 LATE = 1.0
 # Until each flow has its pair at most so many seconds pass.
@@ -69,11 +69,11 @@ class Load:
     def send(self, sock, number):
         """A question that the kernel doesn't send, since nobody answers for the router's address, has no answer."""
         with contextlib.suppress(OSError):
-            sock.send(QUESTION.pack(self.call, number))
+            sock.send((QUESTION % (self.call, sock.fileno(), number)).encode())
 
     def note(self, sock, text):
         """An answer to an earlier call counts for nothing."""
-        call, number = QUESTION.unpack(text)
+        call, _, number = map(int, text.split()[1:])
         if call == self.call and number:
             self.seen.add(number)
         elif call == self.call:
