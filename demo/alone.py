@@ -169,13 +169,14 @@ class Night:
         endpoints, twice, shared = audit(self.current.observer, spared)
         seen = self.current.observer.ports()[0]
         parted = sum(len(seen.get(end, ())) > 1 for end in spared)
+        unseen = self.current.observer.unseen()
         wrong = sum(not self.is_spared(*each) for each in self.lost)
         new, is_in_time = new_cells(self.newcomers.waits(self.half))
         is_good = is_in_time and all(self.made) and (told is None or told < TOLD)
         return Row(name, (*new, " + ".join(map(str, self.made)), "-" if told is None else f"{told:.2f} s"),
                    (old, len(owed) - old, held, moved, silent, len(loose), *verdict(loose)[1:]),
-                   (endpoints, twice, parted, shared), (*self.packets, wrong),
-                   is_good and moved + silent + twice + shared + wrong == 0)
+                   (endpoints, twice, parted, shared, unseen), (*self.packets, wrong),
+                   is_good and moved + silent + twice + shared + unseen + wrong == 0)
 
 
 def new_cells(waits):
@@ -315,7 +316,8 @@ def alone(options):
                    "made alone", "told within"], [(row.name, *row.new) for row in rows])
     show("flows", ["answered", "before", "since", "held", "moved", "silent", "may be lost", "moved", "silent", "as said"],
          [(row.name, *row.flows, "yes" if row.is_good else "no") for row in rows])
-    show("ports", ["seen on the wires", "endpoints", "with two ports", "two, and may", "ports with two endpoints"],
+    show("ports", ["seen on the wires", "endpoints", "with two ports", "two, and may", "ports with two endpoints",
+                    "frames unseen"],
          [(row.name, *row.wires) for row in rows])
     show("packets", ["of old flows", "asked", "lost", "by the load", "lost", "at other times"],
          [(row.name, *row.packets) for row in rows])

@@ -5,12 +5,15 @@ import socket
 import struct
 import time
 
-from cards import card
+from cards import SO_RCVBUFFORCE, SOL_PACKET, card
 from packets import ECHO, ICMP, TCP, UDP
 from pair import SERVER, SIDES
 
 SO_ATTACH_FILTER = 26
 SO_TIMESTAMPNS = 35
+PACKET_STATISTICS = 6
+# So many bytes of frames may wait to be seen.
+BEHIND = 64 << 20
 ADVERTISEMENT = 112
 NAMES = {ICMP: "icmp", TCP: "tcp", UDP: "udp"}
 # Of a box that says nothing for so long it isn't known that it is Active.
@@ -107,6 +110,7 @@ class Observer:
         self.asked = {}
         self.virtual = networks.settings["outside"]["virtual"]
         self.sockets = {}
+        self.watched = []
         self.files = {}
         for side, switch in networks.switches.items():
             with switch.space.entered():
@@ -143,10 +147,12 @@ class Observer:
         self.watch(loop, side, sock)
 
     def watch(self, loop, side, sock):
+        sock.setsockopt(socket.SOL_SOCKET, SO_RCVBUFFORCE, BEHIND)
+        self.watched.append((side, sock))
         loop.watch(sock, lambda: self.look(side, sock))
 
     def look(self, side, sock):
-        """Takes the frames that are there."""
+        """Takes frames that are there. Gives whether there may be more."""
         try:
             for _ in range(64):
                 frame, moment = receive(sock)
@@ -156,7 +162,18 @@ class Observer:
                     self.see(side, frame, moment)
         except OSError:
             # Nothing is there, or the cable was cut.
-            pass
+            return False
+        return True
+
+    def catch_up(self):
+        """Takes all frames that are there."""
+        for side, sock in self.watched:
+            while self.look(side, sock):
+                pass
+
+    def unseen(self):
+        """How many frames it has not seen since it was asked last, or at all, since they were too many at a time."""
+        return sum(struct.unpack("II", sock.getsockopt(SOL_PACKET, PACKET_STATISTICS, 8))[1] for _, sock in self.watched)
 
     def see(self, side, frame, moment):
         if frame[12:14] == b"\x08\x00" and len(frame) > 33 and frame[23] == ADVERTISEMENT:
