@@ -57,15 +57,21 @@ class Flow:
         self.asked = 0.0
         self.ports = []
         self.addresses = set()
+        self.end = None
         self.broken = ""
         self.connected = False
+
+    @property
+    def address(self):
+        return self.hosts[self.number % len(self.hosts)]
 
     def open(self, space):
         kind = socket.SOCK_DGRAM if self.protocol == "udp" else socket.SOCK_STREAM
         with space.entered():
             self.sock = socket.socket(socket.AF_INET, kind)
         self.sock.setblocking(False)
-        self.sock.bind((self.hosts[self.number % len(self.hosts)], 0))
+        self.sock.bind((self.address, 0))
+        self.end = self.sock.getsockname()
         self.sock.connect_ex((SERVER, PORT))
         if self.protocol == "udp":
             self.connected = True

@@ -6,6 +6,7 @@ import time
 from typing import NamedTuple
 
 from flows import PATIENCE, Flow, Flows, verdict
+from pair import HOSTS
 from scene import audit, scene, show
 
 # Flows of datagrams that ask each 20 ms, whatever is answered, beside those that ask once a turn.
@@ -63,9 +64,9 @@ class Row(NamedTuple):
 class Traffic:
     """All flows of the scene."""
 
-    def __init__(self, current, count):
+    def __init__(self, current, count, hosts=HOSTS):
         self.current = current
-        self.flows = Flows(current.loop, current.networks.host, current.stack)
+        self.flows = Flows(current.loop, current.networks.host, current.stack, hosts)
         self.flows.open(count, WINDOW, 60)
         self.steady = [Steady(current, number) for number in range(STEADY)]
 

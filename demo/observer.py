@@ -5,12 +5,15 @@ import socket
 import struct
 import time
 
-from cards import card
+from cards import SO_RCVBUFFORCE, SOL_PACKET, card
 from packets import ECHO, ICMP, TCP, UDP
 from pair import SERVER, SIDES
 
 SO_ATTACH_FILTER = 26
 SO_TIMESTAMPNS = 35
+PACKET_STATISTICS = 6
+# So many bytes of frames may wait to be seen.
+BEHIND = 64 << 20
 ADVERTISEMENT = 112
 NAMES = {ICMP: "icmp", TCP: "tcp", UDP: "udp"}
 # Of a box that says nothing for so long it isn't known that it is Active.
@@ -61,6 +64,11 @@ def receive(sock):
     return frame, time.time()
 
 
+def here(moment):
+    """A moment of the clock of the day, by the clock that never goes back."""
+    return moment - time.time() + time.monotonic()
+
+
 def marks_of(frame):
     """A frame's protocol, ends, and what marks its flow on both sides, if anything does: the first
     number of a connection, the text of a question, or that of a ping."""
@@ -93,12 +101,16 @@ class Observer:
 
     def __init__(self, networks, stack, folder=None, all_frames=True):
         self.networks = networks
+        self.stack = stack
         self.advertised = {}
         self.changes = []
         self.inside_ends = {}
         self.outside_ports = {}
+        # By the protocol and the endpoint of a flow: when it sent its SYNs and questions.
+        self.asked = {}
         self.virtual = networks.settings["outside"]["virtual"]
         self.sockets = {}
+        self.watched = []
         self.files = {}
         for side, switch in networks.switches.items():
             with switch.space.entered():
@@ -124,20 +136,44 @@ class Observer:
 
     def join(self, loop):
         for side, sock in self.sockets.items():
-            loop.watch(sock, lambda side=side: self.look(side))
+            self.watch(loop, side, sock)
 
-    def look(self, side):
-        """Takes the frames that are there."""
+    def join_part(self, loop, side, bridge):
+        """Sees what another bridge of a side's switch passes on, too."""
+        with self.networks.switches[side].space.entered():
+            sock = card(bridge)
+        self.stack.callback(sock.close)
+        sock.setsockopt(socket.SOL_SOCKET, SO_TIMESTAMPNS, 1)
+        self.watch(loop, side, sock)
+
+    def watch(self, loop, side, sock):
+        sock.setsockopt(socket.SOL_SOCKET, SO_RCVBUFFORCE, BEHIND)
+        self.watched.append((side, sock))
+        loop.watch(sock, lambda: self.look(side, sock))
+
+    def look(self, side, sock):
+        """Takes frames that are there. Gives whether there may be more."""
         try:
             for _ in range(64):
-                frame, moment = receive(self.sockets[side])
+                frame, moment = receive(sock)
                 if side in self.files:
                     self.files[side].add(moment, frame)
                 if side != "link":
                     self.see(side, frame, moment)
         except OSError:
             # Nothing is there, or the cable was cut.
-            pass
+            return False
+        return True
+
+    def catch_up(self):
+        """Takes all frames that are there."""
+        for side, sock in self.watched:
+            while self.look(side, sock):
+                pass
+
+    def unseen(self):
+        """How many frames it has not seen since it was asked last, or at all, since they were too many at a time."""
+        return sum(struct.unpack("II", sock.getsockopt(SOL_PACKET, PACKET_STATISTICS, 8))[1] for _, sock in self.watched)
 
     def see(self, side, frame, moment):
         if frame[12:14] == b"\x08\x00" and len(frame) > 33 and frame[23] == ADVERTISEMENT:
@@ -149,6 +185,7 @@ class Observer:
         protocol, source, target, mark = found
         if side == "inside" and target == SERVER:
             self.inside_ends.setdefault((protocol, mark), set()).add(source)
+            self.asked.setdefault((protocol, source), []).append(here(moment))
         if side == "outside" and source[0] == self.virtual:
             self.outside_ports.setdefault((protocol, mark), set()).add(source[1])
 
@@ -158,7 +195,7 @@ class Observer:
         if number is None:
             # Of another pair on the same networks.
             return
-        now = moment - time.time() + time.monotonic()
+        now = here(moment)
         if self.advertised.get(side, (None, 0))[0] != number:
             self.changes.append((now, side, number))
         self.advertised[side] = (number, now)

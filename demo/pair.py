@@ -238,14 +238,19 @@ class Switch:
 
     def __init__(self, name):
         self.space = Namespace(f"{name} switch")
-        self.space.ip("link", "add", "name", "bridge", "type", "bridge", "forward_delay", "0",
-                      "mcast_snooping", "0")
-        self.space.ip("link", "set", "dev", "bridge", "arp", "off", "up")
+        self.add_bridge("bridge")
+
+    def add_bridge(self, name):
+        self.space.ip("link", "add", "name", name, "type", "bridge", "forward_delay", "0", "mcast_snooping", "0")
+        self.space.ip("link", "set", "dev", name, "arp", "off", "up")
 
     def plug(self, port, other, other_name):
         self.space.cable(port, other, other_name)
         self.space.ip("link", "set", "dev", port, "master", "bridge", "arp", "off")
 
+    def move(self, port, bridge):
+        """Takes a port out of its bridge, and plugs it into another one. Its cable stays in."""
+        self.space.ip("link", "set", "dev", port, "master", bridge)
 
     def tunnel(self, port, box, side):
         """A tunnel to a box, over a cable of its own; its far end is a port of the switch."""

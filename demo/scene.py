@@ -122,11 +122,12 @@ def show(title, heads, rows, left=False):
     print(flush=True)
 
 
-def audit(observer):
-    """What was seen on the wires: how many endpoints, how many of them with two outside ports, and
-    how many outside ports with two endpoints."""
+def audit(observer, spared=()):
+    """What was seen on the wires: how many endpoints, how many of them with two outside ports, but for
+    those that may have two, and how many outside ports with two endpoints."""
+    observer.catch_up()
     ports, endpoints = observer.ports()
-    moved = {end: found for end, found in ports.items() if len(found) > 1}
+    moved = {end: found for end, found in ports.items() if len(found) > 1 and end not in spared}
     shared = {port: found for port, found in endpoints.items() if len(found) > 1}
     for (protocol, end), found in list(moved.items())[:TOLD]:
         print(f"moved: {NAMES[protocol]} {end[0]} {end[1]} was seen at ports {sorted(found)}")
