@@ -225,8 +225,9 @@ def active(night):
 
 def link(night):
     """The link is cut and mended."""
-    night.newcomers.begins(time.monotonic(), GOES_ALONE)
+    begun = time.monotonic()
     night.current.networks.cut_link()
+    night.newcomers.begins(begun, GOES_ALONE)
     night.current.say("the link is cut")
     night.lasts(TROUBLE, 0)
     night.current.networks.mend_link()
@@ -236,8 +237,9 @@ def link(night):
 def paused(night):
     """Box 1, the Backup, stands still, and goes on: it may be Active until it hears box 0."""
     box = night.current.boxes[1]
-    night.newcomers.begins(time.monotonic(), GOES_ALONE)
+    begun = time.monotonic()
     box.halt()
+    night.newcomers.begins(begun, GOES_ALONE)
     night.current.say("box 1 stands still")
     night.lasts(TROUBLE, 0)
     night.may_be_lost = night.is_at_meeting
@@ -248,8 +250,9 @@ def paused(night):
 def cut(night):
     """Both networks and the link are cut, and mended. A host goes from box 0's half to box 1's meanwhile."""
     current, newcomers = night.current, night.newcomers
-    newcomers.begins(time.monotonic(), GOES_ALONE, night.takes_over)
+    begun = time.monotonic()
     night.halves.cut()
+    newcomers.begins(begun, GOES_ALONE, night.takes_over)
     current.say("both networks and the link are cut, half of the hosts are at each box")
     night.wait(SETTLED, are_alone, "both boxes are Active and alone")
     current.say("both boxes are Active, and without an answer of each other")
@@ -271,8 +274,9 @@ def cut(night):
 def untold(night):
     """The link is cut, and box 0, the Active one, dies before the two meet."""
     newcomers = night.newcomers
-    newcomers.begins(time.monotonic(), GOES_ALONE)
+    begun = time.monotonic()
     night.current.networks.cut_link()
+    newcomers.begins(begun, GOES_ALONE)
     night.current.say("the link is cut")
     night.lasts(TROUBLE / 2, 0)
     killed = night.current.kill(0)

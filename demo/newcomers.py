@@ -19,6 +19,10 @@ class Owed(NamedTuple):
     kept: int
     silent: float
 
+    def later(self, seconds):
+        """What is owed where the trouble took so long to begin."""
+        return Owed(self.ready + seconds, self.kept, self.silent and self.silent + seconds)
+
 
 class Trouble(NamedTuple):
     """When a trouble began, and what is owed in box 0's half of the hosts and in box 1's."""
@@ -53,8 +57,9 @@ class Newcomers:
         self.last = 0.0
 
     def begins(self, moment, near, far=None):
-        """A trouble begins: what is owed in box 0's half from then on, and in box 1's where that is another."""
-        self.troubles.append(Trouble(moment, (near, far or near)))
+        """A trouble began at a moment, and has begun now: what is owed in box 0's half, and in box 1's if it is another."""
+        took = time.monotonic() - moment
+        self.troubles.append(Trouble(moment, tuple(owed.later(took) for owed in (near, far or near))))
 
     def turn(self):
         now = time.monotonic()
