@@ -1733,7 +1733,7 @@ fn main() {
         "kind" => report_kind(words, false),
         "synced" => report_kind(words, true),
         "new" => report_new(number(words, 0)),
-        "lone" | "apart" => report_lone(number(words, 0)),
+        "lone" | "begun" => report_lone(number(words, 0)),
         "pair" => report_pair(number(words, 0), number(words, 1)),
         "idle" => report_ticks(number(words, 0), number(words, 1), 1),
         "still" => report_ticks(number(words, 0), number(words, 1), 0),

@@ -82,15 +82,16 @@ impl<G: Gate> Both<G> {
         sent
     }
 
-    /// Gives the first gateway, which is apart, a packet of a new flow, and returns whether the packet was sent on.
+    /// Gives the first gateway, which needs no consent, a packet of a new flow, and returns whether the packet was sent
+    /// on.
     fn begins(&mut self, frame: &[u8; LONGEST], case: &mut Case) -> bool {
         self.zero.hand(Side::Inside, frame, OPENING, case);
         self.zero.sends()
     }
 
     /// Opens `count` new flows, of UDP as long as there are ports of it, then of TCP, and returns how many packets were
-    /// sent on.
-    fn open_all(&mut self, is_apart: bool, count: u32, case: &mut Case) -> u32 {
+    /// sent on. `is_free` says that the first gateway needs no consent.
+    fn open_all(&mut self, is_free: bool, count: u32, case: &mut Case) -> u32 {
         let mut sent = 0u32;
         for number in 0..count {
             let (side, size) = (Side::Inside, OPENING);
@@ -105,7 +106,7 @@ impl<G: Gate> Both<G> {
                 size,
             });
             set_pair(&mut frame, side, number);
-            let is_sent = if is_apart {
+            let is_sent = if is_free {
                 self.begins(&frame, case)
             } else {
                 self.opens(&frame, case)
@@ -118,22 +119,32 @@ impl<G: Gate> Both<G> {
     }
 }
 
-/// Prints the cost of a new flow at a pair of gateways, or at the first one where it is apart, over as many flows as the
-/// next word says.
-pub(crate) fn report_new<G: Gate>(
-    rt: &HostRuntime,
-    settings: &Settings,
-    is_apart: bool,
-    case: &mut Case,
-) {
+/// Prints the cost of a new flow at a pair of gateways, over as many flows as the next word says.
+pub(crate) fn report_new<G: Gate>(rt: &HostRuntime, settings: &Settings, case: &mut Case) {
     let count = case.times();
     if let Some(mut both) = Both::<G>::synced(settings, Protocol::Udp, 0, case) {
-        if is_apart {
-            let later = both.moment.saturating_add(ACTIVE).saturating_add(200);
-            both.zero.tick(later, case);
-        }
         let start = now(rt, case);
-        let sent = both.open_all(is_apart, count, case);
+        let sent = both.open_all(false, count, case);
+        both.end();
+        let spent = since(rt, start, case);
+        tell_sent(spent, count, sent, case);
+    }
+}
+
+/// Prints the cost of a new flow at a gateway that needs no consent, over as many flows as the next word says: at one
+/// that is apart where the gateways make pairs alone, else at a lone one.
+pub(crate) fn report_begun<G: Gate>(rt: &HostRuntime, settings: &Settings, case: &mut Case) {
+    let count = case.times();
+    let made = if settings.alone > 0 {
+        Both::<G>::synced(settings, Protocol::Udp, 0, case)
+    } else {
+        Both::<G>::ready(settings, Protocol::Udp, 0, case)
+    };
+    if let Some(mut both) = made {
+        let later = both.moment.saturating_add(ACTIVE).saturating_add(200);
+        both.zero.tick(later, case);
+        let start = now(rt, case);
+        let sent = both.open_all(true, count, case);
         both.end();
         let spent = since(rt, start, case);
         tell_sent(spent, count, sent, case);

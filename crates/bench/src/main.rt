@@ -4,8 +4,8 @@
 //!
 //! - `kind SIDE PROTOCOL SIZE COUNT PAIRS`: packets of one kind, from the frame that came in to the frame that is sent;
 //!   `synced ..`: such packets at a gateway whose pairs another one has loaded
-//! - `new COUNT`: new flows at two gateways; `lone COUNT`: new flows at one that is lone; `alone apart COUNT`: new flows
-//!   at one that is apart
+//! - `new COUNT`: new flows at two gateways; `lone COUNT`: new flows at one that is lone; `begun COUNT`: such flows
+//!   beside one that starts, and `alone begun COUNT`: at one that is apart
 //! - `pair COUNT PAIRS`: ticks of two gateways, each with the datagram that is due, which the other takes
 //! - `idle COUNT PAIRS`: ticks of a gateway for which nothing is due; `still COUNT PAIRS`: such ticks while its clock
 //!   doesn't move
@@ -37,7 +37,9 @@ mod stations;
 use anyhow::{Result, bail};
 use cases_words::Case;
 use churn::report_churn;
-use flows::{report_kind, report_lone, report_new, report_pair, report_synced, report_ticks};
+use flows::{
+    report_begun, report_kind, report_lone, report_new, report_pair, report_synced, report_ticks,
+};
 use gateway::Gateway;
 use many::report_many;
 use nat_types::GatewayId;
@@ -58,8 +60,8 @@ fn report(rt: &HostRuntime, settings: &mut Settings, case: &mut Case) {
     match case.word() {
         "kind" => report_kind::<Gateway>(rt, settings, case),
         "synced" => report_synced::<Gateway>(rt, settings, case),
-        "new" => report_new::<Gateway>(rt, settings, false, case),
-        "apart" => report_new::<Gateway>(rt, settings, true, case),
+        "new" => report_new::<Gateway>(rt, settings, case),
+        "begun" => report_begun::<Gateway>(rt, settings, case),
         "lone" => report_lone::<Gateway>(rt, settings, case),
         "pair" => report_pair::<Gateway>(rt, settings, case),
         "idle" => report_ticks::<Gateway>(rt, settings, 1, case),
