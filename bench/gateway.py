@@ -37,8 +37,12 @@ WAYS = {"inside": "outward", "outside": "inward"}
 STEPS = {
     "udp, 44 bytes, outward, 1,000 pairs, at one of two boxes": ("synced inside udp 44 {} 1000", 1000, 5000, 100_000),
     "udp, 44 bytes, inward, 1,000 pairs, at one of two boxes": ("synced outside udp 44 {} 1000", 1000, 5000, 100_000),
+    "the same, outward, with alone = 100": ("alone synced inside udp 44 {} 1000", 1000, 5000, 100_000),
+    "the same, inward, with alone = 100": ("alone synced outside udp 44 {} 1000", 1000, 5000, 100_000),
     "a new flow, both boxes together": ("new {}", 2000, 6000, 30_000),
     "a new flow of a lone box": ("lone {}", 2000, 6000, 30_000),
+    "the same, its other box starts": ("begun {}", 2000, 6000, 30_000),
+    "a new flow of a box that is apart": ("alone begun {}", 2000, 6000, 30_000),
     "a tick of both boxes, each with its datagram, 1,000 pairs": ("pair {} 1000", 1000, 5000, 5000),
     "the same, 20,000 pairs": ("pair {} 20000", 1000, 5000, 5000),
     "a tick, the clock goes on, no pairs": ("idle {} 0", 1000, 5000, 20_000),

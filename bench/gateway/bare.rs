@@ -1723,7 +1723,8 @@ fn number(words: &[String], at: usize) -> u32 {
 }
 
 fn main() {
-    let words: Vec<String> = std::env::args().skip(1).collect();
+    // Here no box needs another one's answer, so that `alone` changes nothing.
+    let words: Vec<String> = std::env::args().skip(1).filter(|word| word != "alone").collect();
     let Some((command, words)) = words.split_first() else {
         return;
     };
@@ -1732,7 +1733,7 @@ fn main() {
         "kind" => report_kind(words, false),
         "synced" => report_kind(words, true),
         "new" => report_new(number(words, 0)),
-        "lone" => report_lone(number(words, 0)),
+        "lone" | "begun" => report_lone(number(words, 0)),
         "pair" => report_pair(number(words, 0), number(words, 1)),
         "idle" => report_ticks(number(words, 0), number(words, 1), 1),
         "still" => report_ticks(number(words, 0), number(words, 1), 0),

@@ -69,20 +69,6 @@ pub(crate) fn report_synced<G: Gate>(rt: &HostRuntime, settings: &Settings, case
     }
 }
 
-/// Returns the kind of a new flow's packet: UDP as long as there are ports of it, then TCP.
-fn kind_of(number: u32) -> Kind {
-    let protocol = if number < PORTS {
-        Protocol::Udp
-    } else {
-        Protocol::Tcp
-    };
-    Kind {
-        side: Side::Inside,
-        protocol,
-        size: OPENING,
-    }
-}
-
 impl<G: Gate> Both<G> {
     /// Gives the first gateway a packet of a new flow, whose pair is proposed and accepted, and returns whether the
     /// packet was sent on.
@@ -96,24 +82,40 @@ impl<G: Gate> Both<G> {
         sent
     }
 
-    /// Opens `count` new flows, and returns how many packets were sent on.
-    fn open_all(&mut self, count: u32, case: &mut Case) -> u32 {
+    /// Gives the first gateway, which needs no consent, a packet of a new flow, and returns whether the packet was sent
+    /// on.
+    fn begins(&mut self, frame: &[u8; LONGEST], case: &mut Case) -> bool {
+        self.zero.hand(Side::Inside, frame, OPENING, case);
+        self.zero.sends()
+    }
+
+    /// Opens `count` new flows, of UDP as long as there are ports of it, then of TCP, and returns how many packets were
+    /// sent on. `is_free` says that the first gateway needs no consent.
+    fn open_all(&mut self, is_free: bool, count: u32, case: &mut Case) -> u32 {
         let mut sent = 0u32;
         for number in 0..count {
-            let mut frame = frame_of(kind_of(number));
-            set_pair(&mut frame, Side::Inside, number);
-            if self.opens(&frame, case) {
+            let (side, size) = (Side::Inside, OPENING);
+            let protocol = if number < PORTS {
+                Protocol::Udp
+            } else {
+                Protocol::Tcp
+            };
+            let mut frame = frame_of(Kind {
+                side,
+                protocol,
+                size,
+            });
+            set_pair(&mut frame, side, number);
+            let is_sent = if is_free {
+                self.begins(&frame, case)
+            } else {
+                self.opens(&frame, case)
+            };
+            if is_sent {
                 sent = sent.saturating_add(1);
             }
         }
         sent
-    }
-
-    /// Runs `count` rounds: a tick of each gateway, at which a datagram is due that the other takes.
-    fn tick_often(&mut self, count: u32, case: &mut Case) {
-        for _ in 0..count {
-            self.tick(INTERVAL, case);
-        }
     }
 }
 
@@ -122,14 +124,34 @@ pub(crate) fn report_new<G: Gate>(rt: &HostRuntime, settings: &Settings, case: &
     let count = case.times();
     if let Some(mut both) = Both::<G>::synced(settings, Protocol::Udp, 0, case) {
         let start = now(rt, case);
-        let sent = both.open_all(count, case);
+        let sent = both.open_all(false, count, case);
         both.end();
         let spent = since(rt, start, case);
         tell_sent(spent, count, sent, case);
     }
 }
 
-/// Prints the cost of a new flow at a gateway that is alone, over as many flows as the next word says.
+/// Prints the cost of a new flow at a gateway that needs no consent, over as many flows as the next word says: at one
+/// that is apart where the gateways make pairs alone, else at a lone one.
+pub(crate) fn report_begun<G: Gate>(rt: &HostRuntime, settings: &Settings, case: &mut Case) {
+    let count = case.times();
+    let made = if settings.alone > 0 {
+        Both::<G>::synced(settings, Protocol::Udp, 0, case)
+    } else {
+        Both::<G>::ready(settings, Protocol::Udp, 0, case)
+    };
+    if let Some(mut both) = made {
+        let later = both.moment.saturating_add(ACTIVE).saturating_add(200);
+        both.zero.tick(later, case);
+        let start = now(rt, case);
+        let sent = both.open_all(true, count, case);
+        both.end();
+        let spent = since(rt, start, case);
+        tell_sent(spent, count, sent, case);
+    }
+}
+
+/// Prints the cost of a new flow at a lone gateway, over as many flows as the next word says.
 pub(crate) fn report_lone<G: Gate>(rt: &HostRuntime, settings: &Settings, case: &mut Case) {
     let count = case.times();
     let start = now(rt, case);
@@ -145,20 +167,13 @@ pub(crate) fn report_pair<G: Gate>(rt: &HostRuntime, settings: &Settings, case: 
     let (count, pairs) = (case.times(), case.times());
     if let Some(mut both) = Both::<G>::synced(settings, Protocol::Tcp, pairs, case) {
         let start = now(rt, case);
-        both.tick_often(count, case);
-        let held = both.one.entry_count();
+        for _ in 0..count {
+            both.tick(INTERVAL, case);
+        }
+        let held = both.one.gateway.entry_count();
         both.end();
         let spent = since(rt, start, case);
         tell_held(spent, count, held, case);
-    }
-}
-
-/// Ticks a gateway `count` times, where the clock moves on by `by` centiseconds each time.
-fn tick_alone<G: Gate>(station: &mut Station<G>, count: u32, by: u64, case: &mut Case) {
-    let mut moment = ACTIVE;
-    for _ in 0..count {
-        moment = moment.saturating_add(by);
-        station.tick(moment, case);
     }
 }
 
@@ -173,8 +188,12 @@ pub(crate) fn report_ticks<G: Gate>(
     let (count, pairs) = (case.times(), case.times());
     if let Some(mut station) = Station::<G>::ready(settings, Protocol::Tcp, pairs, case) {
         let start = now(rt, case);
-        tick_alone(&mut station, count, by, case);
-        let held = station.entry_count();
+        let mut moment = ACTIVE;
+        for _ in 0..count {
+            moment = moment.saturating_add(by);
+            station.tick(moment, case);
+        }
+        let held = station.gateway.entry_count();
         station.end();
         let spent = since(rt, start, case);
         tell_held(spent, count, held, case);

@@ -4,7 +4,8 @@
 //!
 //! - `kind SIDE PROTOCOL SIZE COUNT PAIRS`: packets of one kind, from the frame that came in to the frame that is sent;
 //!   `synced ..`: such packets at a gateway whose pairs another one has loaded
-//! - `new COUNT`: new flows at two gateways; `lone COUNT`: new flows at one that is alone
+//! - `new COUNT`: new flows at two gateways; `lone COUNT`: new flows at one that is lone; `begun COUNT`: such flows
+//!   beside one that starts, and `alone begun COUNT`: at one that is apart
 //! - `pair COUNT PAIRS`: ticks of two gateways, each with the datagram that is due, which the other takes
 //! - `idle COUNT PAIRS`: ticks of a gateway for which nothing is due; `still COUNT PAIRS`: such ticks while its clock
 //!   doesn't move
@@ -17,7 +18,7 @@
 //! - `arp COUNT`: a renewal, a stranger and a look-up in a full cache; `link COUNT`: datagrams of the link, a push, and
 //!   draining a whole batch; `wire COUNT`: parsing a packet and sending it on outward
 //!
-//! Without words the program does nothing.
+//! `alone` before a command has the gateways make pairs alone. Without words the program does nothing.
 #![tactic(auto)]
 
 mod boxes;
@@ -36,9 +37,12 @@ mod stations;
 use anyhow::{Result, bail};
 use cases_words::Case;
 use churn::report_churn;
-use flows::{report_kind, report_lone, report_new, report_pair, report_synced, report_ticks};
+use flows::{
+    report_begun, report_kind, report_lone, report_new, report_pair, report_synced, report_ticks,
+};
 use gateway::Gateway;
 use many::report_many;
+use nat_types::GatewayId;
 use ports::report_ports;
 use settings::Settings;
 use stations::Station;
@@ -46,17 +50,18 @@ use std::env;
 
 /// Starts a gateway, and ends it.
 fn start(settings: &Settings, case: &mut Case) {
-    if let Some(station) = Station::<Gateway>::founded(settings, case) {
+    if let Some(station) = Station::<Gateway>::begun(settings, GatewayId::Zero, case) {
         station.end();
     }
 }
 
 /// Prints what a command measures.
-fn report(rt: &HostRuntime, settings: &Settings, case: &mut Case) {
+fn report(rt: &HostRuntime, settings: &mut Settings, case: &mut Case) {
     match case.word() {
         "kind" => report_kind::<Gateway>(rt, settings, case),
         "synced" => report_synced::<Gateway>(rt, settings, case),
         "new" => report_new::<Gateway>(rt, settings, case),
+        "begun" => report_begun::<Gateway>(rt, settings, case),
         "lone" => report_lone::<Gateway>(rt, settings, case),
         "pair" => report_pair::<Gateway>(rt, settings, case),
         "idle" => report_ticks::<Gateway>(rt, settings, 1, case),
@@ -90,10 +95,14 @@ fn main(rt: HostRuntime) -> Result<()> {
     if line.is_empty() {
         return Ok(());
     }
-    let settings = Settings::sample(rt.alloc())?;
+    let mut settings = Settings::sample(rt.alloc())?;
     let mut case = Case::new(rt.alloc());
     case.begin(line.as_str());
-    report(&rt, &settings, &mut case);
+    if line.starts_with("alone ") {
+        settings.alone = 100;
+        case.word();
+    }
+    report(&rt, &mut settings, &mut case);
     drop(settings);
     case.flush(&rt);
     if case.is_wrong() {
