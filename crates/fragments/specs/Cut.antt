@@ -3,7 +3,6 @@ use Rattle.std.specs.Prelude.{◌≡◌, ◌≤◌, ℕ, ◌+◌, ◌-◌, ◌*�
 use Rattle.std.specs.List.{range_with_len}
 use Rattle.frames.specs.Frame.{IsFrame}
 use Rattle.ipv4.specs.Header.{IsIpv4, header_of, options_of, payload_of}
-use Rattle.ipv4.specs.declared.header.TheConstants.{MORE_FRAGMENTS}
 use Rattle.fragments.specs.Fragment.{ipv4_in}
 use Rattle.fragments.specs.Header.{header_with}
 use Rattle.fragments.specs.Options.{later_options}
@@ -20,11 +19,11 @@ pub record IsMtu (mtu : ℕ) : Type 0 where
   pub most : mtu ≤ 1500
 
 -- the bytes of payload in each fragment but the last: the greatest multiple of 8 for which there is room behind the header
-abbrev pub step_of : ℕ → List ℕ → ℕ
+unfoldable pub step_of : ℕ → List ℕ → ℕ
 step_of mtu packet = (mtu - (header_of packet).header_length) / 8 * 8
 
 -- how many fragments a packet is cut into: one where it fits
-abbrev pub piece_count : ℕ → List ℕ → ℕ
+unfoldable pub piece_count : ℕ → List ℕ → ℕ
 piece_count mtu packet =
     let step = step_of mtu packet in
     ((header_of packet).total_length - mtu + (step - 1)) / step + 1
@@ -34,17 +33,17 @@ abbrev pub piece_place : ℕ → List ℕ → ℕ → ℕ
 piece_place mtu packet k = k * step_of mtu packet
 
 -- the k-th fragment is the last one: all that is left goes into it
-abbrev pub is_last_piece : ℕ → List ℕ → ℕ → Bool
+unfoldable pub is_last_piece : ℕ → List ℕ → ℕ → Bool
 is_last_piece mtu packet k =
     nat_le ((header_of packet).total_length - piece_place mtu packet k) mtu
 
-abbrev pub piece_payload : ℕ → List ℕ → ℕ → List ℕ
+unfoldable pub piece_payload : ℕ → List ℕ → ℕ → List ℕ
 piece_payload mtu packet k =
     let left = drop (piece_place mtu packet k) (payload_of packet) in
     (if is_last_piece mtu packet k then left else take (step_of mtu packet) left)
 
 -- the first fragment has the packet's options, the others those that are copied
-abbrev pub piece_options : List ℕ → ℕ → List ℕ
+unfoldable pub piece_options : List ℕ → ℕ → List ℕ
 piece_options packet k =
     (if k == 0 then options_of packet else later_options (options_of packet))
 
@@ -52,11 +51,11 @@ piece_options packet k =
 abbrev pub piece_flags : ℕ → List ℕ → ℕ → ℕ
 piece_flags mtu packet k =
     (header_of packet).flags_word
-    + (if is_last_piece mtu packet k then 0 else MORE_FRAGMENTS)
+    + (if is_last_piece mtu packet k then 0 else 0x2000)
     + piece_place mtu packet k / 8
 
 -- the fields of its header that aren't those of the packet; the type of service is
-abbrev pub piece_fields : ℕ → ℕ → List ℕ → ℕ → Fields
+unfoldable pub piece_fields : ℕ → ℕ → List ℕ → ℕ → Fields
 piece_fields mtu identification packet k = record {
   service = (header_of packet).type_of_service;
   total = (header_of packet).header_length + length (piece_payload mtu packet k);

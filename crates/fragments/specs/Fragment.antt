@@ -52,17 +52,17 @@ abbrev pub is_last : List ℕ → Bool
 is_last frame = more_of frame == 0
 
 -- a fragment carries the byte at a place
-abbrev pub carries : ℕ → List ℕ → Bool
+unfoldable pub carries : ℕ → List ℕ → Bool
 carries place frame = nat_le (first_of frame) place && nat_lt place (end_of frame)
 
 -- a fragment that no sender cuts: it carries nothing, or it isn't the last and carries no multiple of 8 bytes
-abbrev pub is_broken : List ℕ → Bool
+unfoldable pub is_broken : List ℕ → Bool
 is_broken frame =
     (length (carried frame) == 0)
     || (not (is_last frame) && not (length (carried frame) % 8 == 0))
 
 -- the same fragment: at the same place, with the same More Fragments and the same bytes; other fields aren't compared
-abbrev pub is_same : List ℕ → List ℕ → Bool
+unfoldable pub is_same : List ℕ → List ℕ → Bool
 is_same f g =
     (first_of f == first_of g) && (more_of f == more_of g) && bytes_eq (carried f) (carried g)
 
@@ -75,5 +75,5 @@ abbrev pub is_past : List ℕ → List ℕ → Bool
 is_past f last = is_last last && nat_lt (end_of last) (end_of f)
 
 -- two fragments can't be of one datagram
-abbrev pub contradicts : List ℕ → List ℕ → Bool
+unfoldable pub contradicts : List ℕ → List ℕ → Bool
 contradicts f g = overlaps f g || is_past f g || is_past g f

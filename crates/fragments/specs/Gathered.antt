@@ -41,7 +41,7 @@ with_first test change (x ∷ xs) =
 
 -- what a fragment does beside those of its datagram that are there. 64 fragments are the most of a datagram, and a whole
 -- packet has at most 65,535 bytes
-abbrev pub effect_of : List (List ℕ) → List ℕ → Effect
+unfoldable pub effect_of : List (List ℕ) → List ℕ → Effect
 effect_of there fragment =
     (if list_any (is_same fragment) there then Repeats
     else if list_any (λ f. contradicts f fragment) there || nat_le 64 (length there) then Contradicts
@@ -63,7 +63,7 @@ held left = record { left = left; came = Held; made = None }
 
 -- the datagrams before one more of a source begins: where 16 of that source are there the first of these is given up,
 -- else, where 64 are there, the first of all
-abbrev pub with_place : ℕ → List Datagram → List Datagram
+unfoldable pub with_place : ℕ → List Datagram → List Datagram
 with_place source datagrams =
     (if nat_le 16 (count_by (is_from source) datagrams)
     then without_first (is_from source) datagrams
@@ -139,11 +139,11 @@ AreApart [] = Unit {0}
 AreApart (f ∷ fragments) =
     AllByRecursion (λ g. contradicts f g ≡ false) fragments × AreApart fragments
 
--- a fragment of this name that can be cut so
+-- a fragment of this name that isn't broken
 pub record IsOf (name : Name) (fragment : List ℕ) : Type 0 where
   pub fragment_is : IsFragment fragment
   pub unbroken : is_broken fragment ≡ false
-  pub named : same_name name (name_of fragment) ≡ true
+  pub named : name_of fragment ≡ name
 
 -- fragments of one datagram, some of which are missing
 pub record IsPartial (datagram : Datagram) : Type 0 where
@@ -156,5 +156,5 @@ pub record IsPartial (datagram : Datagram) : Type 0 where
 pub record AreKept (datagrams : List Datagram) : Type 0 where
   pub few : length datagrams ≤ 64
   pub sources : (source : ℕ) → count_by (is_from source) datagrams ≤ 16
-  pub distinct : IsDistinct (λ a b. same_name a.name b.name) datagrams
+  pub distinct : IsDistinct (λ a b. is_named b.name a) datagrams
   pub each : AllByRecursion IsPartial datagrams

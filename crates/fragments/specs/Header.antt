@@ -16,7 +16,7 @@ fixed_with checksum fields packet =
     ++ big_bytes 4 header.source ++ big_bytes 4 header.destination
 
 -- the first 20 bytes before these options, with the complement of the header's whole sum as checksum
-abbrev pub fixed_summed : Fields → List ℕ → List ℕ → List ℕ
+unfoldable pub fixed_summed : Fields → List ℕ → List ℕ → List ℕ
 fixed_summed fields packet options =
     fixed_with (checksum_of (fixed_with 0 fields packet ++ options)) fields packet
 

@@ -14,7 +14,7 @@ abbrev pub last_fragment : List (List ℕ) → List ℕ
 last_fragment fragments = unwrap_or (find is_last fragments) []
 
 -- the end of the payload: that of the last fragment
-abbrev pub payload_end : List (List ℕ) → ℕ
+unfoldable pub payload_end : List (List ℕ) → ℕ
 payload_end fragments = end_of (last_fragment fragments)
 
 -- the fragments of a datagram are all there: one with offset 0, one with More Fragments clear, and each byte up to the
@@ -31,7 +31,7 @@ carried_by fragments = sum_by (λ f. length (carried f)) fragments
 
 -- nothing is missing: the last fragment is there, and they carry as many bytes as it ends at. Of fragments that don't
 -- contradict each other this says that each byte up to that end is carried
-abbrev pub is_whole : List (List ℕ) → Bool
+unfoldable pub is_whole : List (List ℕ) → Bool
 is_whole fragments =
     list_any is_last fragments && (carried_by fragments == payload_end fragments)
 
@@ -46,7 +46,7 @@ abbrev pub payload_again : List (List ℕ) → List ℕ
 payload_again fragments = map (byte_at fragments) (range_with_len 0 (payload_end fragments))
 
 -- the bytes of the whole packet's header, and of header and payload
-abbrev pub first_header_length : List (List ℕ) → ℕ
+unfoldable pub first_header_length : List (List ℕ) → ℕ
 first_header_length fragments =
     (header_of (ipv4_in (first_fragment fragments))).header_length
 
@@ -61,18 +61,18 @@ pub record IsReady (fragments : List (List ℕ)) : Type 0 where
   pub short : whole_length fragments ≤ 65535
 
 -- a fragment met congestion: the last two bits of its type of service are 11
-abbrev pub is_marked : List ℕ → Bool
+unfoldable pub is_marked : List ℕ → Bool
 is_marked frame = (header_of (ipv4_in frame)).type_of_service % 4 == 3
 
 -- the type of service of the fragment with offset 0, marked where one fragment is
-abbrev pub whole_service : List (List ℕ) → ℕ
+unfoldable pub whole_service : List (List ℕ) → ℕ
 whole_service fragments =
     let service = (header_of (ipv4_in (first_fragment fragments))).type_of_service in
     (if list_any is_marked fragments then service / 4 * 4 + 3 else service)
 
 -- the fields of the whole packet's header that aren't those of the fragment with offset 0: of the flags the reserved bit
 -- alone stays, and the offset is 0
-abbrev pub whole_fields : List (List ℕ) → Fields
+unfoldable pub whole_fields : List (List ℕ) → Fields
 whole_fields fragments =
     let header = header_of (ipv4_in (first_fragment fragments)) in
     record {

@@ -10,10 +10,11 @@
 //! fragment 1 002c (44)     00ac at 8 x 172    bytes 1376 to 1399
 //! ```
 ghost use Rattle.std.specs.Prelude.{◌≡◌, ◌≤◌, ◌<◌, ◌+◌, ◌++◌, ◌==◌, length, vec_len, vec_capacity, if◌then◌else◌};
-ghost use Rattle.ipv4.specs.Header.{IsIpv4, header_of, options_of};
+ghost use Rattle.ipv4.specs.Header.{IsIpv4, header_of};
 ghost use Rattle.fragments.specs.Fragment.{ipv4_in};
 ghost use Rattle.fragments.specs.Cut.{IsIpv4Frame, IsMtu, is_last_piece, piece, piece_count, piece_fields, piece_options};
-ghost use Rattle.fragments.specs.Cut.{piece_payload, piece_place, step_of};
+ghost use Rattle.fragments.specs.Cut.{piece_payload, step_of};
+ghost use Rattle.fragments.specs.Header.{header_with};
 
 use crate::appending::append_reserved;
 use crate::headers::{Fields, summed};
@@ -28,6 +29,7 @@ const MORE_FRAGMENTS: u16 = 0x2000;
 const ETHERNET: usize = 14;
 
 /// Returns the bytes of payload in each fragment but the last.
+#[tactic(auto, unfolding(crate::specs::Cut::step_of))]
 fn step_of(packet: &Ipv4View<'_>, mtu: u16) -> usize
     requires { IsMtu mtu }
     ensures value { result ≡ step_of mtu packet.now.bytes.now }
@@ -39,6 +41,7 @@ fn step_of(packet: &Ipv4View<'_>, mtu: u16) -> usize
 
 /// Returns into how many fragments a packet is cut where at most `mtu` bytes of IPv4 are sent, 576 to 1,500: one where it
 /// fits.
+#[tactic(auto, unfolding(crate::specs::Cut::piece_count))]
 pub fn piece_count(packet: &[u8], mtu: u16) -> usize
     requires packet { IsIpv4 packet.now }
     requires mtu { IsMtu mtu }
@@ -51,6 +54,7 @@ pub fn piece_count(packet: &[u8], mtu: u16) -> usize
 }
 
 /// Whether the k-th fragment is the last one.
+#[tactic(auto, unfolding(crate::specs::Cut::is_last_piece))]
 fn is_last_piece(packet: &Ipv4View<'_>, mtu: u16, k: usize) -> bool
     requires mtu { IsMtu mtu }
     requires few { k < 128 }
@@ -60,6 +64,7 @@ fn is_last_piece(packet: &Ipv4View<'_>, mtu: u16, k: usize) -> bool
 }
 
 /// Returns the payload of the k-th fragment.
+#[tactic(auto, unfolding(crate::specs::Cut::piece_payload))]
 fn piece_payload<'a>(packet: &Ipv4View<'a>, mtu: u16, k: usize) -> &'a [u8]
     requires mtu { IsMtu mtu }
     requires there { k < piece_count mtu packet.now.bytes.now }
@@ -76,6 +81,7 @@ fn piece_payload<'a>(packet: &Ipv4View<'a>, mtu: u16, k: usize) -> &'a [u8]
 }
 
 /// Returns the fields of the k-th fragment's header.
+#[tactic(auto, unfolding(crate::specs::Cut::piece_fields))]
 fn piece_fields(packet: &Ipv4View<'_>, mtu: u16, identification: u16, k: usize) -> Fields
     requires mtu { IsMtu mtu }
     requires there { k < piece_count mtu packet.now.bytes.now }
@@ -104,6 +110,7 @@ fn choose<'a>(k: usize, first: &'a [u8], others: &'a [u8]) -> &'a [u8]
 }
 
 /// Appends the first 20 bytes of the k-th fragment's header, and its options.
+#[tactic(auto, unfolding(crate::specs::Cut::piece_options, crate::specs::Header::header_with))]
 fn append_header(list: &mut Vec<u8>, packet: &Ipv4View<'_>, fields: Fields, k: usize)
     requires room { vec_len list.old + (header_of packet.now.bytes.now).header_length
         ≤ vec_capacity list.old }

@@ -1,5 +1,5 @@
 //! A datagram of which fragments are there, and what one more does beside them.
-ghost use Rattle.std.specs.Prelude.{◌≡◌, ◌≤◌, ◌+◌, ◌++◌, ◌∷◌, [], length, vec_len, position, OnOk, OnErr, is_ok, if◌then◌else◌};
+ghost use Rattle.std.specs.Prelude.{◌≡◌, ◌≤◌, ◌*◌, ◌++◌, ◌∷◌, [], length, vec_len, position, OnOk, OnErr, is_ok, if◌then◌else◌};
 ghost use Rattle.std.specs.List.{count_by, list_any, sum_by};
 ghost use Rattle.memory.specs.Memory.{WasRefused};
 ghost use Rattle.fragments.specs.Fragment.{carried, contradicts, is_last, is_same, starts};
@@ -163,6 +163,7 @@ fn has_last_with(there: &[Fragment], new: &FragmentView<'_>) -> bool
 }
 
 /// Returns the end that the last fragment gives, or 0 where it is missing.
+#[tactic(auto, unfolding(crate::specs::Whole::payload_end))]
 fn end_with(there: &[Fragment], new: &FragmentView<'_>) -> usize
     ensures value { result ≡ payload_end (there.now ++ new.now.frame.now ∷ []) }
     ensures most { result ≤ 131063 }
@@ -175,6 +176,7 @@ fn end_with(there: &[Fragment], new: &FragmentView<'_>) -> usize
 }
 
 /// Returns the bytes of the header of the fragment with offset 0, or 0 where it is missing.
+#[tactic(auto, unfolding(crate::specs::Whole::first_header_length))]
 fn header_length_with(there: &[Fragment], new: &FragmentView<'_>) -> usize
     ensures value { result ≡ first_header_length (there.now ++ new.now.frame.now ∷ []) }
     ensures most { result ≤ 60 }
@@ -195,6 +197,7 @@ pub(crate) fn length_with(there: &[Fragment], new: &FragmentView<'_>) -> usize
 }
 
 /// Whether nothing is missing with one more fragment.
+#[tactic(auto, unfolding(crate::specs::Whole::is_whole))]
 fn is_whole_with(there: &[Fragment], new: &FragmentView<'_>) -> bool
     requires { length there.now ≤ 64 }
     ensures { result ≡ is_whole (there.now ++ new.now.frame.now ∷ []) }
@@ -204,6 +207,7 @@ fn is_whole_with(there: &[Fragment], new: &FragmentView<'_>) -> bool
 }
 
 /// Returns what a fragment does beside those of its datagram that are there.
+#[tactic(auto, unfolding(crate::specs::Gathered::effect_of))]
 pub(crate) fn effect_of(there: &[Fragment], new: &FragmentView<'_>) -> Effect
     requires { length there.now ≤ 64 }
     ensures { result ≡ effect_of there.now new.now.frame.now }

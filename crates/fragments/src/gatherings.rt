@@ -105,6 +105,7 @@ fn give_up_from(datagrams: &mut Vec<Datagram>, source: Ip)
 }
 
 /// Gives up a datagram where one more of a source has no place.
+#[tactic(auto, unfolding(crate::specs::Gathered::with_place))]
 fn make_place(datagrams: &mut Vec<Datagram>, source: Ip)
     ensures items { datagrams.new.items ≡ with_place source.0 datagrams.old.items }
     ensures capacity { vec_capacity datagrams.new ≡ vec_capacity datagrams.old }

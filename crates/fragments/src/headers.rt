@@ -63,6 +63,7 @@ fn unsummed(packet: &[u8], fields: Fields) -> [u8; layout::FIXED]
 
 /// Returns the first 20 bytes of a packet's header with these fields, and with the checksum that they have before these
 /// options.
+#[tactic(auto, unfolding(crate::specs::Header::fixed_summed))]
 pub(crate) fn summed(packet: &[u8], fields: Fields, options: &[u8]) -> [u8; layout::FIXED]
     requires { 20 ≤ length packet.now }
     ensures { result ≡ fixed_summed fields packet.now options.now }

@@ -6,7 +6,7 @@
 //! 07 03 04   94 04 00 00   00
 //! 01 01 01   94 04 00 00   00
 //! ```
-ghost use Rattle.std.specs.Prelude.{◌≡◌, ◌≤◌, ◌<◌, length, take, slice_index};
+ghost use Rattle.std.specs.Prelude.{◌≡◌, ◌≤◌, ◌<◌, ◌∷◌, length, take};
 ghost use Rattle.fragments.specs.Options.{later_options, option_later, option_size};
 
 /// The most bytes of options.

@@ -219,6 +219,7 @@ impl<'a> FragmentView<'a> {
     }
 
     /// Whether the fragment carries nothing, or isn't the last and carries no multiple of 8 bytes.
+    #[tactic(auto, unfolding(crate::specs::Fragment::is_broken))]
     pub(crate) fn is_broken(&self) -> bool
         ensures { result ≡ is_broken self.now.frame.now }
     {
@@ -227,6 +228,7 @@ impl<'a> FragmentView<'a> {
     }
 
     /// Whether the fragment met congestion.
+    #[tactic(auto, unfolding(crate::specs::Whole::is_marked))]
     pub(crate) fn is_marked(&self) -> bool
         ensures { result ≡ is_marked self.now.frame.now }
     {
@@ -234,6 +236,7 @@ impl<'a> FragmentView<'a> {
     }
 
     /// Whether both are the same fragment, whatever else their headers say.
+    #[tactic(auto, unfolding(crate::specs::Fragment::is_same))]
     pub(crate) fn is_same(&self, other: &FragmentView<'_>) -> bool
         ensures { result ≡ is_same self.now.frame.now other.now.frame.now }
     {
@@ -243,6 +246,7 @@ impl<'a> FragmentView<'a> {
     }
 
     /// Whether the two can't be of one datagram.
+    #[tactic(auto, unfolding(crate::specs::Fragment::contradicts))]
     pub(crate) fn contradicts(&self, other: &FragmentView<'_>) -> bool
         ensures { result ≡ contradicts self.now.frame.now other.now.frame.now }
     {

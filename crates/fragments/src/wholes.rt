@@ -1,5 +1,5 @@
 //! The whole frame that the fragments of a datagram make.
-ghost use Rattle.std.specs.Prelude.{◌≡◌, ◌≤◌, ◌+◌, ◌++◌, [], length, map, replicate, vec_len, vec_capacity};
+ghost use Rattle.std.specs.Prelude.{◌≡◌, ◌≤◌, ◌+◌, ◌-◌, ◌++◌, [], length, take, drop, map, replicate, vec_len, vec_capacity};
 ghost use Rattle.std.specs.List.{AllByRecursion, range_with_len};
 ghost use Rattle.frames.specs.Bytes.{Puts};
 ghost use Rattle.fragments.specs.Fragment.{carried, end_of, first_of};
@@ -30,6 +30,7 @@ fn first_fragment(fragments: &[Fragment]) -> FragmentView<'_>
 }
 
 /// Returns the end of the payload.
+#[tactic(auto, unfolding(crate::specs::Whole::payload_end))]
 fn payload_end(fragments: &[Fragment]) -> usize
     requires { IsComplete fragments.now }
     ensures { result ≡ payload_end fragments.now }
@@ -40,6 +41,7 @@ fn payload_end(fragments: &[Fragment]) -> usize
     }
 }
 
+#[tactic(auto, unfolding(crate::specs::Whole::whole_service))]
 fn service(fragments: &[Fragment], first: &FragmentView<'_>) -> u8
     requires { first.now.frame.now ≡ first_fragment fragments.now }
     ensures { result ≡ whole_service fragments.now }
@@ -53,6 +55,7 @@ fn service(fragments: &[Fragment], first: &FragmentView<'_>) -> u8
 }
 
 /// Returns the fields of the whole packet's header that aren't those of the first fragment.
+#[tactic(auto, unfolding(crate::specs::Whole::whole_fields, crate::specs::Whole::first_header_length))]
 fn fields(fragments: &[Fragment], first: &FragmentView<'_>, end: usize) -> Fields
     requires first { first.now.frame.now ≡ first_fragment fragments.now }
     requires end { end ≡ payload_end fragments.now }
@@ -115,6 +118,7 @@ fn append_payload(list: &mut Vec<u8>, fragments: &[Fragment], end: usize)
 }
 
 /// Writes the whole frame that the fragments of a datagram make into an empty list that has the capacity for it.
+#[tactic(auto, unfolding(crate::specs::Whole::reassembled, crate::specs::Header::header_with))]
 pub(crate) fn write_whole(frame: &mut Vec<u8>, fragments: &[Fragment])
     requires empty { frame.old.items ≡ [] }
     requires ready { IsReady fragments.now }
