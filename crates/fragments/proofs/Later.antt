@@ -1,8 +1,8 @@
 -- The options of later fragments, one option after another.
-use Rattle.std.proofs.Common.{◌≡◌, ◌⊎◌, inl, inr, ℕ, zero, suc, ◌+◌, ◌-◌, ◌<◌, ◌≤◌, Bool, true, false, cond, ◌==◌, ◌&&◌, nat_le, nat_lt, List, [], ◌∷◌, ◌++◌, length, take, drop, replicate, slice_index, refl, ap, ap₂, ◌∙◌, sym, subst, arith, append_assoc, length-append, length-drop, length-replicate}
+use Rattle.std.proofs.Common.{◌≡◌, ◌⊎◌, inl, inr, ℕ, zero, suc, ◌+◌, ◌-◌, ◌<◌, ◌≤◌, Bool, true, false, cond, ◌==◌, ◌&&◌, nat_le, nat_lt, List, [], ◌∷◌, ◌++◌, length, take, drop, replicate, slice_index, refl, ap, ap₂, ◌∙◌, sym, subst, arith, append_assoc, length-append, length-drop}
 use Rattle.std.proofs.lemmas.Bool.{leb-true, and_parts}
 use Rattle.std.proofs.lemmas.Bool.Decides.{nat_tests}
-use Rattle.std.proofs.lemmas.List.{length-take-le, take-take, take-append-drop, take_at, drop_at, drop-drop, drop_all, get_or-take, nil_from_length}
+use Rattle.std.proofs.lemmas.List.{length-replicate, length-take-le, take-take, take-append-drop, take_at, drop_at, drop-drop, drop_all, get_or-take}
 use Rattle.fragments.specs.Options.{later_from, later_options, option_later, option_size}
 
 -- an option lies within the options
@@ -31,18 +31,18 @@ some-size n some = grind (arith, nat_tests)
 room : (most : ℕ) (options : List ℕ) → length (later_from most options) ≡ length options
 unfolding later_from
 room zero options = refl
-room (suc most) options = by (option_size options == 0)
+room (suc most) options = by (option_size options == 0) (room most (drop (option_size options) options))
   where
     size : ℕ
     size = option_size options
 
-    by : (b : Bool) → length (cond b options (option_later size options ++ later_from most (drop size options))) ≡ length options
-    by true = refl
-    by false = omega (
+    by : (b : Bool) → length (later_from most (drop size options)) ≡ length (drop size options) → length (cond b options (option_later size options ++ later_from most (drop size options))) ≡ length options
+    by true rest = refl
+    by false rest = omega (
       arith,
       length-append (option_later size options) (later_from most (drop size options)),
       length-option size options (size-within options),
-      room most (drop size options),
+      rest,
       length-drop size options,
       size-within options,
     )
@@ -50,38 +50,43 @@ room (suc most) options = by (option_size options == 0)
 pub same_room : (options : List ℕ) → length (later_options options) ≡ length options
 same_room options = room (length options) options
 
+later-none : (most : ℕ) (options : List ℕ) → length options ≤ 0 → later_from most options ≡ options
+unfolding later_from
+later-none zero options none = refl
+later-none (suc most) [] none = refl
+later-none (suc most) (x ∷ options) none = absurd (omega arith)
+
 -- it doesn't matter how many options are allowed for, where it is no fewer than there are bytes
 fuel : (m n : ℕ) (options : List ℕ) → length options ≤ m → length options ≤ n → later_from m options ≡ later_from n options
 unfolding later_from
 fuel zero zero options one two = refl
-fuel zero (suc n) options one two = ap (λ (xs : List ℕ). cond (option_size xs == 0) xs (option_later (option_size xs) xs ++ later_from n (drop (option_size xs) xs))) (sym (nil options one)) ∙ nil options one
-  where
-    nil : (xs : List ℕ) → length xs ≤ 0 → xs ≡ []
-    nil xs h = nil_from_length xs (omega arith)
-fuel (suc m) zero options one two = sym (fuel zero (suc m) options two one)
-fuel (suc m) (suc n) options one two = by (option_size options == 0) refl
+fuel zero (suc n) options one two = sym (later-none (suc n) options one)
+fuel (suc m) zero options one two = later-none (suc m) options two
+fuel (suc m) (suc n) options one two = by (option_size options == 0) refl (fuel m n (drop (option_size options) options))
   where
     size : ℕ
     size = option_size options
 
-    by : (b : Bool) → (size == 0) ≡ b → cond b options (option_later size options ++ later_from m (drop size options)) ≡ cond b options (option_later size options ++ later_from n (drop size options))
-    by true is = refl
-    by false is =
+    by : (b : Bool) → (size == 0) ≡ b → (length (drop size options) ≤ m → length (drop size options) ≤ n → later_from m (drop size options) ≡ later_from n (drop size options))
+        → cond b options (option_later size options ++ later_from m (drop size options)) ≡ cond b options (option_later size options ++ later_from n (drop size options))
+    by true is rest = refl
+    by false is rest =
         let some = some-size size is in
         ap (λ (xs : List ℕ). option_later size options ++ xs)
-        (fuel m n (drop size options) (omega (arith, length-drop size options, some, one)) (omega (arith, length-drop size options, some, two)))
+        (rest (omega (arith, length-drop size options, some, one)) (omega (arith, length-drop size options, some, two)))
 
 -- where the options end, all stays
 pub later-ends : (options : List ℕ) → option_size options ≡ 0 → later_options options ≡ options
+unfolding later_from
 later-ends options ends = by (length options) options ends
   where
     by : (most : ℕ) (xs : List ℕ) → option_size xs ≡ 0 → later_from most xs ≡ xs
-    unfolding later_from
     by zero xs ends = refl
     by (suc most) xs ends = ap (λ (n : ℕ). cond (n == 0) xs (option_later (option_size xs) xs ++ later_from most (drop (option_size xs) xs))) ends
 
 -- an option, and those behind it
 pub later-goes : (options : List ℕ) → 0 < option_size options → later_options options ≡ option_later (option_size options) options ++ later_options (drop (option_size options) options)
+unfolding later_from
 later-goes options some = by (length options) refl
   where
     size : ℕ
@@ -91,7 +96,6 @@ later-goes options some = by (length options) refl
     not-zero = grind (arith, nat_tests)
 
     by : (most : ℕ) → length options ≡ most → later_from most options ≡ option_later size options ++ later_options (drop size options)
-    unfolding later_from
     by zero is = absurd (omega (arith, size-within options, some, is))
     by (suc most) is =
         ap (λ (b : Bool). cond b options (option_later size options ++ later_from most (drop size options))) not-zero
@@ -108,11 +112,12 @@ option-alone size options some =
 -- the options up to a place are as in later fragments; those ahead are as they were
 pub record IsBlanking (all now : List ℕ) (at : ℕ) : Type 0 where
   pub within : at ≤ length now
+  pub long : length now ≡ length all
   pub ahead : drop at now ≡ drop at all
   pub so_far : take at now ++ later_options (drop at all) ≡ later_options all
 
 pub blanking-begins : (all : List ℕ) → IsBlanking all all 0
-blanking-begins all = record { within = omega arith; ahead = refl; so_far = refl }
+blanking-begins all = record { within = omega arith; long = refl; ahead = refl; so_far = refl }
 
 pub blanking-ends : (all now : List ℕ) (at : ℕ) → IsBlanking all now at → option_size (drop at now) ≡ 0 → now ≡ later_options all
 blanking-ends all now at is ends =
@@ -145,6 +150,7 @@ blanking-goes all now part new at size is is_size some is_part is_new =
     ∙ ap₂ (λ (xs ys : List ℕ). xs ++ later_options ys) (sym option) (drop-drop size at all) in
     record {
       within = omega (arith, ap length joined, length-append (take at now ++ part) (drop size ahead), both);
+      long = omega (arith, ap length joined, length-append (take at now ++ part) (drop size ahead), both, length-drop size ahead, length-drop at now, is.long, fits, is.within);
       ahead = behind ∙ rest;
       so_far =
           ap (λ (xs : List ℕ). xs ++ later_options (drop (at + size) all)) before

@@ -4,5 +4,6 @@ mod Keeping
 mod Later
 mod Orders
 mod Placing
+mod Sizes
 mod Spelling
 mod Trimming

@@ -1,16 +1,26 @@
 //! The header of a whole packet, and those of the fragments of one that is cut.
-ghost use Rattle.std.specs.Prelude.{◌≡◌, ◌≤◌, ◌<◌, ◌+◌, ◌^◌, ◌++◌, ℕ, List, length, slice_index};
-ghost use Rattle.sums.specs.Sum.{IsRight};
+ghost use Rattle.std.specs.Prelude.{◌≡◌, ◌≤◌, length};
+ghost use Rattle.ipv4.specs.Header.{header_of};
 ghost use Rattle.fragments.specs.Header.{fixed_summed, fixed_with};
 
 use byteorder::{BigEndian, ByteOrder};
 use sums::{add, sum};
 
-/// The places of what is written (RFC 791, section 3.1).
+/// The places of a header's fields (RFC 791, section 3.1).
 mod layout {
     use std::ops::Range;
 
+    pub const VERSION_AND_LENGTH: usize = 0;
+
+    pub const TTL: usize = 8;
+
+    pub const PROTOCOL: usize = 9;
+
     pub const CHECKSUM: Range<usize> = 10..12;
+
+    pub const SOURCE: Range<usize> = 12..16;
+
+    pub const DESTINATION: Range<usize> = 16..20;
     /// The bytes of a header without options.
     pub const FIXED: usize = 20;
 }
@@ -27,6 +37,20 @@ pub(crate) struct Fields {
     pub(crate) flags: u16,
 }
 
+fn source(packet: &[u8]) -> u32
+    requires { 20 ≤ length packet.now }
+    ensures { result ≡ (header_of packet.now).source }
+{
+    BigEndian::read_u32(&packet[layout::SOURCE])
+}
+
+fn destination(packet: &[u8]) -> u32
+    requires { 20 ≤ length packet.now }
+    ensures { result ≡ (header_of packet.now).destination }
+{
+    BigEndian::read_u32(&packet[layout::DESTINATION])
+}
+
 /// Returns the first 20 bytes of a packet's header with these fields and a checksum of 0.
 fn unsummed(packet: &[u8], fields: Fields) -> [u8; layout::FIXED]
     requires { 20 ≤ length packet.now }
@@ -35,10 +59,10 @@ fn unsummed(packet: &[u8], fields: Fields) -> [u8; layout::FIXED]
     let [length, low_length] = fields.total.to_be_bytes();
     let [id, low_id] = fields.identification.to_be_bytes();
     let [flags, low_flags] = fields.flags.to_be_bytes();
-    let [a, b, c, d] = BigEndian::read_u32(&packet[12..16]).to_be_bytes();
-    let [e, f, g, h] = BigEndian::read_u32(&packet[16..20]).to_be_bytes();
+    let [a, b, c, d] = source(packet).to_be_bytes();
+    let [e, f, g, h] = destination(packet).to_be_bytes();
     [
-        packet[0],
+        packet[layout::VERSION_AND_LENGTH],
         fields.service,
         length,
         low_length,
@@ -46,8 +70,8 @@ fn unsummed(packet: &[u8], fields: Fields) -> [u8; layout::FIXED]
         low_id,
         flags,
         low_flags,
-        packet[8],
-        packet[9],
+        packet[layout::TTL],
+        packet[layout::PROTOCOL],
         0,
         0,
         a,
