@@ -91,11 +91,11 @@ AtMostOne p (f ∷ fs) = (p f ≡ true → AllByRecursion (λ g. p g ≡ false) 
 
 count-most : (p : List ℕ → Bool) (fs : List (List ℕ)) → AtMostOne p fs → count_by p fs ≤ 1
 count-most p [] most = omega arith
-count-most p (f ∷ fs) most = by (p f) refl
+count-most p (f ∷ fs) most = by (p f) refl (count-most p fs most.1)
   where
-    by : (b : Bool) → p f ≡ b → count_by p (f ∷ fs) ≤ 1
-    by true is = omega (arith, count-cons p f fs, ap (λ (c : Bool). cond c 1 0) is, count-none p fs (most.0 is))
-    by false is = omega (arith, count-cons p f fs, ap (λ (c : Bool). cond c 1 0) is, count-most p fs most.1)
+    by : (b : Bool) → p f ≡ b → count_by p fs ≤ 1 → count_by p (f ∷ fs) ≤ 1
+    by true is rest = omega (arith, count-cons p f fs, ap (λ (c : Bool). cond c 1 0) is, count-none p fs (most.0 is))
+    by false is rest = omega (arith, count-cons p f fs, ap (λ (c : Bool). cond c 1 0) is, rest)
 
 all-of : {X : Type 0} (P Q : X → Type 0) → ((x : X) → P x → Q x) → (xs : List X) → AllByRecursion P xs → AllByRecursion Q xs
 all-of P Q more [] all = tt
@@ -190,7 +190,7 @@ counts-most fs apart (suc n) = omega (arith, counts-most fs apart n, carried-onc
 each-one : (fs : List (List ℕ)) → AreApart fs → (n : ℕ) → counts n fs ≡ n → (k : ℕ) → k < n → count_by (carries k) fs ≡ 1
 unfolding counts
 each-one fs apart zero full k below = absurd (omega arith)
-each-one fs apart (suc n) full k below = by (cases_eq k n)
+each-one fs apart (suc n) full k below = by (cases_eq k n) (λ whole under. each-one fs apart n whole k under)
   where
     here : count_by (carries n) fs ≡ 1
     here = omega (arith, full, counts-most fs apart n, carried-once fs apart n)
@@ -198,41 +198,43 @@ each-one fs apart (suc n) full k below = by (cases_eq k n)
     so_far : counts n fs ≡ n
     so_far = omega (arith, full, counts-most fs apart n, carried-once fs apart n)
 
-    by : (k ≡ n) ⊎ (k ≡ n → ⊥) → count_by (carries k) fs ≡ 1
-    by (inl same) = ap (λ (m : ℕ). count_by (carries m) fs) same ∙ here
-    by (inr other) = each-one fs apart n so_far k (omega (arith, below, other))
+    by : (k ≡ n) ⊎ (k ≡ n → ⊥) → (counts n fs ≡ n → k < n → count_by (carries k) fs ≡ 1) → count_by (carries k) fs ≡ 1
+    by (inl same) rest = ap (λ (m : ℕ). count_by (carries m) fs) same ∙ here
+    by (inr other) rest = rest so_far (omega (arith, below, other))
 
 -- ---- the last fragment
 pub found-all : {X : Type 0} (P : X → Type 0) (p : X → Bool) (xs : List X) (x : X) → AllByRecursion P xs → find p xs ≡ Some x → P x
 found-all P p [] x all found = cc
-found-all {X} P p (y ∷ xs) x all found = by (p y) found
+found-all {X} P p (y ∷ xs) x all found = by (p y) found (λ there. found-all P p xs x all.1 there)
   where
-    by : (b : Bool) → (let o : Option X = cond b (Some y) (find p xs) in o) ≡ Some x → P x
-    by true is = subst P (same_Some y x is) all.0
-    by false is = found-all P p xs x all.1 is
+    by : (b : Bool) → (let o : Option X = cond b (Some y) (find p xs) in o) ≡ Some x → (find p xs ≡ Some x → P x) → P x
+    by true is rest = subst P (same_Some y x is) all.0
+    by false is rest = rest is
 
 pub found-passes : {X : Type 0} (p : X → Bool) (xs : List X) (x : X) → find p xs ≡ Some x → p x ≡ true
 found-passes p [] x found = cc
-found-passes {X} p (y ∷ xs) x found = by (p y) refl found
+found-passes {X} p (y ∷ xs) x found = by (p y) refl found (λ there. found-passes p xs x there)
   where
-    by : (b : Bool) → p y ≡ b → (let o : Option X = cond b (Some y) (find p xs) in o) ≡ Some x → p x ≡ true
-    by true is found-here = ap p (sym (same_Some y x found-here)) ∙ is
-    by false is found-here = found-passes p xs x found-here
+    by : (b : Bool) → p y ≡ b → (let o : Option X = cond b (Some y) (find p xs) in o) ≡ Some x → (find p xs ≡ Some x → p x ≡ true) → p x ≡ true
+    by true is here rest = ap p (sym (same_Some y x here)) ∙ is
+    by false is here rest = rest here
 
 -- fragments of which one is the last, and none contradicts another, end by that one's end
 ends-within : (fs : List (List ℕ)) (last : List ℕ) → AreApart fs → find is_last fs ≡ Some last → AllByRecursion (λ f. end_of f ≤ end_of last) fs
 ends-within [] last apart found = tt
-ends-within (f ∷ fs) last apart found = by (is_last f) refl found
+ends-within (f ∷ fs) last apart found = by (is_last f) refl found (λ there. ends-within fs last apart.1 there)
   where
-    by : (b : Bool) → is_last f ≡ b → (let o : Option (List ℕ) = cond b (Some f) (find is_last fs) in o) ≡ Some last → AllByRecursion (λ g. end_of g ≤ end_of last) (f ∷ fs)
-    by true is here =
+    by : (b : Bool) → is_last f ≡ b → (let o : Option (List ℕ) = cond b (Some f) (find is_last fs) in o) ≡ Some last
+        → (find is_last fs ≡ Some last → AllByRecursion (λ g. end_of g ≤ end_of last) fs)
+        → AllByRecursion (λ g. end_of g ≤ end_of last) (f ∷ fs)
+    by true is here rest =
         let same : f ≡ last = same_Some f last here in
         subst (λ (l : List ℕ). AllByRecursion (λ g. end_of g ≤ end_of l) (f ∷ fs)) same
         (omega arith, all-of (λ g. contradicts f g ≡ false) (λ g. end_of g ≤ end_of f) (λ g no. (beside f g no).second_past is) fs apart.0)
-    by false is here =
+    by false is here rest =
         let lasts = found-passes is_last fs last here in
         let apart_here = found-all (λ g. contradicts f g ≡ false) is_last fs last apart.0 here in
-        ((beside f last apart_here).first_past lasts, ends-within fs last apart.1 here)
+        ((beside f last apart_here).first_past lasts, rest here)
 
 -- ---- whole fragments are complete
 Unbroken : List ℕ → Type 0
@@ -274,19 +276,20 @@ carries-not k f behind = and_right _ _ (le-ltb k (end_of f) behind)
 
 pub any-found : (p : List ℕ → Bool) (fs : List (List ℕ)) → list_any p fs ≡ true → (x : List ℕ) × (find p fs ≡ Some x)
 any-found p [] any = cc
-any-found p (f ∷ fs) any = by (p f) refl any
+any-found p (f ∷ fs) any = by (p f) any (λ there. any-found p fs there)
   where
-    by : (b : Bool) → p f ≡ b → (b || list_any p fs) ≡ true → (x : List ℕ) × ((let o : Option (List ℕ) = cond b (Some f) (find p fs) in o) ≡ Some x)
-    by true is any = (f, refl)
-    by false is any = any-found p fs any
+    by : (b : Bool) → (b || list_any p fs) ≡ true → (list_any p fs ≡ true → (x : List ℕ) × (find p fs ≡ Some x))
+        → (x : List ℕ) × ((let o : Option (List ℕ) = cond b (Some f) (find p fs) in o) ≡ Some x)
+    by true any rest = (f, refl)
+    by false any rest = rest any
 
 found-some : (p : List ℕ → Bool) (fs : List (List ℕ)) (x : List ℕ) → find p fs ≡ Some x → 1 ≤ count_by p fs
 found-some p [] x found = cc
-found-some p (f ∷ fs) x found = by (p f) refl found
+found-some p (f ∷ fs) x found = by (p f) refl found (λ there. found-some p fs x there)
   where
-    by : (b : Bool) → p f ≡ b → (let o : Option (List ℕ) = cond b (Some f) (find p fs) in o) ≡ Some x → 1 ≤ count_by p (f ∷ fs)
-    by true is here = omega (arith, count-cons p f fs, ap (λ (c : Bool). cond c 1 0) is)
-    by false is here = omega (arith, count-cons p f fs, found-some p fs x here)
+    by : (b : Bool) → p f ≡ b → (let o : Option (List ℕ) = cond b (Some f) (find p fs) in o) ≡ Some x → (find p fs ≡ Some x → 1 ≤ count_by p fs) → 1 ≤ count_by p (f ∷ fs)
+    by true is here rest = omega (arith, count-cons p f fs, ap (λ (c : Bool). cond c 1 0) is)
+    by false is here rest = omega (arith, count-cons p f fs, rest here)
 
 complete-at : (fs : List (List ℕ)) (last : List ℕ) → AreApart fs → AllByRecursion (λ f. is_broken f ≡ false) fs → find is_last fs ≡ Some last → carried_by fs ≡ payload_end fs → IsComplete fs
 unfolding payload_end
@@ -313,19 +316,20 @@ whole-complete fs apart fine whole =
 -- ---- complete fragments are whole
 pub found-of : (p : List ℕ → Bool) (fs : List (List ℕ)) → 1 ≤ count_by p fs → (x : List ℕ) × (find p fs ≡ Some x) × (list_any p fs ≡ true)
 found-of p [] some = absurd (omega arith)
-found-of p (f ∷ fs) some = by (p f) refl
+found-of p (f ∷ fs) some = by (p f) refl (λ there. found-of p fs there)
   where
-    by : (b : Bool) → p f ≡ b → (x : List ℕ) × ((let o : Option (List ℕ) = cond b (Some f) (find p fs) in o) ≡ Some x) × ((b || list_any p fs) ≡ true)
-    by true is = (f, refl, refl)
-    by false is = found-of p fs (omega (arith, some, count-cons p f fs, ap (λ (c : Bool). cond c 1 0) is))
+    by : (b : Bool) → p f ≡ b → (1 ≤ count_by p fs → (x : List ℕ) × (find p fs ≡ Some x) × (list_any p fs ≡ true))
+        → (x : List ℕ) × ((let o : Option (List ℕ) = cond b (Some f) (find p fs) in o) ≡ Some x) × ((b || list_any p fs) ≡ true)
+    by true is rest = (f, refl, refl)
+    by false is rest = rest (omega (arith, some, count-cons p f fs, ap (λ (c : Bool). cond c 1 0) is))
 
 pub none-of : (p : List ℕ → Bool) (fs : List (List ℕ)) → count_by p fs ≡ 0 → AllByRecursion (λ f. p f ≡ false) fs
 none-of p [] none = tt
-none-of p (f ∷ fs) none = by (p f) refl
+none-of p (f ∷ fs) none = by (p f) refl (λ rest. none-of p fs rest)
   where
-    by : (b : Bool) → p f ≡ b → AllByRecursion (λ g. p g ≡ false) (f ∷ fs)
-    by true is = absurd (omega (arith, none, count-cons p f fs, ap (λ (c : Bool). cond c 1 0) is))
-    by false is = (is, none-of p fs (omega (arith, none, count-cons p f fs)))
+    by : (b : Bool) → p f ≡ b → (count_by p fs ≡ 0 → AllByRecursion (λ g. p g ≡ false) fs) → AllByRecursion (λ g. p g ≡ false) (f ∷ fs)
+    by true is rest = absurd (omega (arith, none, count-cons p f fs, ap (λ (c : Bool). cond c 1 0) is))
+    by false is rest = (is, rest (omega (arith, none, count-cons p f fs)))
 
 -- a fragment that carries a byte ends by the end, where no byte behind it is carried
 ends-by : (n : ℕ) (fs : List (List ℕ)) → AllByRecursion (λ f. is_broken f ≡ false) fs → ((k : ℕ) → n ≤ k → count_by (carries k) fs ≡ 0) → AllByRecursion (λ f. end_of f ≤ n) fs

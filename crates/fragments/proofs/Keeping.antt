@@ -23,50 +23,53 @@ use Rattle.fragments.specs.declared.datagrams.Effect.TheVariants.{Repeats, Contr
 -- ---- a list without its first item that passes, and without its first item
 pub all-without : {X : Type 0} (P : X → Type 0) (p : X → Bool) (xs : List X) → AllByRecursion P xs → AllByRecursion P (without_first p xs)
 all-without P p [] all = tt
-all-without {X} P p (x ∷ xs) all = by (p x)
+all-without {X} P p (x ∷ xs) all = by (p x) (all-without P p xs all.1)
   where
-    by : (b : Bool) → AllByRecursion P (cond b xs (x ∷ without_first p xs))
-    by true = all.1
-    by false = (all.0, all-without P p xs all.1)
+    by : (b : Bool) → AllByRecursion P (without_first p xs) → AllByRecursion P (cond b xs (x ∷ without_first p xs))
+    by true rest = all.1
+    by false rest = (all.0, rest)
 
 distinct-without : {X : Type 0} (e : X → X → Bool) (p : X → Bool) (xs : List X) → IsDistinct e xs → IsDistinct e (without_first p xs)
 distinct-without e p [] d = tt
-distinct-without {X} e p (x ∷ xs) d = by (p x)
+distinct-without {X} e p (x ∷ xs) d = by (p x) (distinct-without e p xs d.1)
   where
-    by : (b : Bool) → IsDistinct e (cond b xs (x ∷ without_first p xs))
-    by true = d.1
-    by false = (all-without (λ y. e x y ≡ false) p xs d.0, distinct-without e p xs d.1)
+    by : (b : Bool) → IsDistinct e (without_first p xs) → IsDistinct e (cond b xs (x ∷ without_first p xs))
+    by true rest = d.1
+    by false rest = (all-without (λ y. e x y ≡ false) p xs d.0, rest)
 
 pub count-cons : {X : Type 0} (q : X → Bool) (x : X) (xs : List X) → count_by q (x ∷ xs) ≡ cond (q x) 1 0 + count_by q xs
 count-cons q x xs = sum_by-cons (λ y. cond (q y) 1 0) x xs
 
 pub count-without : {X : Type 0} (q p : X → Bool) (xs : List X) → count_by q (without_first p xs) ≤ count_by q xs
 count-without q p [] = omega arith
-count-without {X} q p (x ∷ xs) = by (p x)
+count-without {X} q p (x ∷ xs) = by (p x) (count-without q p xs)
   where
-    by : (b : Bool) → count_by q (cond b xs (x ∷ without_first p xs)) ≤ count_by q (x ∷ xs)
-    by true = omega (arith, count-cons q x xs)
-    by false = omega (arith, count-cons q x xs, count-cons q x (without_first p xs), count-without q p xs)
+    by : (b : Bool) → count_by q (without_first p xs) ≤ count_by q xs → count_by q (cond b xs (x ∷ without_first p xs)) ≤ count_by q (x ∷ xs)
+    by true rest = omega (arith, count-cons q x xs)
+    by false rest = omega (arith, count-cons q x xs, count-cons q x (without_first p xs), rest)
 
 pub length-without : {X : Type 0} (p : X → Bool) (xs : List X) → length (without_first p xs) ≤ length xs
 length-without p [] = omega arith
-length-without {X} p (x ∷ xs) = by (p x)
+length-without {X} p (x ∷ xs) = by (p x) (length-without p xs)
   where
-    by : (b : Bool) → length (cond b xs (x ∷ without_first p xs)) ≤ length (x ∷ xs)
-    by true = omega arith
-    by false = omega (arith, length-without p xs)
+    by : (b : Bool) → length (without_first p xs) ≤ length xs → length (cond b xs (x ∷ without_first p xs)) ≤ length (x ∷ xs)
+    by true rest = omega arith
+    by false rest = omega (arith, rest)
 
 -- where one passes, one less is there
-fewer-without : {X : Type 0} (p : X → Bool) (xs : List X) → 1 ≤ count_by p xs → (count_by p (without_first p xs) + 1 ≡ count_by p xs) × (length (without_first p xs) + 1 ≡ length xs)
+abbrev Fewer : {X : Type 0} → (X → Bool) → List X → List X → Type 0
+Fewer p less xs = (count_by p less + 1 ≡ count_by p xs) × (length less + 1 ≡ length xs)
+
+fewer-without : {X : Type 0} (p : X → Bool) (xs : List X) → 1 ≤ count_by p xs → Fewer p (without_first p xs) xs
 fewer-without p [] some = absurd (omega arith)
-fewer-without {X} p (x ∷ xs) some = by (p x) refl
+fewer-without {X} p (x ∷ xs) some = by (p x) refl (λ there. fewer-without p xs there)
   where
-    by : (b : Bool) → p x ≡ b → (count_by p (cond b xs (x ∷ without_first p xs)) + 1 ≡ count_by p (x ∷ xs)) × (length (cond b xs (x ∷ without_first p xs)) + 1 ≡ length (x ∷ xs))
-    by true is = (omega (arith, count-cons p x xs, ap (λ (b : Bool). cond b 1 0) is), omega arith)
-    by false is =
+    by : (b : Bool) → p x ≡ b → (1 ≤ count_by p xs → Fewer p (without_first p xs) xs) → Fewer p (cond b xs (x ∷ without_first p xs)) (x ∷ xs)
+    by true is rest = (omega (arith, count-cons p x xs, ap (λ (b : Bool). cond b 1 0) is), omega arith)
+    by false is rest =
         let none = ap (λ (b : Bool). cond b 1 0) is in
-        let rest = fewer-without p xs (omega (arith, some, count-cons p x xs, none)) in
-        (omega (arith, count-cons p x xs, count-cons p x (without_first p xs), none, rest.0), omega (arith, rest.1))
+        let less = rest (omega (arith, some, count-cons p x xs, none)) in
+        (omega (arith, count-cons p x xs, count-cons p x (without_first p xs), none, less.0), omega (arith, less.1))
 
 all-rest : {X : Type 0} (P : X → Type 0) (xs : List X) → AllByRecursion P xs → AllByRecursion P (drop 1 xs)
 all-rest P [] all = tt
@@ -107,11 +110,11 @@ none-any p (x ∷ xs) none = let parts = or_parts (p x) (list_any p xs) none in 
 
 none-found : {X : Type 0} (p : X → Bool) (xs : List X) → find p xs ≡ None → AllByRecursion (λ x. p x ≡ false) xs
 none-found p [] none = tt
-none-found {X} p (x ∷ xs) none = by (p x) refl none
+none-found {X} p (x ∷ xs) none = by (p x) refl none (λ behind. none-found p xs behind)
   where
-    by : (b : Bool) → p x ≡ b → (let o : Option X = cond b (Some x) (find p xs) in o) ≡ None → AllByRecursion (λ y. p y ≡ false) (x ∷ xs)
-    by true is none = cc
-    by false is none = (is, none-found p xs none)
+    by : (b : Bool) → p x ≡ b → (let o : Option X = cond b (Some x) (find p xs) in o) ≡ None → (find p xs ≡ None → AllByRecursion (λ y. p y ≡ false) xs) → AllByRecursion (λ y. p y ≡ false) (x ∷ xs)
+    by true is none rest = cc
+    by false is none rest = (is, rest none)
 
 -- ---- a datagram begins
 same-name : (a b : Name) → same_name a b ≡ true → a ≡ b
@@ -241,48 +244,48 @@ kept-begun now f ds is fine new kept =
 -- ---- the first datagram of a name gets other fragments
 length-with : {X : Type 0} (p : X → Bool) (g : X → X) (xs : List X) → length (with_first p g xs) ≡ length xs
 length-with p g [] = refl
-length-with {X} p g (x ∷ xs) = by (p x)
+length-with {X} p g (x ∷ xs) = by (p x) (length-with p g xs)
   where
-    by : (b : Bool) → length (cond b (g x ∷ xs) (x ∷ with_first p g xs)) ≡ length (x ∷ xs)
-    by true = refl
-    by false = ap suc (length-with p g xs)
+    by : (b : Bool) → length (with_first p g xs) ≡ length xs → length (cond b (g x ∷ xs) (x ∷ with_first p g xs)) ≡ length (x ∷ xs)
+    by true rest = refl
+    by false rest = ap suc rest
 
 count-with : {X : Type 0} (q p : X → Bool) (g : X → X) → ((x : X) → q (g x) ≡ q x) → (xs : List X) → count_by q (with_first p g xs) ≡ count_by q xs
 count-with q p g same [] = refl
-count-with {X} q p g same (x ∷ xs) = by (p x)
+count-with {X} q p g same (x ∷ xs) = by (p x) (count-with q p g same xs)
   where
-    by : (b : Bool) → count_by q (cond b (g x ∷ xs) (x ∷ with_first p g xs)) ≡ count_by q (x ∷ xs)
-    by true = count-cons q (g x) xs ∙ ap (λ (c : Bool). cond c 1 0 + count_by q xs) (same x) ∙ sym (count-cons q x xs)
-    by false = count-cons q x (with_first p g xs) ∙ ap (λ (n : ℕ). cond (q x) 1 0 + n) (count-with q p g same xs) ∙ sym (count-cons q x xs)
+    by : (b : Bool) → count_by q (with_first p g xs) ≡ count_by q xs → count_by q (cond b (g x ∷ xs) (x ∷ with_first p g xs)) ≡ count_by q (x ∷ xs)
+    by true rest = count-cons q (g x) xs ∙ ap (λ (c : Bool). cond c 1 0 + count_by q xs) (same x) ∙ sym (count-cons q x xs)
+    by false rest = count-cons q x (with_first p g xs) ∙ ap (λ (n : ℕ). cond (q x) 1 0 + n) rest ∙ sym (count-cons q x xs)
 
 all-with-same : {X : Type 0} (q : X → Bool) (p : X → Bool) (g : X → X) → ((x : X) → q (g x) ≡ q x) → (xs : List X) → AllByRecursion (λ x. q x ≡ false) xs → AllByRecursion (λ x. q x ≡ false) (with_first p g xs)
 all-with-same q p g same [] all = tt
-all-with-same {X} q p g same (x ∷ xs) all = by (p x)
+all-with-same {X} q p g same (x ∷ xs) all = by (p x) (all-with-same q p g same xs all.1)
   where
-    by : (b : Bool) → AllByRecursion (λ y. q y ≡ false) (cond b (g x ∷ xs) (x ∷ with_first p g xs))
-    by true = (same x ∙ all.0, all.1)
-    by false = (all.0, all-with-same q p g same xs all.1)
+    by : (b : Bool) → AllByRecursion (λ y. q y ≡ false) (with_first p g xs) → AllByRecursion (λ y. q y ≡ false) (cond b (g x ∷ xs) (x ∷ with_first p g xs))
+    by true rest = (same x ∙ all.0, all.1)
+    by false rest = (all.0, rest)
 
 distinct-with : {X : Type 0} (e : X → X → Bool) (p : X → Bool) (g : X → X) → ((x y : X) → e x (g y) ≡ e x y) → ((x y : X) → e (g x) y ≡ e x y) → (xs : List X) → IsDistinct e xs → IsDistinct e (with_first p g xs)
 distinct-with e p g right left [] d = tt
-distinct-with {X} e p g right left (x ∷ xs) d = by (p x)
+distinct-with {X} e p g right left (x ∷ xs) d = by (p x) (distinct-with e p g right left xs d.1)
   where
     heads : (ys : List X) → AllByRecursion (λ y. e x y ≡ false) ys → AllByRecursion (λ y. e (g x) y ≡ false) ys
     heads [] all = tt
     heads (y ∷ ys) all = (left x y ∙ all.0, heads ys all.1)
 
-    by : (b : Bool) → IsDistinct e (cond b (g x ∷ xs) (x ∷ with_first p g xs))
-    by true = (heads xs d.0, d.1)
-    by false = (all-with-same (e x) p g (right x) xs d.0, distinct-with e p g right left xs d.1)
+    by : (b : Bool) → IsDistinct e (with_first p g xs) → IsDistinct e (cond b (g x ∷ xs) (x ∷ with_first p g xs))
+    by true rest = (heads xs d.0, d.1)
+    by false rest = (all-with-same (e x) p g (right x) xs d.0, rest)
 
 -- what is found is changed, and what holds of all holds of it then
 all-with : {X : Type 0} (P : X → Type 0) (p : X → Bool) (g : X → X) (xs : List X) (x : X) → find p xs ≡ Some x → AllByRecursion P xs → P (g x) → AllByRecursion P (with_first p g xs)
 all-with P p g [] x found all new = cc
-all-with {X} P p g (y ∷ xs) x found all new = by (p y) found
+all-with {X} P p g (y ∷ xs) x found all new = by (p y) found (λ there. all-with P p g xs x there all.1 new)
   where
-    by : (b : Bool) → (let o : Option X = cond b (Some y) (find p xs) in o) ≡ Some x → AllByRecursion P (cond b (g y ∷ xs) (y ∷ with_first p g xs))
-    by true here = (subst (λ (z : X). P (g z)) (sym (same_Some y x here)) new, all.1)
-    by false here = (all.0, all-with P p g xs x here all.1 new)
+    by : (b : Bool) → (let o : Option X = cond b (Some y) (find p xs) in o) ≡ Some x → (find p xs ≡ Some x → AllByRecursion P (with_first p g xs)) → AllByRecursion P (cond b (g y ∷ xs) (y ∷ with_first p g xs))
+    by true here rest = (subst (λ (z : X). P (g z)) (sym (same_Some y x here)) new, all.1)
+    by false here rest = (all.0, rest here)
 
 kept-with : (name : Name) (fragments : List (List ℕ)) (ds : List Datagram) (d : Datagram) → find (is_named name) ds ≡ Some d → IsPartial (record d { fragments = fragments }) → AreKept ds → AreKept (with_fragments name fragments ds)
 kept-with name fragments ds d found new kept =
@@ -305,35 +308,35 @@ kept-without name ds kept = record {
 -- ---- old datagrams are given up
 all-filter : {X : Type 0} (P : X → Type 0) (p : X → Bool) (xs : List X) → AllByRecursion P xs → AllByRecursion P (filter p xs)
 all-filter P p [] all = tt
-all-filter {X} P p (x ∷ xs) all = by (p x)
+all-filter {X} P p (x ∷ xs) all = by (p x) (all-filter P p xs all.1)
   where
-    by : (b : Bool) → AllByRecursion P (cond b (x ∷ filter p xs) (filter p xs))
-    by true = (all.0, all-filter P p xs all.1)
-    by false = all-filter P p xs all.1
+    by : (b : Bool) → AllByRecursion P (filter p xs) → AllByRecursion P (cond b (x ∷ filter p xs) (filter p xs))
+    by true rest = (all.0, rest)
+    by false rest = rest
 
 distinct-filter : {X : Type 0} (e : X → X → Bool) (p : X → Bool) (xs : List X) → IsDistinct e xs → IsDistinct e (filter p xs)
 distinct-filter e p [] d = tt
-distinct-filter {X} e p (x ∷ xs) d = by (p x)
+distinct-filter {X} e p (x ∷ xs) d = by (p x) (distinct-filter e p xs d.1)
   where
-    by : (b : Bool) → IsDistinct e (cond b (x ∷ filter p xs) (filter p xs))
-    by true = (all-filter (λ y. e x y ≡ false) p xs d.0, distinct-filter e p xs d.1)
-    by false = distinct-filter e p xs d.1
+    by : (b : Bool) → IsDistinct e (filter p xs) → IsDistinct e (cond b (x ∷ filter p xs) (filter p xs))
+    by true rest = (all-filter (λ y. e x y ≡ false) p xs d.0, rest)
+    by false rest = rest
 
 count-filter : {X : Type 0} (q p : X → Bool) (xs : List X) → count_by q (filter p xs) ≤ count_by q xs
 count-filter q p [] = omega arith
-count-filter {X} q p (x ∷ xs) = by (p x)
+count-filter {X} q p (x ∷ xs) = by (p x) (count-filter q p xs)
   where
-    by : (b : Bool) → count_by q (cond b (x ∷ filter p xs) (filter p xs)) ≤ count_by q (x ∷ xs)
-    by true = omega (arith, count-cons q x xs, count-cons q x (filter p xs), count-filter q p xs)
-    by false = omega (arith, count-cons q x xs, count-filter q p xs)
+    by : (b : Bool) → count_by q (filter p xs) ≤ count_by q xs → count_by q (cond b (x ∷ filter p xs) (filter p xs)) ≤ count_by q (x ∷ xs)
+    by true rest = omega (arith, count-cons q x xs, count-cons q x (filter p xs), rest)
+    by false rest = omega (arith, count-cons q x xs, rest)
 
 length-filtered : {X : Type 0} (p : X → Bool) (xs : List X) → length (filter p xs) ≤ length xs
 length-filtered p [] = omega arith
-length-filtered {X} p (x ∷ xs) = by (p x)
+length-filtered {X} p (x ∷ xs) = by (p x) (length-filtered p xs)
   where
-    by : (b : Bool) → length (cond b (x ∷ filter p xs) (filter p xs)) ≤ length (x ∷ xs)
-    by true = omega (arith, length-filtered p xs)
-    by false = omega (arith, length-filtered p xs)
+    by : (b : Bool) → length (filter p xs) ≤ length xs → length (cond b (x ∷ filter p xs) (filter p xs)) ≤ length (x ∷ xs)
+    by true rest = omega (arith, rest)
+    by false rest = omega (arith, rest)
 
 pub kept-young : (now : ℕ) (ds : List Datagram) → AreKept ds → AreKept (dropped_old now ds)
 kept-young now ds kept = record {

@@ -29,21 +29,22 @@ among-to (g ∷ fs) f (inr there) =
 
 pub found-among : (p : List ℕ → Bool) (fs : List (List ℕ)) (x : List ℕ) → find p fs ≡ Some x → IsAmong x fs × (p x ≡ true)
 found-among p [] x found = cc
-found-among p (f ∷ fs) x found = by (p f) refl found
+found-among p (f ∷ fs) x found = by (p f) refl found (λ there. found-among p fs x there)
   where
-    by : (b : Bool) → p f ≡ b → (let o : Option (List ℕ) = cond b (Some f) (find p fs) in o) ≡ Some x → IsAmong x (f ∷ fs) × (p x ≡ true)
-    by true is here = let same : f ≡ x = same_Some f x here in (inl same, ap p (sym same) ∙ is)
-    by false is here = let known = found-among p fs x here in (inr known.0, known.1)
+    by : (b : Bool) → p f ≡ b → (let o : Option (List ℕ) = cond b (Some f) (find p fs) in o) ≡ Some x → (find p fs ≡ Some x → IsAmong x fs × (p x ≡ true)) → IsAmong x (f ∷ fs) × (p x ≡ true)
+    by true is here rest = let same : f ≡ x = same_Some f x here in (inl same, ap p (sym same) ∙ is)
+    by false is here rest = let known = rest here in (inr known.0, known.1)
 
 -- one that passes is found
 among-found : (p : List ℕ → Bool) (fs : List (List ℕ)) (x : List ℕ) → IsAmong x fs → p x ≡ true → (y : List ℕ) × (find p fs ≡ Some y)
 among-found p [] x there is = absurd there
-among-found p (f ∷ fs) x there is = by (p f) refl there
+among-found p (f ∷ fs) x there is = by (p f) refl there (λ behind. among-found p fs x behind is)
   where
-    by : (b : Bool) → p f ≡ b → (f ≡ x) ⊎ IsAmong x fs → (y : List ℕ) × ((let o : Option (List ℕ) = cond b (Some f) (find p fs) in o) ≡ Some y)
-    by true here _ = (f, refl)
-    by false isnt (inl same) = let bad : true ≡ false = sym is ∙ (ap p (sym same) ∙ isnt) in absurd (cc)
-    by false isnt (inr behind) = among-found p fs x behind is
+    by : (b : Bool) → p f ≡ b → (f ≡ x) ⊎ IsAmong x fs → (IsAmong x fs → (y : List ℕ) × (find p fs ≡ Some y))
+        → (y : List ℕ) × ((let o : Option (List ℕ) = cond b (Some f) (find p fs) in o) ≡ Some y)
+    by true here _ rest = (f, refl)
+    by false isnt (inl same) rest = let bad : true ≡ false = sym is ∙ (ap p (sym same) ∙ isnt) in absurd (cc)
+    by false isnt (inr behind) rest = rest behind
 
 among-all : (P : List ℕ → Type 0) (fs : List (List ℕ)) (x : List ℕ) → AllByRecursion P fs → IsAmong x fs → P x
 among-all P [] x all there = absurd there
@@ -58,16 +59,17 @@ among-any p (f ∷ fs) x (inr behind) is = or_right (p f) (list_any p fs) (among
 -- where just one passes, another that passes is that one
 only-one : (p : List ℕ → Bool) (fs : List (List ℕ)) (x y : List ℕ) → count_by p fs ≡ 1 → find p fs ≡ Some x → IsAmong y fs → p y ≡ true → y ≡ x
 only-one p [] x y one found there is = absurd there
-only-one p (f ∷ fs) x y one found there is = by (p f) refl found there
+only-one p (f ∷ fs) x y one found there is = by (p f) refl found there (λ alone first behind. only-one p fs x y alone first behind is)
   where
-    by : (b : Bool) → p f ≡ b → (let o : Option (List ℕ) = cond b (Some f) (find p fs) in o) ≡ Some x → (f ≡ y) ⊎ IsAmong y fs → y ≡ x
-    by true here found_here (inl same) = sym same ∙ same_Some f x found_here
-    by true here found_here (inr behind) =
+    by : (b : Bool) → p f ≡ b → (let o : Option (List ℕ) = cond b (Some f) (find p fs) in o) ≡ Some x → (f ≡ y) ⊎ IsAmong y fs
+        → (count_by p fs ≡ 1 → find p fs ≡ Some x → IsAmong y fs → y ≡ x) → y ≡ x
+    by true here found_here (inl same) rest = sym same ∙ same_Some f x found_here
+    by true here found_here (inr behind) rest =
         let none = none-of p fs (omega (arith, one, count-cons p f fs, ap (λ (c : Bool). cond c 1 0) here)) in
         let not : p y ≡ false = among-all (λ g. p g ≡ false) fs y none behind in
         let bad : true ≡ false = sym is ∙ not in absurd (cc)
-    by false here found_here (inl same) = let bad : true ≡ false = sym is ∙ (ap p (sym same) ∙ here) in absurd (cc)
-    by false here found_here (inr behind) = only-one p fs x y (omega (arith, one, count-cons p f fs, ap (λ (c : Bool). cond c 1 0) here)) found_here behind is
+    by false here found_here (inl same) rest = let bad : true ≡ false = sym is ∙ (ap p (sym same) ∙ here) in absurd (cc)
+    by false here found_here (inr behind) rest = rest (omega (arith, one, count-cons p f fs, ap (λ (c : Bool). cond c 1 0) here)) found_here behind
 
 -- the same items, each any number of times
 abbrev pub AreSame : List (List ℕ) → List (List ℕ) → Type 0

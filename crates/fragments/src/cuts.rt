@@ -95,9 +95,9 @@ impl<'a> Cut<'a> {
         self.packet.total_length().saturating_sub(self.place(k)) <= usize::from(self.mtu)
     }
 
-    /// Returns the payload of the k-th fragment.
+    /// Returns the k-th fragment's share of the payload.
     #[tactic(auto, unfolding(crate::specs::Cut::piece_payload))]
-    fn payload(&self, k: usize) -> &'a [u8]
+    fn share(&self, k: usize) -> &'a [u8]
         requires { k < piece_count self.now.mtu self.now.packet.bytes.now }
         ensures bytes { result.now
             ≡ piece_payload self.now.mtu self.now.packet.bytes.now k }
@@ -129,7 +129,7 @@ impl<'a> Cut<'a> {
         ensures { result
             ≡ piece_fields self.now.mtu identification self.now.packet.bytes.now k }
     {
-        let total = self.packet.header_length() + self.payload(k).len();
+        let total = self.packet.header_length() + self.share(k).len();
         let offset = self.place(k) / 8;
         Fields {
             service: self.packet.type_of_service(),
@@ -190,8 +190,8 @@ pub fn append_piece(list: &mut Vec<u8>, frame: &[u8], mtu: u16, identification: 
     ensures capacity { vec_capacity list.old ≤ vec_capacity list.new }
 {
     let cut = Cut::of(EthView { bytes: frame }.body(), mtu);
-    let payload = cut.payload(k);
+    let share = cut.share(k);
     append_reserved(list, &frame[..ETHERNET]);
     append_header(list, &cut.packet, cut.fields(identification, k), k);
-    append_reserved(list, payload);
+    append_reserved(list, share);
 }
