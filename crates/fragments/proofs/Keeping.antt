@@ -117,7 +117,7 @@ none-found {X} p (x ∷ xs) none = by (p x) refl none (λ behind. none-found p x
     by false is none rest = (is, rest none)
 
 -- ---- a datagram begins
-same-name : (a b : Name) → same_name a b ≡ true → a ≡ b
+pub same-name : (a b : Name) → same_name a b ≡ true → a ≡ b
 unfolding same_name
 same-name a b same =
     let five = and_parts _ (a.identification == b.identification) same in
@@ -346,6 +346,17 @@ kept-young now ds kept = record {
   each = all-filter IsPartial (is_young now) ds kept.each;
 }
 
+all-pass : {X : Type 0} (p : X → Bool) (xs : List X) → AllByRecursion (λ x. p x ≡ true) (filter p xs)
+all-pass p [] = tt
+all-pass {X} p (x ∷ xs) = by (p x) refl (all-pass p xs)
+  where
+    by : (b : Bool) → p x ≡ b → AllByRecursion (λ y. p y ≡ true) (filter p xs) → AllByRecursion (λ y. p y ≡ true) (cond b (x ∷ filter p xs) (filter p xs))
+    by true is rest = (is, rest)
+    by false isnt rest = rest
+
+pub all-young : (now : ℕ) (ds : List Datagram) → AllByRecursion (λ d. is_young now d ≡ true) (dropped_old now ds)
+all-young now ds = all-pass (is_young now) ds
+
 pub kept-none : AreKept []
 kept-none = record { few = omega arith; sources = λ s. omega arith; distinct = tt; each = tt }
 
@@ -391,6 +402,10 @@ apart-more there f apart new = apart-push there f apart new.apart
 
 pub each-more : (name : Name) (there : List (List ℕ)) (f : List ℕ) → AllByRecursion (IsOf name) there → IsOf name f → AllByRecursion (IsOf name) (there ++ f ∷ [])
 each-more name there f each new = all-push (IsOf name) there f each new
+
+pub unbroken-each : (name : Name) (fs : List (List ℕ)) → AllByRecursion (IsOf name) fs → AllByRecursion (λ f. is_broken f ≡ false) fs
+unbroken-each name [] all = tt
+unbroken-each name (f ∷ fs) all = (all.0.unbroken, unbroken-each name fs all.1)
 
 kept-taken : (now : ℕ) (f : List ℕ) (ds : List Datagram) → IsFragment f → is_broken f ≡ false → AreKept ds → AreKept (arrived now f (find (is_named (name_of f)) ds) ds).left
 kept-taken now f ds is fine kept = at (find (is_named (name_of f)) ds) refl

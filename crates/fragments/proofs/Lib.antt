@@ -1,7 +1,9 @@
 mod Counting
 mod Filling
+mod Grammar
 mod Keeping
 mod Later
+mod Making
 mod Orders
 mod Placing
 mod Sizes

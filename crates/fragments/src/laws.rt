@@ -1,13 +1,13 @@
 //! Facts about the definitions: which fragments make a whole, that what was cut makes the packet again, and what stays
 //! within its bounds.
-ghost use Rattle.std.specs.Prelude.{◌≡◌, ◌≤◌, ◌<◌, ◌↔◌, ◌+◌, ◌^◌, ℕ, List, None, Some, false, true, length, take, drop, slice_index};
+ghost use Rattle.std.specs.Prelude.{◌≡◌, ◌≤◌, ◌<◌, ◌↔◌, ◌+◌, ℕ, List, [], Some, false, true, length};
 ghost use Rattle.std.specs.List.{AllByRecursion, Contains};
-ghost use Rattle.sums.specs.Sum.{IsRight};
 ghost use Rattle.ipv4.specs.Header.{header_of, ipv4_refusal, is_fragment};
 ghost use Rattle.ipv4.specs.declared.faults.Ipv4Fault.TheVariants.{Fragment};
-ghost use Rattle.fragments.specs.Fragment.{HasHeader, IsFragment, ipv4_in, is_broken};
-ghost use Rattle.fragments.specs.Whole.{IsComplete, is_whole, reassembled};
-ghost use Rattle.fragments.specs.Gathered.{AreApart, AreKept, Datagram as Partial, dropped_old, is_young, taken};
+ghost use Rattle.fragments.specs.Fragment.{HasHeader, IsFragment, ipv4_in, is_broken, trimmed};
+ghost use Rattle.fragments.specs.Name.{name_of};
+ghost use Rattle.fragments.specs.Whole.{IsComplete, IsReady, is_whole, reassembled};
+ghost use Rattle.fragments.specs.Gathered.{AreApart, AreKept, IsOf, Datagram as Partial, dropped_old, is_young, taken};
 ghost use Rattle.fragments.specs.declared.gatherings.Came.TheVariants.{Whole};
 ghost use Rattle.fragments.specs.Cut.{IsIpv4Frame, IsMtu, cut, identified, piece, piece_count};
 
@@ -30,4 +30,29 @@ pub fn order_law()
     ensures { (fragments others : List (List ℕ)) → IsComplete fragments
         → ((f : List ℕ) → Contains fragments f ↔ Contains others f)
         → reassembled others ≡ reassembled fragments }
+{}
+
+/// At a side at most 64 datagrams are there, of one source at most 16, no two of one name, each of at most 64 fragments
+/// of that name, and none of them whole: so it begins, and so it stays, whatever fragments come.
+pub fn kept_law()
+    ensures none { AreKept [] }
+    ensures taken { (now : ℕ) (frame : List ℕ) (datagrams : List Partial) → IsFragment frame
+        → AreKept datagrams → AreKept (taken now frame datagrams).left }
+    ensures dropped { (now : ℕ) (datagrams : List Partial) → AreKept datagrams
+        → AreKept (dropped_old now datagrams) }
+{}
+
+/// After a tick no datagram is there that began 300 centiseconds ago or earlier.
+pub fn drop_law()
+    ensures { (now : ℕ) (datagrams : List Partial)
+        → AllByRecursion (λ d. is_young now d ≡ true) (dropped_old now datagrams) }
+{}
+
+/// What a fragment makes whole is made of complete fragments of its name that don't contradict each other.
+pub fn whole_law()
+    ensures { (now : ℕ) (frame : List ℕ) (datagrams : List Partial) → IsFragment frame
+        → AreKept datagrams → (taken now frame datagrams).came ≡ Whole
+        → (fragments : List (List ℕ)) × IsReady fragments × AreApart fragments
+        × AllByRecursion (IsOf (name_of (trimmed frame))) fragments
+        × ((taken now frame datagrams).made ≡ Some (reassembled fragments)) }
 {}
