@@ -8,10 +8,9 @@ ghost use Rattle.packet_rules.specs.Asked.{IsAskable, IsWhole, asked_of, is_aske
 ghost use Rattle.packet_rules.specs.Own.{answer_frame, answer_packet, own_frame};
 
 use crate::Asked;
-use crate::appending::append_reserved;
 use crate::networks::{Network, is_to_virtual};
 use addresses::Mac;
-use frames::{EthView, EtherType, write_header};
+use frames::{EthView, EtherType, append_reserved, write_header};
 use icmp::AskView;
 use ipv4::Ipv4View;
 

@@ -9,10 +9,10 @@ ghost use Rattle.packet_rules.specs.Own.{complaint_about, complaint_frame, compl
 
 use crate::Reason;
 use crate::answering::{is_broadcast, may_answer, mtu_at};
-use crate::appending::append_reserved;
 use crate::asking::{own_header, packet_of};
 use crate::networks::{Direction, Network, Networks, is_martian};
 use addresses::{Ip, Mac};
+use frames::append_reserved;
 use ipv4::Ipv4View;
 use nat_types::Side;
 

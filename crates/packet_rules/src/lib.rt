@@ -4,7 +4,6 @@
 
 mod adverts;
 mod answering;
-mod appending;
 mod arping;
 mod asking;
 mod complaints;
