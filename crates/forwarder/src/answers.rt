@@ -196,6 +196,7 @@ impl Forwarder {
         ensures link { self.new.link ≡ self.old.link }
         ensures spends { Spends (frames_alone 2) self.old page.old self.new page.new }
     {
+        limits_law();
         match self.plan_reply(side, echo) {
             Ok(Reply::Send { next }) => {
                 self.reply(page, side, bytes, echo.source, next);

@@ -183,6 +183,7 @@ impl Forwarder {
         ensures link { self.new.link ≡ self.old.link }
         ensures spends { Spends (frames_alone 2) self.old page.old self.new page.new }
     {
+        limits_law();
         match self.plan_error(side, packet) {
             Ok(Plan::Send { by, next }) => {
                 self.pass(page, bytes, packet, by, next);

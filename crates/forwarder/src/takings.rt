@@ -15,7 +15,7 @@ use crate::Forwarder;
 use ipv4::Packet;
 use nat_types::{NoMemory, Side};
 use output::OutputBuffer;
-use packet_rules::{Reading, Reason};
+use packet_rules::{Reading, Reason, limits_law};
 use spec_step::{Outcome, Plan};
 use std::alloc::Global;
 use waiting::{Ended, HeldPacket, WaitsFor};
@@ -74,6 +74,7 @@ impl Forwarder {
         ensures spends { Spends a_packet self.old page.old self.new page.new }
         ensures places { LeavesPlaces self.old self.new }
     {
+        limits_law();
         recall_source(bytes, packet);
         match self.plan(side, packet) {
             Ok(Plan::Send { by, next }) => {
