@@ -77,10 +77,14 @@ most_pairs = all_for_pairs.pairs + (records_need RECORDS_IN_A_DATAGRAM).pairs
 abbrev pub most_on_a_page : ℕ
 most_on_a_page = 4096
 
+-- the most octets of packets that wait
+abbrev pub most_octets : ℕ
+most_octets = 8196480
+
 -- the most entries that a table has
 abbrev pub most_entries : ℕ
 most_entries = 1000000
 
 -- the capacity of a page for this need, and for the datagram at the end
 abbrev pub room_for : Needs → Room
-room_for needs = record { frames = needs.frames; datagrams = 1; notes = needs.notes }
+room_for needs = record { frames = needs.frames; octets = 0; datagrams = 1; notes = needs.notes }

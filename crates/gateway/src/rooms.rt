@@ -5,7 +5,7 @@ ghost use Rattle.forwarder.specs.Forwarder.{scene_on};
 ghost use Rattle.gateway.specs.Lacks.{WasUnlisted, WasUnready};
 ghost use Rattle.gateway.specs.Rooms.{apart_needs, restart_needs, room_for, tick_needs};
 ghost use Rattle.gateway.specs.Rooms.{waiting_needs};
-ghost use Rattle.gateway.specs.Rooms.{most_entries, most_on_a_page, most_pairs};
+ghost use Rattle.gateway.specs.Rooms.{most_entries, most_octets, most_on_a_page, most_pairs};
 
 use crate::NoMemory;
 use addresses::{Ip, Port, Protocol};
@@ -61,6 +61,7 @@ const ENDPOINTS: [Endpoint; MOST_PAIRS] = [ANY_ENDPOINT; MOST_PAIRS];
 /// The capacity for the datagram at the end alone.
 pub(crate) const END_ROOM: Room = Room {
     frames: 0,
+    octets: 0,
     datagrams: 1,
     notes: 0,
 };
@@ -68,6 +69,7 @@ pub(crate) const END_ROOM: Room = Room {
 /// The capacity for a frame that is taken: an answer, and a packet.
 pub(crate) const FRAME_ROOM: Room = Room {
     frames: 1 + PACKET_FRAMES,
+    octets: 0,
     datagrams: 1,
     notes: PACKET_NOTES,
 };
@@ -75,6 +77,7 @@ pub(crate) const FRAME_ROOM: Room = Room {
 /// The capacity for a packet whose time to live is over: an error, and an ARP request after it.
 pub(crate) const OVER_ROOM: Room = Room {
     frames: PACKET_FRAMES,
+    octets: 0,
     datagrams: 1,
     notes: 0,
 };
@@ -82,6 +85,7 @@ pub(crate) const OVER_ROOM: Room = Room {
 /// The capacity for a datagram that can't begin a new session: that of its records.
 pub(crate) const RECORDS_ROOM: Room = Room {
     frames: RECORD_FRAMES,
+    octets: 0,
     datagrams: 1,
     notes: RECORD_NOTES,
 };
@@ -89,6 +93,7 @@ pub(crate) const RECORDS_ROOM: Room = Room {
 /// The capacity for the stop of both routers.
 pub(crate) const STOP_ROOM: Room = Room {
     frames: ROUTER_FRAMES,
+    octets: 0,
     datagrams: 1,
     notes: 0,
 };
@@ -100,6 +105,7 @@ pub(crate) fn tick_room(forwarder: &Forwarder) -> Room
 {
     Room {
         frames: 2 * ROUTER_FRAMES,
+        octets: 0,
         datagrams: 1,
         notes: entry_count(forwarder) + 1,
     }
@@ -112,6 +118,7 @@ pub(crate) fn apart_room(forwarder: &Forwarder) -> Room
 {
     Room {
         frames: 2 * ROUTER_FRAMES + WAITING_FRAMES,
+        octets: 0,
         datagrams: 1,
         notes: entry_count(forwarder) + 1 + WAITING_NOTES,
     }
@@ -124,6 +131,7 @@ pub(crate) fn word_room(forwarder: &Forwarder) -> Room
 {
     Room {
         frames: WAITING_FRAMES,
+        octets: 0,
         datagrams: 1,
         notes: entry_count(forwarder) + WAITING_NOTES,
     }
@@ -136,6 +144,7 @@ pub(crate) fn restart_room(forwarder: &Forwarder) -> Room
 {
     Room {
         frames: WAITING_FRAMES + RECORD_FRAMES,
+        octets: 0,
         datagrams: 1,
         notes: entry_count(forwarder) + WAITING_NOTES + RECORD_NOTES,
     }
@@ -161,6 +170,7 @@ pub(crate) fn make_ready(
     pairs: usize,
 ) -> Result<(), NoMemory>
     requires frames { room.frames ≤ most_on_a_page }
+    requires octets { room.octets ≤ most_octets }
     requires datagrams { room.datagrams ≤ most_on_a_page }
     requires pairs { pairs ≤ most_pairs }
     ensures scene { scene_on forwarder.new page.new ≡ scene_on forwarder.old page.old }
