@@ -50,32 +50,32 @@ pub reply-made : {made wanted : Result Reply Reason} {found plan : Reply} → ma
 reply-made is field made = sym made ∙ is ∙ ap (λ (p : Reply). let r : Result Reply Reason = Ok p in r) field
 
 -- the outcome of a packet is that of its plan
-pub taken-as : (s : GatewayAndOutput) (side : Side) (bytes : List ℕ) (packet : Packet) (plan : Result Plan Reason) → packet ≡ packet_in bytes → plan ≡ plan_of s.shown side packet.flow packet.length
+pub taken-as : (s : GatewayAndOutput) (side : Side) (bytes : List ℕ) (packet : Packet) (plan : Result Plan Reason) → packet ≡ packet_in bytes → plan ≡ plan_of s.shown side packet.flow packet.size
     → by_verdict s side bytes packet.flow plan ≡ flow_taken s side bytes packet.flow
-taken-as s side bytes packet plan read is = ap (by_verdict s side bytes packet.flow) (is ∙ ap (λ (p : Packet). plan_of s.shown side packet.flow p.length) read)
+taken-as s side bytes packet plan read is = ap (by_verdict s side bytes packet.flow) (is ∙ ap (λ (p : Packet). plan_of s.shown side packet.flow p.size) read)
 
-pub error-taken-as : (s : GatewayAndOutput) (side : Side) (bytes : List ℕ) (packet : ErrorPacket) (plan : Result Plan Reason) → packet ≡ error_in bytes → plan ≡ error_plan s.shown side packet.flow packet.length
+pub error-taken-as : (s : GatewayAndOutput) (side : Side) (bytes : List ℕ) (packet : ErrorPacket) (plan : Result Plan Reason) → packet ≡ error_in bytes → plan ≡ error_plan s.shown side packet.flow packet.size
     → by_error_verdict s side bytes packet.flow plan ≡ error_taken s side bytes packet.flow
-error-taken-as s side bytes packet plan read is = ap (by_error_verdict s side bytes packet.flow) (is ∙ ap (λ (p : ErrorPacket). error_plan s.shown side packet.flow p.length) read)
+error-taken-as s side bytes packet plan read is = ap (by_error_verdict s side bytes packet.flow) (is ∙ ap (λ (p : ErrorPacket). error_plan s.shown side packet.flow p.size) read)
 
 pub echo-taken-as : (s : GatewayAndOutput) (side : Side) (bytes : List ℕ) (echo : Echo) (plan : Result Reply Reason) → plan ≡ reply_to s.shown side echo → by_reply_verdict s side bytes echo.source plan ≡ echo_taken s side bytes echo
 echo-taken-as s side bytes echo plan is = ap (by_reply_verdict s side bytes echo.source) is
 
 -- ---- of a kept packet, whose side and bytes were read of it
 
-pub again-as : (s : GatewayAndOutput) (w : HeldPacket) (side : Side) (bytes : List ℕ) (packet : Packet) (plan : Result Plan Reason) → side ≡ w.side → bytes ≡ w.bytes → packet ≡ packet_in w.bytes → plan ≡ plan_of s.shown side packet.flow packet.length
+pub again-as : (s : GatewayAndOutput) (w : HeldPacket) (side : Side) (bytes : List ℕ) (packet : Packet) (plan : Result Plan Reason) → side ≡ w.side → bytes ≡ w.bytes → packet ≡ packet_in w.bytes → plan ≡ plan_of s.shown side packet.flow packet.size
     → by_verdict s side bytes packet.flow plan ≡ flow_taken s w.side w.bytes packet.flow
 again-as s w side bytes packet plan from copied read is =
     ap (λ (x : Side). by_verdict s x bytes packet.flow plan) from
     ∙ ap (λ (bs : List ℕ). by_verdict s w.side bs packet.flow plan) copied
-    ∙ taken-as s w.side w.bytes packet plan read (is ∙ ap (λ (x : Side). plan_of s.shown x packet.flow packet.length) from)
+    ∙ taken-as s w.side w.bytes packet plan read (is ∙ ap (λ (x : Side). plan_of s.shown x packet.flow packet.size) from)
 
-pub error-again-as : (s : GatewayAndOutput) (w : HeldPacket) (side : Side) (bytes : List ℕ) (packet : ErrorPacket) (plan : Result Plan Reason) → side ≡ w.side → bytes ≡ w.bytes → packet ≡ error_in w.bytes → plan ≡ error_plan s.shown side packet.flow packet.length
+pub error-again-as : (s : GatewayAndOutput) (w : HeldPacket) (side : Side) (bytes : List ℕ) (packet : ErrorPacket) (plan : Result Plan Reason) → side ≡ w.side → bytes ≡ w.bytes → packet ≡ error_in w.bytes → plan ≡ error_plan s.shown side packet.flow packet.size
     → by_error_verdict s side bytes packet.flow plan ≡ error_taken s w.side w.bytes packet.flow
 error-again-as s w side bytes packet plan from copied read is =
     ap (λ (x : Side). by_error_verdict s x bytes packet.flow plan) from
     ∙ ap (λ (bs : List ℕ). by_error_verdict s w.side bs packet.flow plan) copied
-    ∙ error-taken-as s w.side w.bytes packet plan read (is ∙ ap (λ (x : Side). error_plan s.shown x packet.flow packet.length) from)
+    ∙ error-taken-as s w.side w.bytes packet plan read (is ∙ ap (λ (x : Side). error_plan s.shown x packet.flow packet.size) from)
 
 pub echo-again-as : (s : GatewayAndOutput) (w : HeldPacket) (side : Side) (bytes : List ℕ) (echo : Echo) (plan : Result Reply Reason) → side ≡ w.side → bytes ≡ w.bytes → plan ≡ reply_to s.shown side echo
     → by_reply_verdict s side bytes echo.source plan ≡ echo_taken s w.side w.bytes echo

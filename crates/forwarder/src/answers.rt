@@ -57,7 +57,7 @@ impl Forwarder {
             Err(Reason::TooMany)
         } else {
             let reply = self.reply_via(side, echo.source);
-            if_reply_fits(self.fits_at(side, echo.length), reply)
+            if_reply_fits(self.fits_at(side, echo.size), reply)
         }
     }
 

@@ -33,11 +33,11 @@ use waiting::{HeldPacket, WaitsFor};
 impl Forwarder {
     /// Returns the plan of an error, or why it is dropped. Nothing changes.
     fn plan_error(&self, side: Side, packet: ErrorPacket) -> Result<Plan, Reason>
-        ensures { result ≡ error_plan (shown_of self.now) side packet.flow packet.length }
+        ensures { result ≡ error_plan (shown_of self.now) side packet.flow packet.size }
     {
         match error_direction(&self.networks, side, packet.flow) {
             Ok(way) => match self.plan_error_on(packet.flow, way) {
-                Ok(plan) => if_fits(self.fits_at(way.exit(), packet.length), plan),
+                Ok(plan) => if_fits(self.fits_at(way.exit(), packet.size), plan),
                 Err(reason) => Err(reason),
             },
             Err(reason) => Err(reason),
@@ -172,12 +172,12 @@ impl Forwarder {
         requires read { packet ≡ error_in bytes.now }
         requires room { HasRoomFor (frames_alone 2) self.old page.old }
         ensures outcome { IfOk result (λ o. o
-            ≡ outcome_by (error_plan (shown_of self.old) side packet.flow packet.length)) }
+            ≡ outcome_by (error_plan (shown_of self.old) side packet.flow packet.size)) }
         ensures scene { OnOk result (scene_on self.new page.new
             ≡ error_taken (scene_on self.old page.old) side bytes.now packet.flow) }
         ensures err { OnErr result (scene_on self.new page.new ≡ scene_on self.old page.old) }
         ensures waits { OnErr result
-            (outcome_by (error_plan (shown_of self.old) side packet.flow packet.length)
+            (outcome_by (error_plan (shown_of self.old) side packet.flow packet.size)
             ≡ Waiting) }
         ensures refused { OnErr result (LacksCopy (length bytes.now)) }
         ensures link { self.new.link ≡ self.old.link }

@@ -63,12 +63,12 @@ impl Forwarder {
         requires read { packet ≡ packet_in bytes.now }
         requires room { HasRoomFor a_packet self.old page.old }
         ensures outcome { IfOk result (λ o. o
-            ≡ outcome_by (plan_of (shown_of self.old) side packet.flow packet.length)) }
+            ≡ outcome_by (plan_of (shown_of self.old) side packet.flow packet.size)) }
         ensures scene { OnOk result (scene_on self.new page.new
             ≡ flow_taken (scene_on self.old page.old) side bytes.now packet.flow) }
         ensures err { OnErr result (scene_on self.new page.new ≡ scene_on self.old page.old) }
         ensures waits { OnErr result
-            (outcome_by (plan_of (shown_of self.old) side packet.flow packet.length)
+            (outcome_by (plan_of (shown_of self.old) side packet.flow packet.size)
             ≡ Waiting) }
         ensures refused { OnErr result (LacksCopy (length bytes.now)) }
         ensures spends { Spends a_packet self.old page.old self.new page.new }

@@ -12,7 +12,7 @@ use crate::networks::{Network, is_to_virtual};
 use addresses::Mac;
 use frames::{EthView, EtherType, append_reserved, write_header};
 use icmp::AskView;
-use ipv4::Ipv4View;
+use ipv4::{Ipv4View, Size};
 
 /// Whether a packet is for the gateway itself, by the address and the hardware address that it goes to.
 #[tactic(auto, unfolding(crate::specs::Asked::is_to_box))]
@@ -62,7 +62,10 @@ pub(crate) fn asked(packet: &Ipv4View<'_>) -> Asked
     Asked {
         source: packet.source(),
         destination: packet.destination(),
-        length: 20 + packet.payload().len(),
+        size: Size {
+            length: 20 + packet.payload().len(),
+            unbroken: packet.is_unbroken(),
+        },
     }
 }
 

@@ -3,7 +3,7 @@
 ghost use Rattle.std.specs.Prelude.{◌≡◌, ◌≤◌, ◌+◌, ◌++◌, slice_index, vec_len, vec_capacity};
 ghost use Rattle.frames.specs.Frame.{frame_of};
 ghost use Rattle.packet_rules.specs.Asked.{IsWhole};
-ghost use Rattle.packet_rules.specs.Own.{complaint_about, complaint_frame, complaint_of, complaint_packet, exit_for, is_any_error, is_told, is_to_host, is_unbroken, own_frame};
+ghost use Rattle.packet_rules.specs.Own.{complaint_about, complaint_frame, complaint_of, complaint_packet, exit_for, is_any_error, is_told, is_to_host, own_frame};
 
 use crate::Reason;
 use crate::answering::{is_broadcast, may_answer, mtu_at};
@@ -67,14 +67,6 @@ fn is_told(networks: &Networks, side: Side, packet: &Ipv4View<'_>) -> bool
         && is_to_host(networks, packet.destination())
 }
 
-/// Whether a packet has the flag Don't Fragment.
-#[tactic(auto, unfolding(crate::specs::Own::is_unbroken))]
-fn is_unbroken(packet: &Ipv4View<'_>) -> bool
-    ensures { result ≡ is_unbroken packet.now.bytes.now }
-{
-    packet.flags_word() / 0x4000 % 2 == 1
-}
-
 #[tactic(auto, unfolding(crate::specs::Own::complaint_about))]
 fn complaint_about(mtu: u16, reason: Reason, packet: &Ipv4View<'_>) -> Option<Complaint>
     ensures { result ≡ complaint_about mtu reason packet.now.bytes.now }
@@ -82,7 +74,7 @@ fn complaint_about(mtu: u16, reason: Reason, packet: &Ipv4View<'_>) -> Option<Co
     match reason {
         Reason::TtlOver => Some(Complaint::Exceeded),
         Reason::TooLong => {
-            if is_unbroken(packet) {
+            if packet.is_unbroken() {
                 Some(Complaint::TooBig(mtu))
             } else {
                 None

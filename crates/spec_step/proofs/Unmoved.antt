@@ -52,7 +52,7 @@ use Rattle.spec_step.specs.declared.plans.Plan.TheVariants.{Wait as WaitFor}
 use Rattle.spec_step.specs.Apart.{IsUnmoved}
 use Rattle.spec_step.specs.GivingWay.{GivingWay, left, turn_of}
 use Rattle.spec_step.specs.Machine.{AreBytes, HasBytes, KeepsBytes}
-use Rattle.spec_step.specs.Parts.{acted, all_framed, all_idle_done, all_sought_done, alone_taken, answered_by, arp_taken, by_plan, by_row, carried_by, datagram_in, datagram_read, framed, frames_of, gone_alone, handed_in, has_synced, heard_by, heard_unless, idle_done, idle_taken, keeping, length_in, link_answered, link_ticked, old_dropped, peer_told, record_done, record_shown, record_told, records_done, released, reset, sought_done, started, wait_ended, wanted_by, with_link, word_taken}
+use Rattle.spec_step.specs.Parts.{acted, all_framed, all_idle_done, all_sought_done, alone_taken, answered_by, arp_taken, by_plan, by_row, carried_by, datagram_in, datagram_read, framed, frames_of, gone_alone, handed_in, has_synced, heard_by, heard_unless, idle_done, idle_taken, keeping, size_in, link_answered, link_ticked, old_dropped, peer_told, record_done, record_shown, record_told, records_done, released, reset, sought_done, started, wait_ended, wanted_by, with_link, word_taken}
 use Rattle.spec_step.specs.Routers.{BothAct, RouterActs}
 use Rattle.spec_step.specs.Shown.{GatewayAndOutput, Shown, id_of, is_apart, is_running, scene, station_on, with_notes, with_station}
 use Rattle.spec_step.specs.Steps.{Does, FrameDoes, IsStepOn, ended_on, stopped, ticked, word_by, word_refusal}
@@ -172,10 +172,10 @@ carried-moves s k p =
     let g = s.shown in
     noted-moves s (carried_ledger k p g.ledger) g.link (noted_by (id_of g) g.moment (carry_row g.ledger.book k).what) (λ is. is) (λ t. t) refl (λ x q is t q_is. inl q_is)
 
-waits-moves : (s : GatewayAndOutput) (side : Side) (bytes : List ℕ) (flow : Flow) (e : Endpoint) → AreBytes bytes → IsWellFormedEndpoint (source_of flow) → plan_of s.shown side flow (length_in bytes) ≡ Ok (WaitFor e) → Unmoving s (by_plan s side bytes flow (WaitFor e))
+waits-moves : (s : GatewayAndOutput) (side : Side) (bytes : List ℕ) (flow : Flow) (e : Endpoint) → AreBytes bytes → IsWellFormedEndpoint (source_of flow) → plan_of s.shown side flow (size_in bytes) ≡ Ok (WaitFor e) → Unmoving s (by_plan s side bytes flow (WaitFor e))
 waits-moves s side bytes flow e are formed is =
     let one = wanted_by s e in
-    let fits : IsWellFormedEndpoint e = subst PlanFits is (plan-fits s.shown side flow (length_in bytes) formed) in
+    let fits : IsWellFormedEndpoint e = subst PlanFits is (plan-fits s.shown side flow (size_in bytes) formed) in
     unmoving-then s one (by_plan s side bytes flow (WaitFor e)) (wanted-moves s e fits)
     (still-moves one (keeping one side bytes (wait.Pair e)) refl refl refl (λ k. kept-more _ _ k are))
 

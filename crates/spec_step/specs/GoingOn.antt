@@ -54,7 +54,7 @@ pub record MayGoOn (g : Shown) (side : Side) (bytes : List ℕ) (by : Translatio
   pub pairs : HavePairs g packet.flow by
   pub hop : Mac
   pub next : next_by g by packet.flow ≡ Some hop
-  pub fits : fits_at g (exit_by by) packet.length ≡ true
+  pub fits : fits_at g (exit_by by) packet.size ≡ true
 
 -- the pair is the one on a port that the gateway owns, where the endpoint has two
 abbrev pub IsOwnWhereTwo : Shown → Endpoint → Pair → Type 0
@@ -87,7 +87,7 @@ pub record MayPassOn (g : Shown) (side : Side) (bytes : List ℕ) (by : Translat
   pub pairs : HaveErrorPairs g packet.flow by
   pub hop : Mac
   pub next : next_to g by packet.flow.destination ≡ Some hop
-  pub fits : fits_at g (exit_by by) packet.length ≡ true
+  pub fits : fits_at g (exit_by by) packet.size ≡ true
 
 -- ---- a packet for which a port has to be chosen
 

@@ -15,7 +15,7 @@ use Rattle.forwarder.proofs.forwarders.Forwarder.take_error.Goals as goal
 pub ask_for_error-requires-clause-place : goal.ask_for_error-requires-clause-place
 ask_for_error-requires-clause-place c =
     let made = plan-made c.in-Ok-Ask.is c.in-Ok-Ask.field-0-is c.plan_error.ensures in
-    let holds = error-plan-holds (shown_of c.args.self.now) c.args.side c.args.packet.flow c.args.packet.length (Ok (Ask c.in-Ok-Ask.by c.in-Ok-Ask.hop)) (sym made) in
+    let holds = error-plan-holds (shown_of c.args.self.now) c.args.side c.args.packet.flow c.args.packet.size (Ok (Ask c.in-Ok-Ask.by c.in-Ok-Ask.hop)) (sym made) in
     let exit : c.exit.result ≡ exit_by c.in-Ok-Ask.by = c.exit.ensures ∙ ap exit_of c.direction.ensures in
     ap (λ (k : List HeldPacket). has_place k c.in_ok-copy-in-Ok-Ask.copy.wait) c.in_ok-copy-in-Ok-Ask.ensures.same
     ∙ ap (λ (w : HeldPacket). has_place c.args.self.now.kept w.wait) c.in_ok-copy-in-Ok-Ask.ensures.packet
@@ -26,7 +26,7 @@ ask_for_error-requires-clause-place c =
 pub unreachable-requires : goal.unreachable-requires
 unreachable-requires c =
     let made = plan-made c.in-Ok-Wait.is c.in-Ok-Wait.field-0-is c.plan_error.ensures in
-    error-plan-holds (shown_of c.args.self.now) c.args.side c.args.packet.flow c.args.packet.length (Ok (WaitFor c.in-Ok-Wait.field-0-0)) (sym made)
+    error-plan-holds (shown_of c.args.self.now) c.args.side c.args.packet.flow c.args.packet.size (Ok (WaitFor c.in-Ok-Wait.field-0-0)) (sym made)
 
 pub returns-in-Ok-Send-clause-scene : goal.returns-in-Ok-Send-clause-scene
 returns-in-Ok-Send-clause-scene c =

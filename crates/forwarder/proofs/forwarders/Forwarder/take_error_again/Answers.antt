@@ -14,7 +14,7 @@ use Rattle.forwarder.proofs.forwarders.Forwarder.take_error_again.Goals as goal
 pub ask_for_error-requires-clause-place : goal.ask_for_error-requires-clause-place
 ask_for_error-requires-clause-place c =
     let made = plan-made c.in-Ok-Ask.is c.in-Ok-Ask.field-0-is c.plan_error.ensures in
-    let holds = error-plan-holds (shown_of c.args.self.now) c.side_of.result c.args.reading.flow c.args.reading.length (Ok (Ask c.in-Ok-Ask.by c.in-Ok-Ask.hop)) (sym made) in
+    let holds = error-plan-holds (shown_of c.args.self.now) c.side_of.result c.args.reading.flow c.args.reading.size (Ok (Ask c.in-Ok-Ask.by c.in-Ok-Ask.hop)) (sym made) in
     let exit = c.exit.ensures ∙ ap exit_of c.direction.ensures in
     ap (λ (w : HeldPacket). has_place c.args.self.now.kept w.wait) c.again-copy.ensures
     ∙ ap (λ (s : Side). has_place c.args.self.now.kept (Hop s c.in-Ok-Ask.hop)) exit
@@ -24,7 +24,7 @@ ask_for_error-requires-clause-place c =
 pub unreachable-requires : goal.unreachable-requires
 unreachable-requires c =
     let made = plan-made c.in-Ok-Wait.is c.in-Ok-Wait.field-0-is c.plan_error.ensures in
-    error-plan-holds (shown_of c.args.self.now) c.side_of.result c.args.reading.flow c.args.reading.length (Ok (WaitFor c.in-Ok-Wait.field-0-0)) (sym made)
+    error-plan-holds (shown_of c.args.self.now) c.side_of.result c.args.reading.flow c.args.reading.size (Ok (WaitFor c.in-Ok-Wait.field-0-0)) (sym made)
 
 pub returns-in-Ok-Send-clause-scene : goal.returns-in-Ok-Send-clause-scene
 returns-in-Ok-Send-clause-scene c =

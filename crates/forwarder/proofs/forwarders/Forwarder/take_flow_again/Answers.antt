@@ -16,18 +16,18 @@ use Rattle.forwarder.proofs.forwarders.Forwarder.take_flow_again.Goals as goal
 pub send-requires-clause-own : goal.send-requires-clause-own
 send-requires-clause-own c =
     let made = plan-made c.in-Ok-Send.is c.in-Ok-Send.field-0-is c.plan.ensures in
-    plan-holds (shown_of c.args.self.now) c.side_of.result c.args.reading.flow c.args.reading.length (Ok (Send c.in-Ok-Send.by c.in-Ok-Send.next)) (sym made)
+    plan-holds (shown_of c.args.self.now) c.side_of.result c.args.reading.flow c.args.reading.size (Ok (Send c.in-Ok-Send.by c.in-Ok-Send.next)) (sym made)
 
 pub ask-requires-clause-own : goal.ask-requires-clause-own
 ask-requires-clause-own c =
     let made = plan-made c.in-Ok-Ask.is c.in-Ok-Ask.field-0-is c.plan.ensures in
-    let holds = plan-holds (shown_of c.args.self.now) c.side_of.result c.args.reading.flow c.args.reading.length (Ok (Ask c.in-Ok-Ask.by c.in-Ok-Ask.hop)) (sym made) in
+    let holds = plan-holds (shown_of c.args.self.now) c.side_of.result c.args.reading.flow c.args.reading.size (Ok (Ask c.in-Ok-Ask.by c.in-Ok-Ask.hop)) (sym made) in
     holds.0
 
 pub ask-requires-clause-place : goal.ask-requires-clause-place
 ask-requires-clause-place c =
     let made = plan-made c.in-Ok-Ask.is c.in-Ok-Ask.field-0-is c.plan.ensures in
-    let holds = plan-holds (shown_of c.args.self.now) c.side_of.result c.args.reading.flow c.args.reading.length (Ok (Ask c.in-Ok-Ask.by c.in-Ok-Ask.hop)) (sym made) in
+    let holds = plan-holds (shown_of c.args.self.now) c.side_of.result c.args.reading.flow c.args.reading.size (Ok (Ask c.in-Ok-Ask.by c.in-Ok-Ask.hop)) (sym made) in
     let exit = c.exit.ensures ∙ ap exit_of c.direction.ensures in
     ap (λ (w : HeldPacket). has_place c.args.self.now.kept w.wait) c.again-copy.ensures
     ∙ ap (λ (s : Side). has_place c.args.self.now.kept (Hop s c.in-Ok-Ask.hop)) exit
@@ -36,13 +36,13 @@ ask-requires-clause-place c =
 pub wait-requires-clause-wait : goal.wait-requires-clause-wait
 wait-requires-clause-wait c =
     let made = plan-made c.in-Ok-Wait.is c.in-Ok-Wait.field-0-is c.plan.ensures in
-    let holds = plan-holds (shown_of c.args.self.now) c.side_of.result c.args.reading.flow c.args.reading.length (Ok (WaitFor c.in-Ok-Wait.endpoint)) (sym made) in
+    let holds = plan-holds (shown_of c.args.self.now) c.side_of.result c.args.reading.flow c.args.reading.size (Ok (WaitFor c.in-Ok-Wait.endpoint)) (sym made) in
     ap (λ (w : HeldPacket). w.wait) c.again-copy-in-Ok-Wait.ensures ∙ ap Pair holds.1
 
 pub wait-requires-clause-place : goal.wait-requires-clause-place
 wait-requires-clause-place c =
     let made = plan-made c.in-Ok-Wait.is c.in-Ok-Wait.field-0-is c.plan.ensures in
-    let holds = plan-holds (shown_of c.args.self.now) c.side_of.result c.args.reading.flow c.args.reading.length (Ok (WaitFor c.in-Ok-Wait.endpoint)) (sym made) in
+    let holds = plan-holds (shown_of c.args.self.now) c.side_of.result c.args.reading.flow c.args.reading.size (Ok (WaitFor c.in-Ok-Wait.endpoint)) (sym made) in
     ap (λ (w : HeldPacket). has_place c.args.self.now.kept w.wait) c.again-copy-in-Ok-Wait.ensures ∙ holds.0
 
 pub returns-in-Ok-Send-clause-scene : goal.returns-in-Ok-Send-clause-scene
@@ -76,7 +76,7 @@ returns-in-Ok-Wait-clause-scene c =
     let s = scene_on c.args.self.now c.args.page.now in
     let e = c.in-Ok-Wait.endpoint in
     let made = plan-made c.in-Ok-Wait.is c.in-Ok-Wait.field-0-is c.plan.ensures in
-    let holds = plan-holds (shown_of c.args.self.now) c.side_of.result c.args.reading.flow c.args.reading.length (Ok (WaitFor e)) (sym made) in
+    let holds = plan-holds (shown_of c.args.self.now) c.side_of.result c.args.reading.flow c.args.reading.size (Ok (WaitFor e)) (sym made) in
     c.wait.ensures.scene
     ∙ ap (λ (w : HeldPacket). by_plan s w.side w.bytes c.args.reading.flow (WaitFor (source_of c.args.reading.flow))) c.again-copy-in-Ok-Wait.ensures
     ∙ ap (λ (x : Endpoint). by_plan s c.args.packet.side c.args.packet.bytes c.args.reading.flow (WaitFor x)) (sym holds.1)

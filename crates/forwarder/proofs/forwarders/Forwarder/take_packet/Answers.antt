@@ -17,18 +17,18 @@ use Rattle.forwarder.proofs.forwarders.Forwarder.take_packet.Goals as goal
 pub send-requires-clause-own : goal.send-requires-clause-own
 send-requires-clause-own c =
     let made = plan-made c.in-Ok-Send.is c.in-Ok-Send.field-0-is c.plan.ensures in
-    plan-holds (shown_of c.args.self.now) c.args.side c.args.packet.flow c.args.packet.length (Ok (Send c.in-Ok-Send.by c.in-Ok-Send.next)) (sym made)
+    plan-holds (shown_of c.args.self.now) c.args.side c.args.packet.flow c.args.packet.size (Ok (Send c.in-Ok-Send.by c.in-Ok-Send.next)) (sym made)
 
 pub ask-requires-clause-own : goal.ask-requires-clause-own
 ask-requires-clause-own c =
     let made = plan-made c.in-Ok-Ask.is c.in-Ok-Ask.field-0-is c.plan.ensures in
-    let holds = plan-holds (shown_of c.args.self.now) c.args.side c.args.packet.flow c.args.packet.length (Ok (Ask c.in-Ok-Ask.by c.in-Ok-Ask.hop)) (sym made) in
+    let holds = plan-holds (shown_of c.args.self.now) c.args.side c.args.packet.flow c.args.packet.size (Ok (Ask c.in-Ok-Ask.by c.in-Ok-Ask.hop)) (sym made) in
     holds.0
 
 pub ask-requires-clause-place : goal.ask-requires-clause-place
 ask-requires-clause-place c =
     let made = plan-made c.in-Ok-Ask.is c.in-Ok-Ask.field-0-is c.plan.ensures in
-    let holds = plan-holds (shown_of c.args.self.now) c.args.side c.args.packet.flow c.args.packet.length (Ok (Ask c.in-Ok-Ask.by c.in-Ok-Ask.hop)) (sym made) in
+    let holds = plan-holds (shown_of c.args.self.now) c.args.side c.args.packet.flow c.args.packet.size (Ok (Ask c.in-Ok-Ask.by c.in-Ok-Ask.hop)) (sym made) in
     let exit : c.exit.result ≡ exit_by c.in-Ok-Ask.by = c.exit.ensures ∙ ap exit_of c.direction.ensures in
     ap (λ (k : List HeldPacket). has_place k c.in_ok-copy-in-Ok-Ask.copy.wait) c.in_ok-copy-in-Ok-Ask.ensures.same
     ∙ ap (λ (w : HeldPacket). has_place c.args.self.now.kept w.wait) c.in_ok-copy-in-Ok-Ask.ensures.packet
@@ -38,7 +38,7 @@ ask-requires-clause-place c =
 pub wait-requires-clause-place : goal.wait-requires-clause-place
 wait-requires-clause-place c =
     let made = plan-made c.in-Ok-Wait.is c.in-Ok-Wait.field-0-is c.plan.ensures in
-    let holds = plan-holds (shown_of c.args.self.now) c.args.side c.args.packet.flow c.args.packet.length (Ok (WaitFor c.in-Ok-Wait.endpoint)) (sym made) in
+    let holds = plan-holds (shown_of c.args.self.now) c.args.side c.args.packet.flow c.args.packet.size (Ok (WaitFor c.in-Ok-Wait.endpoint)) (sym made) in
     ap (λ (k : List HeldPacket). has_place k c.in_ok-copy-in-Ok-Wait.copy.wait) c.in_ok-copy-in-Ok-Wait.ensures.same
     ∙ ap (λ (w : HeldPacket). has_place c.args.self.now.kept w.wait) c.in_ok-copy-in-Ok-Wait.ensures.packet ∙ holds.0
 
@@ -52,7 +52,7 @@ returns-in_ok-copy-in-Ok-Wait-clause-scene c =
     let s = scene_on c.args.self.now c.args.page.now in
     let e = c.in-Ok-Wait.endpoint in
     let made = plan-made c.in-Ok-Wait.is c.in-Ok-Wait.field-0-is c.plan.ensures in
-    let holds = plan-holds (shown_of c.args.self.now) c.args.side c.args.packet.flow c.args.packet.length (Ok (WaitFor e)) (sym made) in
+    let holds = plan-holds (shown_of c.args.self.now) c.args.side c.args.packet.flow c.args.packet.size (Ok (WaitFor e)) (sym made) in
     c.wait.ensures.scene
     ∙ ap (λ (k : List HeldPacket). (let w = c.in_ok-copy-in-Ok-Wait.copy in by_plan (scene_on (record c.args.self.now { kept = k }) c.args.page.now) w.side w.bytes c.args.packet.flow (WaitFor (source_of c.args.packet.flow)))) c.in_ok-copy-in-Ok-Wait.ensures.same
     ∙ ap (λ (w : HeldPacket). by_plan s w.side w.bytes c.args.packet.flow (WaitFor (source_of c.args.packet.flow))) c.in_ok-copy-in-Ok-Wait.ensures.packet
