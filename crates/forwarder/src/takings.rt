@@ -145,7 +145,7 @@ impl Forwarder {
         ensures spends { Spends a_packet self.old page.old self.new page.new }
         ensures places { LeavesPlaces self.old self.new }
     {
-        match self.read_frame(side_of(&packet), bytes_of(&packet)) {
+        match self.read_whole(side_of(&packet), bytes_of(&packet)) {
             Ok(Reading::Packet(reading)) => self.take_flow_again(page, reading, packet),
             Ok(Reading::Error(reading)) => self.take_error_again(page, reading, packet),
             Ok(Reading::Arp(_)) => {}

@@ -21,7 +21,7 @@ use Rattle.spec_step.specs.declared.events.Event.TheVariants.{Frame, Datagram, T
 use Rattle.spec_step.specs.declared.events.Outcome.TheVariants.{Waiting}
 use Rattle.spec_step.specs.Founding.{bounds_of, link_places}
 use Rattle.spec_step.specs.Shown.{Shown}
-use Rattle.spec_step.specs.Verdict.{outcome_read, reading_on}
+use Rattle.spec_step.specs.Verdict.{arrival_on, outcome_read}
 use Rattle.forwarder.specs.declared.forwarders.Forwarder.{Forwarder}
 use Rattle.forwarder.specs.Forwarder.{shown_of}
 use Rattle.forwarder.specs.Room.{Needs, an_arp_packet, frames_alone}
@@ -93,7 +93,7 @@ LacksForTick false f page = LacksRoom (tick_needs f) f page
 
 -- what an event lacks, by its kind; an event of a side lacks nothing
 abbrev pub Lacks : Event → Forwarder → Paged → Type 0
-Lacks (Frame side bytes) f page = LacksForFrame side bytes.now (reading_on (shown_of f) side bytes.now) f page
+Lacks (Frame side bytes) f page = LacksForFrame side bytes.now (arrival_on (shown_of f) side bytes.now) f page
 Lacks (Datagram bytes) f page = LacksForDatagram (may_restart f.link (header_at bytes.now)) f page
 Lacks (Tick now) f page = LacksForTick (is_apart_at (shown_of f) now) f page
 Lacks Stop f page = LacksRoom both_routers f page

@@ -14,7 +14,7 @@ ghost use Rattle.spec_step.specs.Machine.{AreBytes, HasBytes};
 ghost use Rattle.spec_step.specs.Parts.{datagram_taken};
 ghost use Rattle.spec_step.specs.Steps.{Does, FrameDoes, IsStepOn, ended_on, outcome_heard};
 ghost use Rattle.spec_step.specs.Steps.{outcome_on, outcome_word, word_by, word_refusal};
-ghost use Rattle.spec_step.specs.Verdict.{reading_on, verdict};
+ghost use Rattle.spec_step.specs.Verdict.{arrival_on, verdict};
 ghost use Rattle.forwarder.specs.Forwarder.{scene_on, shown_of};
 ghost use Rattle.gateway.specs.Gateway.{IsGateway};
 ghost use Rattle.gateway.specs.Lacks.{Lacks, LacksForDatagram, LacksForFrame, LacksForTick};
@@ -52,12 +52,12 @@ fn frame_came(
     requires moment { IsMoment forwarder.old.moment }
     ensures outcome { IfOk result (λ o. o ≡ verdict (shown_of forwarder.old) side bytes.now) }
     ensures does { OnOk result (FrameDoes (scene_on forwarder.old page.old) side bytes.now
-        (reading_on (shown_of forwarder.old) side bytes.now) (scene_on forwarder.new page.new)) }
+        (arrival_on (shown_of forwarder.old) side bytes.now) (scene_on forwarder.new page.new)) }
     ensures datagrams { OnOk result (1 ≤ page.new.room.datagrams) }
     ensures err { OnErr result (scene_on forwarder.new page.new
         ≡ scene_on forwarder.old page.old) }
     ensures lacks { OnErr result (LacksForFrame side bytes.now
-        (reading_on (shown_of forwarder.old) side bytes.now) forwarder.old page.old) }
+        (arrival_on (shown_of forwarder.old) side bytes.now) forwarder.old page.old) }
 {
     match forwarder.read_frame(side, bytes) {
         Ok(reading) => {

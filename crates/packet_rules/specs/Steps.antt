@@ -47,6 +47,10 @@ reason_of_icmp NotQuery = NotUdpTcp
 reason_of_icmp BadQuery = BadTransport
 reason_of_icmp NotAsked = NotUdpTcp
 
+-- 1. a frame that comes in has at most 1,514 bytes
+unfoldable pub length_refusal : List ℕ → Option Reason
+length_refusal bytes = (if nat_le (length bytes) LONGEST then None else Some ShortFrame)
+
 -- 1. a frame has 14 to 1,514 bytes
 unfoldable pub size_refusal : List ℕ → Option Reason
 size_refusal bytes =
@@ -181,8 +185,8 @@ body_reading side network active frame =
     (if frame.ethertype == 2054 then arp_reading frame.body
     else ipv4_reading side network active frame)
 
--- what a frame is read as that came in at this side, by a gateway that is up or not, at an interface
--- that is Active or not; or the reason of the first step that refuses it
+-- what a whole frame is read as that is of this side, by a gateway that is up or not, at an interface that is Active or
+-- not; or the reason of the first step that refuses it
 abbrev pub reading_of : Side → Network → Bool → Bool → List ℕ → Result Reading Reason
 reading_of side network active up bytes =
     let frame = frame_of bytes in
@@ -190,6 +194,11 @@ reading_of side network active up bytes =
     unless (up_refusal up) (
     unless (destination_refusal network active frame) (
     body_reading side network active frame)))
+
+-- the same of a frame that comes in
+abbrev pub arrival_of : Side → Network → Bool → Bool → List ℕ → Result Reading Reason
+arrival_of side network active up bytes =
+    unless (length_refusal bytes) (reading_of side network active up bytes)
 
 -- where the packet of a frame that came in at this side is a query, the query is of the side's kind
 abbrev pub IsOfSide : Side → List ℕ → Type 0

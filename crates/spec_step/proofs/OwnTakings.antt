@@ -182,7 +182,7 @@ module _ (frames : Frames) (s : GatewayAndOutput) (side : Side) (bytes : List �
   complained-just (Some complaint) = to-just complaint (next_back s.shown side (sender_in bytes)) refl
   complained-just None = nothing-just s
 
-  refused-just : (exit : Side) (reason : Reason) → Just s (refused s side exit bytes reason) (own_refused s.shown side exit bytes reason)
+  pub refused-just : (exit : Side) (reason : Reason) → Just s (refused s side exit bytes reason) (own_refused s.shown side exit bytes reason)
   refused-just exit TtlOver = complained-just (complaint_of s.shown.networks side exit TtlOver bytes)
   refused-just exit TooLong = complained-just (complaint_of s.shown.networks side exit TooLong bytes)
   refused-just exit ShortFrame = nothing-just s
