@@ -1,8 +1,8 @@
-use Rattle.std.proofs.Common.{ℕ, List, sym, ap, ◌∙◌}
+use Rattle.std.proofs.Common.{ℕ, List, length, sym, ap, ◌∙◌}
 use Rattle.nat_types.specs.declared.gateways.Side.{Side}
 use Rattle.spec_step.specs.Parts.{refused}
 use Rattle.forwarder.specs.Forwarder.{scene_on}
-use Rattle.forwarder.proofs.Taking.{carries-as, frames-spend, reading-made, retaken-as, same-places}
+use Rattle.forwarder.proofs.Taking.{carries-as, error-spends, frames-spend, reading-made, retaken-as, same-places}
 use Rattle.forwarder.proofs.forwarders.Forwarder.take_again.Goals as goal
 
 pub take_flow_again-requires-clause-forwardable : goal.take_flow_again-requires-clause-forwardable
@@ -64,19 +64,19 @@ pub returns-in-Ok-Packet-clause-places : goal.returns-in-Ok-Packet-clause-places
 returns-in-Ok-Packet-clause-places c = c.take_flow_again.ensures.places
 
 pub returns-in-Ok-Error-clause-spends : goal.returns-in-Ok-Error-clause-spends
-returns-in-Ok-Error-clause-spends c = frames-spend c.args.self.now c.take_error_again.new.self c.args.page.now c.take_error_again.new.page c.take_error_again.ensures.spends
+returns-in-Ok-Error-clause-spends c = error-spends (length c.args.packet.bytes) c.args.self.now c.take_error_again.new.self c.args.page.now c.take_error_again.new.page c.take_error_again.ensures.spends
 
 pub returns-in-Ok-Error-clause-places : goal.returns-in-Ok-Error-clause-places
 returns-in-Ok-Error-clause-places c = same-places c.args.self.now c.take_error_again.new.self c.take_error_again.ensures.link
 
 pub returns-in-Ok-Asked-clause-spends : goal.returns-in-Ok-Asked-clause-spends
-returns-in-Ok-Asked-clause-spends c = frames-spend c.args.self.now c.take_echo_again.new.self c.args.page.now c.take_echo_again.new.page c.take_echo_again.ensures.spends
+returns-in-Ok-Asked-clause-spends c = error-spends (length c.args.packet.bytes) c.args.self.now c.take_echo_again.new.self c.args.page.now c.take_echo_again.new.page c.take_echo_again.ensures.spends
 
 pub returns-in-Ok-Asked-clause-places : goal.returns-in-Ok-Asked-clause-places
 returns-in-Ok-Asked-clause-places c = same-places c.args.self.now c.take_echo_again.new.self c.take_echo_again.ensures.link
 
 pub returns-in-Err-clause-spends : goal.returns-in-Err-clause-spends
-returns-in-Err-clause-spends c = frames-spend c.args.self.now c.refuse_unread.new.self c.args.page.now c.refuse_unread.new.page c.refuse_unread.ensures.spends
+returns-in-Err-clause-spends c = frames-spend (length c.args.packet.bytes) c.args.self.now c.refuse_unread.new.self c.args.page.now c.refuse_unread.new.page c.refuse_unread.ensures.spends
 
 pub returns-in-Err-clause-places : goal.returns-in-Err-clause-places
 returns-in-Err-clause-places c = same-places c.args.self.now c.refuse_unread.new.self c.refuse_unread.ensures.link

@@ -1,4 +1,4 @@
-use Rattle.std.proofs.Common.{List, Ok, Err, ap, refl, sym, ◌∙◌}
+use Rattle.std.proofs.Common.{List, length, Ok, Err, ap, refl, sym, ◌∙◌}
 use Rattle.nat_types.specs.declared.gateways.Side.{Side}
 use Rattle.nat_types.specs.declared.pairs.Endpoint.{Endpoint}
 use Rattle.waiting.specs.declared.waits.WaitsFor.TheVariants.{Hop, Pair}
@@ -10,7 +10,8 @@ use Rattle.spec_step.specs.Parts.{asked_again, by_plan, by_refusal}
 use Rattle.forwarder.specs.declared.forwarders.Forwarder.{Forwarder}
 use Rattle.forwarder.specs.Forwarder.{scene_on, shown_of}
 use Rattle.forwarder.proofs.Planning.{plan-holds}
-use Rattle.forwarder.proofs.Taking.{again-as, ask-spends, plan-made, request-spends, same-places, wish-spends}
+use Rattle.forwarder.specs.Room.{a_packet, a_wish, an_ask}
+use Rattle.forwarder.proofs.Taking.{again-as, ask-spends, copied-spends, plan-made, refusal-spends, request-spends, reused-spends, same-places, wait-spends}
 use Rattle.forwarder.proofs.forwarders.Forwarder.take_flow_again.Goals as goal
 
 pub send-requires-clause-own : goal.send-requires-clause-own
@@ -93,31 +94,36 @@ returns-in-Err-clause-scene c =
 -- ---- what it takes
 
 pub returns-in-Ok-Send-clause-spends : goal.returns-in-Ok-Send-clause-spends
-returns-in-Ok-Send-clause-spends c = c.send.ensures.spends
+returns-in-Ok-Send-clause-spends c =
+    reused-spends a_packet c.args.self.now c.send.new.self c.args.page.now c.send.new.page _ c.bytes_of-in-Ok-Send.result.now c.args.packet.bytes c.reuse.ensures.same c.bytes_of-in-Ok-Send.ensures c.send.ensures.spends
 
 pub returns-in-Ok-Send-clause-places : goal.returns-in-Ok-Send-clause-places
 returns-in-Ok-Send-clause-places c = c.send.ensures.places
 
 pub returns-in-Ok-Ask-clause-spends : goal.returns-in-Ok-Ask-clause-spends
-returns-in-Ok-Ask-clause-spends c = ask-spends c.args.self.now c.ask.new.self c.args.page.now c.ask.new.page c.ask.ensures.spends
+returns-in-Ok-Ask-clause-spends c =
+    ask-spends (length c.args.packet.bytes) c.args.self.now c.ask.new.self c.args.page.now c.ask.new.page
+    (copied-spends an_ask c.args.self.now c.ask.new.self c.args.page.now c.ask.new.page c.again-copy.result.bytes c.args.packet.bytes (ap (λ (w : HeldPacket). w.bytes) c.again-copy.ensures) c.ask.ensures.spends)
 
 pub returns-in-Ok-Ask-clause-places : goal.returns-in-Ok-Ask-clause-places
 returns-in-Ok-Ask-clause-places c = c.ask.ensures.places
 
 pub returns-in-Ok-AskAgain-clause-spends : goal.returns-in-Ok-AskAgain-clause-spends
-returns-in-Ok-AskAgain-clause-spends c = request-spends c.args.self.now c.ask_again.new.self c.args.page.now c.ask_again.new.page c.ask_again.ensures.spends
+returns-in-Ok-AskAgain-clause-spends c = request-spends (length c.args.packet.bytes) c.args.self.now c.ask_again.new.self c.args.page.now c.ask_again.new.page c.ask_again.ensures.spends
 
 pub returns-in-Ok-AskAgain-clause-places : goal.returns-in-Ok-AskAgain-clause-places
 returns-in-Ok-AskAgain-clause-places c = same-places c.args.self.now c.ask_again.new.self (ap (λ (f : Forwarder). f.link) c.ask_again.ensures.rest)
 
 pub returns-in-Ok-Wait-clause-spends : goal.returns-in-Ok-Wait-clause-spends
-returns-in-Ok-Wait-clause-spends c = wish-spends c.args.self.now c.wait.new.self c.args.page.now c.wait.new.page c.wait.ensures.spends
+returns-in-Ok-Wait-clause-spends c =
+    wait-spends (length c.args.packet.bytes) c.args.self.now c.wait.new.self c.args.page.now c.wait.new.page
+    (copied-spends a_wish c.args.self.now c.wait.new.self c.args.page.now c.wait.new.page c.again-copy-in-Ok-Wait.result.bytes c.args.packet.bytes (ap (λ (w : HeldPacket). w.bytes) c.again-copy-in-Ok-Wait.ensures) c.wait.ensures.spends)
 
 pub returns-in-Ok-Wait-clause-places : goal.returns-in-Ok-Wait-clause-places
 returns-in-Ok-Wait-clause-places c = c.wait.ensures.places
 
 pub returns-in-Err-clause-spends : goal.returns-in-Err-clause-spends
-returns-in-Err-clause-spends c = c.refuse.ensures.spends
+returns-in-Err-clause-spends c = refusal-spends (length c.args.packet.bytes) c.args.self.now c.refuse.new.self c.args.page.now c.refuse.new.page c.refuse.ensures.spends
 
 pub returns-in-Err-clause-places : goal.returns-in-Err-clause-places
 returns-in-Err-clause-places c = c.refuse.ensures.places
