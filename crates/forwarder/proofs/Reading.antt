@@ -2,7 +2,7 @@
 use Rattle.std.proofs.Common.{◌≡◌, ◌≢◌, ℕ, Bool, true, false, cond, ◌==◌, ◌&&◌, nat_le, Option, Some, None, Result, Ok, Err, IfErr, List, length}
 use Rattle.std.specs.Option.{option_map}
 use Rattle.frames.specs.Frame.{frame_of}
-use Rattle.frames.specs.declared.ethernet.TheConstants.{LONGEST}
+use Rattle.frames.specs.declared.ethernet.TheConstants.{LONGEST, LONGEST_WHOLE}
 use Rattle.ipv4.specs.declared.faults.Ipv4Fault as fault
 use Rattle.ipv4.specs.declared.faults.Ipv4Fault.{Ipv4Fault}
 use Rattle.ipv4.specs.Carried.{transport_refusal as carried_refusal}
@@ -125,7 +125,7 @@ body-fits side network active bytes = fits-either ((frame_of bytes).ethertype ==
 
 size-passes : (bytes : List ℕ) → Passes (size_refusal bytes)
 unfolding size_refusal
-size-passes bytes = passes-test (nat_le 14 (length bytes) && nat_le (length bytes) LONGEST) ShortFrame (λ e. cc)
+size-passes bytes = passes-test (nat_le 14 (length bytes) && nat_le (length bytes) LONGEST_WHOLE) ShortFrame (λ e. cc)
 
 up-passes : (up : Bool) → Passes (up_refusal up)
 unfolding up_refusal

@@ -93,8 +93,8 @@ pub(crate) const STOP_ROOM: Room = Room {
     notes: 0,
 };
 
-/// Returns the capacity for a frame that was read. An ARP packet may end the wait of a packet, which
-/// then takes its octets.
+/// Returns the capacity for a frame that was read. An ARP packet may end the wait of a packet,
+/// which then takes its octets.
 #[inline(always)]
 pub(crate) fn reading_room(forwarder: &Forwarder, reading: &Reading) -> Room
     ensures room { result ≡ room_for (reading_needs reading.now forwarder.now) }

@@ -2,7 +2,7 @@
 use Rattle.std.specs.Prelude.{◌≡◌, ◌≤◌, ℕ, ◌+◌, Bool, ◌==◌, ◌&&◌, ◌||◌, is_none, List, length}
 use Rattle.std.specs.Str.{bytes_eq}
 use Rattle.frames.specs.Frame.{Frame, frame_of}
-use Rattle.frames.specs.declared.ethernet.TheConstants.{LONGEST}
+use Rattle.frames.specs.declared.ethernet.TheConstants.{LONGEST_WHOLE}
 use Rattle.ipv4.specs.Header.{IsIpv4, header_of, is_unbroken, payload_of}
 use Rattle.icmp.specs.Ask.{IsAsk, ask_refusal}
 use Rattle.icmp.specs.declared.errors.TheConstants.{PROTOCOL}
@@ -41,7 +41,7 @@ asked_of packet = record {
 -- what is known of a frame whose packet the box may complain of: the packet is whole, and no fragment
 pub record IsWhole (bytes : List ℕ) : Type 0 where
   pub whole : 14 ≤ length bytes
-  pub short : length bytes ≤ LONGEST
+  pub short : length bytes ≤ LONGEST_WHOLE
   pub ipv4 : IsIpv4 (frame_of bytes).body
 
 -- what is known of a frame whose Echo is answered, and what its answer requires

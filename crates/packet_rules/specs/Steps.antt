@@ -21,7 +21,7 @@ use Rattle.packet_rules.specs.declared.reasons.Reason.TheVariants.{ShortFrame, N
 use Rattle.packet_rules.specs.declared.readings.Reading.{Reading}
 use Rattle.packet_rules.specs.declared.readings.Reading.TheVariants.{Arp, Advert, Packet, Error, Asked}
 use Rattle.packet_rules.specs.declared.networks.Network.{Network}
-use Rattle.frames.specs.declared.ethernet.TheConstants.{LONGEST}
+use Rattle.frames.specs.declared.ethernet.TheConstants.{LONGEST, LONGEST_WHOLE}
 use Rattle.packet_rules.specs.Asked.{IsAskable, asked_of, is_asked}
 use Rattle.packet_rules.specs.Flows.{error_in, packet_in}
 use Rattle.packet_rules.specs.Networks.{is_addressed, is_virtual}
@@ -51,10 +51,10 @@ reason_of_icmp NotAsked = NotUdpTcp
 unfoldable pub length_refusal : List ℕ → Option Reason
 length_refusal bytes = (if nat_le (length bytes) LONGEST then None else Some ShortFrame)
 
--- 1. a frame has 14 to 1,514 bytes
+-- a whole frame has 14 to 65,549 bytes
 unfoldable pub size_refusal : List ℕ → Option Reason
 size_refusal bytes =
-    (if nat_le 14 (length bytes) && nat_le (length bytes) LONGEST then None
+    (if nat_le 14 (length bytes) && nat_le (length bytes) LONGEST_WHOLE then None
     else Some ShortFrame)
 
 -- 1. the gateway is up
@@ -210,7 +210,7 @@ IsOfSide side bytes =
 -- what is known of a frame whose packet passes, and what a translation requires
 pub record IsForwardable (bytes : List ℕ) : Type 0 where
   pub whole : 14 ≤ length bytes
-  pub short : length bytes ≤ LONGEST
+  pub short : length bytes ≤ LONGEST_WHOLE
   pub ipv4 : IsIpv4 (frame_of bytes).body
   pub translatable : IsTranslatable (frame_of bytes).body
   pub ttl : 2 ≤ (header_of (frame_of bytes).body).ttl
@@ -218,7 +218,7 @@ pub record IsForwardable (bytes : List ℕ) : Type 0 where
 -- what is known of a frame whose error passes, and what its passing on requires
 pub record IsPassable (bytes : List ℕ) : Type 0 where
   pub whole : 14 ≤ length bytes
-  pub short : length bytes ≤ LONGEST
+  pub short : length bytes ≤ LONGEST_WHOLE
   pub ipv4 : IsIpv4 (frame_of bytes).body
   pub error : IsErrorPacket (frame_of bytes).body
   pub ttl : 2 ≤ (header_of (frame_of bytes).body).ttl

@@ -2,7 +2,7 @@
 ghost use Rattle.std.specs.Prelude.{◌≡◌, ◌≤◌, IfOk, IfErr, OnOk, length};
 ghost use Rattle.std.specs.Result.{result_err};
 ghost use Rattle.frames.specs.Frame.{frame_of};
-ghost use Rattle.frames.specs.declared.ethernet.TheConstants.{LONGEST};
+ghost use Rattle.frames.specs.declared.ethernet.TheConstants.{LONGEST_WHOLE};
 ghost use Rattle.ipv4.specs.Header.{IsIpv4, header_of};
 ghost use Rattle.ipv4.specs.Flow.{packet_of};
 ghost use Rattle.icmp.specs.Packet.{IsErrorPacket, error_packet_of};
@@ -51,10 +51,10 @@ fn reason_for_icmp(fault: IcmpFault) -> Reason
 #[inline(always)]
 fn view_frame(bytes: &[u8]) -> Result<EthView<'_>, Reason>
     ensures refusal { result_err result ≡ size_refusal bytes.now }
-    ensures short { OnOk result (length bytes.now ≤ LONGEST) }
+    ensures short { OnOk result (length bytes.now ≤ LONGEST_WHOLE) }
     ensures bytes { IfOk result (λ v. v.bytes.now ≡ bytes.now) }
 {
-    if bytes.len() > frames::LONGEST {
+    if bytes.len() > frames::LONGEST_WHOLE {
         return Err(Reason::ShortFrame);
     }
     match EthView::parse(bytes) {

@@ -9,7 +9,7 @@ use Rattle.nat_types.specs.declared.gateways.Side.{Side}
 use Rattle.nat_types.specs.declared.gateways.Side.TheVariants.{Inside, Outside}
 use Rattle.arp.specs.Packet.{arp_refusal, packet_of}
 use Rattle.frames.specs.Frame.{Frame, frame_of}
-use Rattle.frames.specs.declared.ethernet.TheConstants.{LONGEST}
+use Rattle.frames.specs.declared.ethernet.TheConstants.{LONGEST, LONGEST_WHOLE}
 use Rattle.icmp.specs.declared.errors.TheConstants.{PROTOCOL}
 use Rattle.icmp.specs.declared.faults.IcmpFault.{IcmpFault}
 use Rattle.icmp.specs.declared.faults.IcmpFault.TheVariants.{NotError, BadError, NotQuery, BadQuery, NotAsked}
@@ -107,7 +107,7 @@ length-fine bytes = refusal-fine (nat_le (length bytes) LONGEST) why.ShortFrame 
 
 size-fine : (bytes : List ℕ) → IsFineOption (steps.size_refusal bytes)
 unfolding steps.size_refusal
-size-fine bytes = refusal-fine (nat_le 14 (length bytes) && nat_le (length bytes) LONGEST) why.ShortFrame refl
+size-fine bytes = refusal-fine (nat_le 14 (length bytes) && nat_le (length bytes) LONGEST_WHOLE) why.ShortFrame refl
 
 up-fine : (up : Bool) → IsFineOption (steps.up_refusal up)
 unfolding steps.up_refusal
