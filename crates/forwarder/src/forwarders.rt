@@ -120,7 +120,7 @@ impl Forwarder {
         self.station(side).read_frame(side, self.is_up(), bytes)
     }
 
-    /// Reads a frame as `read_frame` does that came in before.
+    /// Reads a frame that is at hand, of up to 65,549 bytes, as `read_frame` does one that comes in.
     pub(crate) fn read_whole(&self, side: Side, bytes: &[u8]) -> Result<Reading, Reason>
         ensures reading { result ≡ reading_on (shown_of self.now) side bytes.now }
         ensures carries { IfOk result (Carries side bytes.now) }

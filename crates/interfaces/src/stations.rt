@@ -294,7 +294,7 @@ impl Interface {
         packet_rules::read_frame(side, &self.network, self.is_active(), up, bytes)
     }
 
-    /// Reads a frame as `read_frame` does that came in here before.
+    /// Reads a frame that is at hand, of up to 65,549 bytes, as `read_frame` does one that comes in here.
     #[inline(always)]
     pub fn read_whole(&self, side: Side, up: bool, bytes: &[u8]) -> Result<Reading, Reason>
         ensures reading { result

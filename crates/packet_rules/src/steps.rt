@@ -327,7 +327,7 @@ pub fn read_frame(
     read_whole(side, network, active, up, bytes)
 }
 
-/// Reads a frame as [`read_frame`] does that came in before.
+/// Reads a frame that is at hand, of up to 65,549 bytes, as [`read_frame`] does one that comes in.
 #[inline(always)]
 pub fn read_whole(
     side: Side,
