@@ -9,3 +9,10 @@ pub same-packet : {service service2 : ℕ} {from from2 to to2 : Ip} {carried car
     → list ++ own_packet service from.0 to.0 (own_message kind code first second carried)
     ≡ list ++ own_packet service2 from2.0 to2.0 (own_message kind code first second carried2)
 same-packet kind code first second list service from to carried = cc
+
+-- so are two packets whose messages say the same
+pub same-said : {kind kind2 first first2 second second2 : ℕ} {carried carried2 : List ℕ} (list : List ℕ) (from to : ℕ)
+    → kind ≡ kind2 → first ≡ first2 → second ≡ second2 → carried ≡ carried2
+    → list ++ own_packet 0 from to (own_message kind 0 first second carried)
+    ≡ list ++ own_packet 0 from to (own_message kind2 0 first2 second2 carried2)
+same-said list from to kind first second carried = cc
