@@ -117,7 +117,6 @@ pub fn complaint_of(
 }
 
 /// Appends the ICMP error about a packet that `complaint` names to a list with capacity for 576 bytes.
-#[tactic(auto, unfolding(crate::specs::Own::complaint_packet))]
 fn append_complaint_about(
     list: &mut Vec<u8>,
     network: &Network,

@@ -1,4 +1,4 @@
-use Rattle.std.proofs.Common.{◌≤◌, ℕ, ◌+◌, List, ◌++◌, length, ap, subst, ◌∙◌, sym, arith}
+use Rattle.std.proofs.Common.{ℕ, List, ◌++◌, length, ap, ◌∙◌, arith}
 use Rattle.frames.specs.Frame.{frame_of}
 use Rattle.icmp.specs.Own.{reply_packet}
 use Rattle.ipv4.specs.Header.{header_of, payload_of}
