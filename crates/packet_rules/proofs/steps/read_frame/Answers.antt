@@ -8,4 +8,4 @@ on-ok (Ok reading) P holds = holds
 on-ok (Err reason) P holds = tt
 
 pub returns-clause-short : goal.returns-clause-short
-returns-clause-short c = on-ok c.read_whole.result _ c.if-len.false
+returns-clause-short c = on-ok c.read_whole.result _ c.if-bytes-gt-LONGEST.false
