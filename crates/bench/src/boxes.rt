@@ -4,6 +4,7 @@ use crate::gates::Gate;
 use crate::stations::{ACTIVE, Station};
 use addresses::Protocol;
 use cases_words::Case;
+use nat_types::GatewayId;
 use settings::Settings;
 
 /// The most rounds of ticks or datagrams before a loop gives up.
@@ -26,7 +27,7 @@ impl<G: Gate> Both<G> {
         case: &mut Case,
     ) -> Option<Both<G>> {
         let zero = Station::ready(settings, protocol, pairs, case)?;
-        match Station::second(settings, case) {
+        match Station::begun(settings, GatewayId::One, case) {
             Some(one) => Some(Both {
                 zero,
                 one,
@@ -76,7 +77,7 @@ impl<G: Gate> Both<G> {
     pub(crate) fn load(&mut self, case: &mut Case) -> u32 {
         for ticks in 1..PATIENCE {
             self.tick(1, case);
-            if self.one.is_synced() {
+            if self.one.gateway.is_synced() {
                 return ticks;
             }
         }

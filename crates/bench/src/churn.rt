@@ -4,11 +4,11 @@
 use crate::boxes::{Both, PATIENCE};
 use crate::clocks::computed;
 use crate::gates::Gate;
-use crate::packets::{FIN, Kind, LONGEST, OPENING, PORTS, SYN, frame_of, set_flags, set_pair};
+use crate::packets::{FIN, FLAGS, Kind, LONGEST, OPENING, PORTS, SYN, frame_of, set_pair};
 use crate::stations::ACTIVE;
 use addresses::Protocol;
 use cases_words::Case;
-use nat_types::Side;
+use nat_types::{GatewayId, Side};
 use settings::Settings;
 
 /// The time for which a connection that both ends have closed rests, in centiseconds.
@@ -27,7 +27,7 @@ const EACH: u128 = 1000;
 const STEP: u128 = 100_000;
 
 /// The times that steps took. Where the watch is off, no clock is read.
-#[derive(Drop)]
+#[derive(Clone, Copy)]
 struct Watch {
     is_on: bool,
     steps: u64,
@@ -46,22 +46,21 @@ struct Watch {
     worst_released: u32,
 }
 
-impl Watch {
-    fn new(is_on: bool) -> Watch {
-        Watch {
-            is_on,
-            steps: 0,
-            longest: 0,
-            longest_at: 0,
-            slow: 0,
-            ticks: 0,
-            late: 0,
-            beyond: 0,
-            worst: 0,
-            worst_released: 0,
-        }
-    }
+/// A watch that is off, before the first step.
+const OFF: Watch = Watch {
+    is_on: false,
+    steps: 0,
+    longest: 0,
+    longest_at: 0,
+    slow: 0,
+    ticks: 0,
+    late: 0,
+    beyond: 0,
+    worst: 0,
+    worst_released: 0,
+};
 
+impl Watch {
     /// Returns the processor's time of this thread, in nanoseconds, or 0 where the watch is off.
     fn now(&self, rt: &HostRuntime, case: &mut Case) -> u128 {
         if self.is_on { computed(rt, case) } else { 0 }
@@ -119,19 +118,11 @@ fn segment(side: Side, flags: u8) -> [u8; LONGEST] {
         protocol,
         size,
     });
-    set_flags(&mut frame, flags);
+    frame[FLAGS] = flags;
     frame
 }
 
 impl Frames {
-    fn new() -> Frames {
-        Frames {
-            syn: segment(Side::Inside, SYN),
-            fin: segment(Side::Inside, FIN),
-            other_fin: segment(Side::Outside, FIN),
-        }
-    }
-
     /// Makes the frames those of the pair with this number.
     fn set(&mut self, number: u32) {
         set_pair(&mut self.syn, Side::Inside, number);
@@ -148,17 +139,13 @@ impl<G: Gate> Churn<G> {
         self.watch.stepped(rt, start, case);
     }
 
-    /// Gives the second gateway the datagrams that the first one sent last.
-    fn to_one(&mut self, rt: &HostRuntime, case: &mut Case) {
+    /// Gives a gateway the datagrams that the other one sent last.
+    fn bring(&mut self, rt: &HostRuntime, to: GatewayId, case: &mut Case) {
         let start = self.watch.now(rt, case);
-        self.both.one.take(&self.both.zero, case);
-        self.watch.stepped(rt, start, case);
-    }
-
-    /// Gives the first gateway the datagrams that the second one sent last.
-    fn to_zero(&mut self, rt: &HostRuntime, case: &mut Case) {
-        let start = self.watch.now(rt, case);
-        self.both.zero.take(&self.both.one, case);
+        match to {
+            GatewayId::Zero => self.both.zero.take(&self.both.one, case),
+            GatewayId::One => self.both.one.take(&self.both.zero, case),
+        }
         self.watch.stepped(rt, start, case);
     }
 
@@ -169,39 +156,29 @@ impl<G: Gate> Churn<G> {
             if !self.both.zero.tells() {
                 break;
             }
-            self.to_one(rt, case);
+            self.bring(rt, GatewayId::One, case);
             if !self.both.one.tells() {
                 break;
             }
-            self.to_zero(rt, case);
+            self.bring(rt, GatewayId::Zero, case);
         }
-    }
-
-    /// Ticks the first gateway.
-    fn tick_zero(&mut self, rt: &HostRuntime, case: &mut Case) {
-        let start = self.watch.now(rt, case);
-        let moment = self.both.moment.saturating_add(ACTIVE);
-        self.both.zero.tick(moment, case);
-        let spent = self.watch.now(rt, case).saturating_sub(start);
-        self.watch.ticked(spent, self.both.zero.released());
-    }
-
-    /// Ticks the second gateway.
-    fn tick_one(&mut self, rt: &HostRuntime, case: &mut Case) {
-        let start = self.watch.now(rt, case);
-        self.both.one.tick(self.both.moment, case);
-        let spent = self.watch.now(rt, case).saturating_sub(start);
-        self.watch.ticked(spent, self.both.one.released());
     }
 
     /// Moves both clocks on by `by` centiseconds, and carries the datagrams.
     fn tick(&mut self, rt: &HostRuntime, by: u64, case: &mut Case) {
         self.both.moment = self.both.moment.saturating_add(by);
-        self.tick_zero(rt, case);
+        let moment = self.both.moment;
+        let start = self.watch.now(rt, case);
+        self.both.zero.tick(moment.saturating_add(ACTIVE), case);
+        let spent = self.watch.now(rt, case).saturating_sub(start);
+        self.watch.ticked(spent, self.both.zero.released());
         self.converse(rt, case);
-        self.tick_one(rt, case);
+        let start = self.watch.now(rt, case);
+        self.both.one.tick(moment, case);
+        let spent = self.watch.now(rt, case).saturating_sub(start);
+        self.watch.ticked(spent, self.both.one.released());
         if self.both.one.tells() {
-            self.to_zero(rt, case);
+            self.bring(rt, GatewayId::Zero, case);
             self.converse(rt, case);
         }
     }
@@ -209,12 +186,12 @@ impl<G: Gate> Churn<G> {
     /// Opens a connection: its pair is proposed and accepted, and its packet is sent on.
     fn open(&mut self, rt: &HostRuntime, frames: &Frames, case: &mut Case) {
         self.hand(rt, Side::Inside, &frames.syn, case);
-        self.to_one(rt, case);
-        self.to_zero(rt, case);
+        self.bring(rt, GatewayId::One, case);
+        self.bring(rt, GatewayId::Zero, case);
         if !self.both.zero.sends() {
             case.fault();
         }
-        self.to_one(rt, case);
+        self.bring(rt, GatewayId::One, case);
     }
 
     /// Closes a connection at both ends.
@@ -230,7 +207,8 @@ impl<G: Gate> Churn<G> {
     fn rest(&mut self, rt: &HostRuntime, case: &mut Case) {
         self.tick(rt, REST, case);
         for _ in 0..PATIENCE {
-            if self.both.zero.entry_count() == 0 && self.both.one.entry_count() == 0 {
+            let held = self.both.zero.gateway.entry_count();
+            if held == 0 && self.both.one.gateway.entry_count() == 0 {
                 return;
             }
             self.tick(rt, APART, case);
@@ -238,29 +216,29 @@ impl<G: Gate> Churn<G> {
         case.fault();
     }
 
-    fn open_all(&mut self, rt: &HostRuntime, frames: &mut Frames, count: u32, case: &mut Case) {
+    /// Runs a round, which opens, closes and releases `count` connections.
+    fn round(&mut self, rt: &HostRuntime, frames: &mut Frames, count: u32, case: &mut Case) {
         for number in 0..count {
             frames.set(number);
             self.open(rt, frames, case);
         }
-    }
-
-    fn close_all(&mut self, rt: &HostRuntime, frames: &mut Frames, count: u32, case: &mut Case) {
         for number in 0..count {
             frames.set(number);
             self.close(rt, frames, case);
         }
+        self.rest(rt, case);
     }
 
-    /// Runs `rounds` rounds, each of which opens, closes and releases `endpoints` connections, and returns the
-    /// processor's time in nanoseconds.
+    /// Runs `rounds` rounds of `endpoints` connections each, and returns the processor's time in nanoseconds.
     fn rounds(&mut self, rt: &HostRuntime, rounds: u32, endpoints: u32, case: &mut Case) -> u128 {
-        let mut frames = Frames::new();
+        let mut frames = Frames {
+            syn: segment(Side::Inside, SYN),
+            fin: segment(Side::Inside, FIN),
+            other_fin: segment(Side::Outside, FIN),
+        };
         let start = computed(rt, case);
         for _ in 0..rounds {
-            self.open_all(rt, &mut frames, endpoints, case);
-            self.close_all(rt, &mut frames, endpoints, case);
-            self.rest(rt, case);
+            self.round(rt, &mut frames, endpoints, case);
         }
         computed(rt, case).saturating_sub(start)
     }
@@ -301,7 +279,7 @@ pub(crate) fn report_churn<G: Gate>(
     let Some(both) = Both::<G>::synced(settings, Protocol::Tcp, 0, case) else {
         return;
     };
-    let watch = Watch::new(is_on);
+    let watch = Watch { is_on, ..OFF };
     let mut churn = Churn { both, watch };
     let spent = churn.rounds(rt, rounds, endpoints, case);
     let Churn { both, watch } = churn;

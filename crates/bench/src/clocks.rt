@@ -42,23 +42,17 @@ pub(crate) fn computed(rt: &HostRuntime, case: &mut Case) -> u128 {
     }
 }
 
-/// Prints the nanoseconds for each of `count` calls, rounded down.
-pub(crate) fn tell_each(spent: u128, count: u32, case: &mut Case) {
-    case.put(spent / u128::from(count.max(1)));
-    case.put(" ns, ");
-}
-
-/// Prints the nanoseconds for each of `count` packets, and how many of them were sent on.
+/// Prints the nanoseconds for each of `count` packets, rounded down, and how many of them were sent on.
 pub(crate) fn tell_sent(spent: u128, count: u32, sent: u32, case: &mut Case) {
-    tell_each(spent, count, case);
-    case.put(sent);
+    case.put(spent / u128::from(count.max(1)));
+    case.say(" ns, ", sent);
     case.say(" of ", count);
     case.put(" sent\n");
 }
 
-/// Prints the nanoseconds for each of `count` calls, and how many pairs there are then.
+/// Prints the nanoseconds for each of `count` calls, rounded down, and how many pairs there are then.
 pub(crate) fn tell_held(spent: u128, count: u32, held: usize, case: &mut Case) {
-    tell_each(spent, count, case);
-    case.put(held);
+    case.put(spent / u128::from(count.max(1)));
+    case.say(" ns, ", held);
     case.put(" pairs held\n");
 }

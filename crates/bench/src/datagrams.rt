@@ -45,32 +45,42 @@ fn pass(
     }
 }
 
-fn making(
+/// Prints the cost of making and of reading a datagram.
+fn tell_made(
     rt: &HostRuntime,
+    text: &str,
     link: &mut Link,
     bytes: &mut Vec<u8>,
     count: u32,
     case: &mut Case,
-) -> u128 {
+) {
     let start = now(rt, case);
     for number in 0..count {
         send(link, 1000 + u64::from(number) * 10, bytes, case);
     }
-    each(rt, start, count, case)
-}
-
-fn reading(rt: &HostRuntime, bytes: &[u8], count: u32, case: &mut Case) -> u128 {
+    let made = each(rt, start, count, case);
     let mut read = 0u32;
     let start = now(rt, case);
     for _ in 0..count {
-        if parse(bytes).is_ok() {
+        if parse(bytes.as_slice()).is_ok() {
             read = read.saturating_add(1);
         }
     }
-    each(rt, start, read, case)
+    let parsed = each(rt, start, read, case);
+    case.say(text, made);
+    case.say(" ns made, ", parsed);
+    case.put(" ns parsed");
 }
 
-fn taking(rt: &HostRuntime, link: &mut Link, bytes: &[u8], count: u32, case: &mut Case) -> u128 {
+/// Prints the cost of taking a datagram.
+fn tell_taken(
+    rt: &HostRuntime,
+    text: &str,
+    link: &mut Link,
+    bytes: &[u8],
+    count: u32,
+    case: &mut Case,
+) {
     let mut taken = 0u32;
     let start = now(rt, case);
     for _ in 0..count {
@@ -78,23 +88,36 @@ fn taking(rt: &HostRuntime, link: &mut Link, bytes: &[u8], count: u32, case: &mu
             taken = taken.saturating_add(1);
         }
     }
-    each(rt, start, taken, case)
+    let cost = each(rt, start, taken, case);
+    case.say(text, cost);
+    case.put(" ns");
 }
 
-fn pushing(rt: &HostRuntime, link: &mut Link, count: u32, case: &mut Case) -> u128 {
+/// Pushes a whole batch, and prints the cost of a push.
+fn tell_pushed(rt: &HostRuntime, link: &mut Link, case: &mut Case) {
     let mut pushed = 0u32;
     let start = now(rt, case);
-    for _ in 0..count {
+    for _ in 0..BATCH {
         if link.push(ENTRY).is_ok() {
             pushed = pushed.saturating_add(1);
         }
     }
-    each(rt, start, pushed, case)
+    let cost = each(rt, start, pushed, case);
+    case.say("a push: ", cost);
+    case.put(" ns\n");
 }
 
-/// Sends all that was pushed until it is taken and acknowledged, and returns how many records that were.
-fn drain(from: &mut Link, to: &mut Link, bytes: &mut Vec<u8>, case: &mut Case) -> usize {
+/// Sends all that was pushed until it is taken and acknowledged, and prints the time that this took, and how many
+/// records that were.
+fn tell_drained(
+    rt: &HostRuntime,
+    from: &mut Link,
+    to: &mut Link,
+    bytes: &mut Vec<u8>,
+    case: &mut Case,
+) {
     let mut drained = 0usize;
+    let start = now(rt, case);
     for number in 0..BATCH {
         let moment = 5_000_000 + u64::from(number) * 10;
         let count = pass(from, to, moment, bytes, case);
@@ -104,7 +127,10 @@ fn drain(from: &mut Link, to: &mut Link, bytes: &mut Vec<u8>, case: &mut Case) -
         drained = drained.saturating_add(count);
         pass(to, from, moment, bytes, case);
     }
-    drained
+    let spent = since(rt, start, case);
+    case.say("drained: ", spent / 1000);
+    case.say(" us for ", drained);
+    case.put(" records\n");
 }
 
 /// Makes both ends of a link, as they begin.
@@ -131,59 +157,12 @@ fn measure_between(rt: &HostRuntime, zero: &mut Link, one: &mut Link, case: &mut
     pass(zero, one, 0, &mut bytes, case);
     pass(one, zero, 0, &mut bytes, case);
     tell_made(rt, "no records: ", zero, &mut bytes, count, case);
-    tell_taken(rt, " ns parsed, ", one, bytes.as_slice(), count, case);
+    tell_taken(rt, ", ", one, bytes.as_slice(), count, case);
     case.put(" taken\n");
-    let pushed = pushing(rt, zero, BATCH, case);
-    case.say("a push: ", pushed);
-    case.put(" ns\n");
+    tell_pushed(rt, zero, case);
     tell_made(rt, "64 records: ", zero, &mut bytes, count, case);
-    case.put(" ns parsed\n");
+    case.end();
     tell_drained(rt, zero, one, &mut bytes, case);
     tell_taken(rt, "the last again: ", one, bytes.as_slice(), count, case);
     case.end();
-}
-
-/// Prints the cost of making and of reading a datagram.
-fn tell_made(
-    rt: &HostRuntime,
-    text: &str,
-    link: &mut Link,
-    bytes: &mut Vec<u8>,
-    count: u32,
-    case: &mut Case,
-) {
-    let made = making(rt, link, bytes, count, case);
-    let read = reading(rt, bytes.as_slice(), count, case);
-    case.say(text, made);
-    case.say(" ns made, ", read);
-}
-
-/// Prints the cost of taking a datagram.
-fn tell_taken(
-    rt: &HostRuntime,
-    text: &str,
-    link: &mut Link,
-    bytes: &[u8],
-    count: u32,
-    case: &mut Case,
-) {
-    let taken = taking(rt, link, bytes, count, case);
-    case.say(text, taken);
-    case.put(" ns");
-}
-
-/// Prints the time until all that was pushed is taken.
-fn tell_drained(
-    rt: &HostRuntime,
-    zero: &mut Link,
-    one: &mut Link,
-    bytes: &mut Vec<u8>,
-    case: &mut Case,
-) {
-    let start = now(rt, case);
-    let records = drain(zero, one, bytes, case);
-    let spent = since(rt, start, case);
-    case.say("drained: ", spent / 1000);
-    case.say(" us for ", records);
-    case.put(" records\n");
 }

@@ -69,20 +69,6 @@ pub(crate) fn report_synced<G: Gate>(rt: &HostRuntime, settings: &Settings, case
     }
 }
 
-/// Returns the kind of a new flow's packet: UDP as long as there are ports of it, then TCP.
-fn kind_of(number: u32) -> Kind {
-    let protocol = if number < PORTS {
-        Protocol::Udp
-    } else {
-        Protocol::Tcp
-    };
-    Kind {
-        side: Side::Inside,
-        protocol,
-        size: OPENING,
-    }
-}
-
 impl<G: Gate> Both<G> {
     /// Gives the first gateway a packet of a new flow, whose pair is proposed and accepted, and returns whether the
     /// packet was sent on.
@@ -96,24 +82,28 @@ impl<G: Gate> Both<G> {
         sent
     }
 
-    /// Opens `count` new flows, and returns how many packets were sent on.
+    /// Opens `count` new flows, of UDP as long as there are ports of it, then of TCP, and returns how many packets were
+    /// sent on.
     fn open_all(&mut self, count: u32, case: &mut Case) -> u32 {
         let mut sent = 0u32;
         for number in 0..count {
-            let mut frame = frame_of(kind_of(number));
-            set_pair(&mut frame, Side::Inside, number);
+            let (side, size) = (Side::Inside, OPENING);
+            let protocol = if number < PORTS {
+                Protocol::Udp
+            } else {
+                Protocol::Tcp
+            };
+            let mut frame = frame_of(Kind {
+                side,
+                protocol,
+                size,
+            });
+            set_pair(&mut frame, side, number);
             if self.opens(&frame, case) {
                 sent = sent.saturating_add(1);
             }
         }
         sent
-    }
-
-    /// Runs `count` rounds: a tick of each gateway, at which a datagram is due that the other takes.
-    fn tick_often(&mut self, count: u32, case: &mut Case) {
-        for _ in 0..count {
-            self.tick(INTERVAL, case);
-        }
     }
 }
 
@@ -145,20 +135,13 @@ pub(crate) fn report_pair<G: Gate>(rt: &HostRuntime, settings: &Settings, case: 
     let (count, pairs) = (case.times(), case.times());
     if let Some(mut both) = Both::<G>::synced(settings, Protocol::Tcp, pairs, case) {
         let start = now(rt, case);
-        both.tick_often(count, case);
-        let held = both.one.entry_count();
+        for _ in 0..count {
+            both.tick(INTERVAL, case);
+        }
+        let held = both.one.gateway.entry_count();
         both.end();
         let spent = since(rt, start, case);
         tell_held(spent, count, held, case);
-    }
-}
-
-/// Ticks a gateway `count` times, where the clock moves on by `by` centiseconds each time.
-fn tick_alone<G: Gate>(station: &mut Station<G>, count: u32, by: u64, case: &mut Case) {
-    let mut moment = ACTIVE;
-    for _ in 0..count {
-        moment = moment.saturating_add(by);
-        station.tick(moment, case);
     }
 }
 
@@ -173,8 +156,12 @@ pub(crate) fn report_ticks<G: Gate>(
     let (count, pairs) = (case.times(), case.times());
     if let Some(mut station) = Station::<G>::ready(settings, Protocol::Tcp, pairs, case) {
         let start = now(rt, case);
-        tick_alone(&mut station, count, by, case);
-        let held = station.entry_count();
+        let mut moment = ACTIVE;
+        for _ in 0..count {
+            moment = moment.saturating_add(by);
+            station.tick(moment, case);
+        }
+        let held = station.gateway.entry_count();
         station.end();
         let spent = since(rt, start, case);
         tell_held(spent, count, held, case);

@@ -39,6 +39,7 @@ use churn::report_churn;
 use flows::{report_kind, report_lone, report_new, report_pair, report_synced, report_ticks};
 use gateway::Gateway;
 use many::report_many;
+use nat_types::GatewayId;
 use ports::report_ports;
 use settings::Settings;
 use stations::Station;
@@ -46,13 +47,13 @@ use std::env;
 
 /// Starts a gateway, and ends it.
 fn start(settings: &Settings, case: &mut Case) {
-    if let Some(station) = Station::<Gateway>::founded(settings, case) {
+    if let Some(station) = Station::<Gateway>::begun(settings, GatewayId::Zero, case) {
         station.end();
     }
 }
 
 /// Prints what a command measures.
-fn report(rt: &HostRuntime, settings: &Settings, case: &mut Case) {
+fn report(rt: &HostRuntime, settings: &mut Settings, case: &mut Case) {
     match case.word() {
         "kind" => report_kind::<Gateway>(rt, settings, case),
         "synced" => report_synced::<Gateway>(rt, settings, case),
@@ -90,10 +91,10 @@ fn main(rt: HostRuntime) -> Result<()> {
     if line.is_empty() {
         return Ok(());
     }
-    let settings = Settings::sample(rt.alloc())?;
+    let mut settings = Settings::sample(rt.alloc())?;
     let mut case = Case::new(rt.alloc());
     case.begin(line.as_str());
-    report(&rt, &settings, &mut case);
+    report(&rt, &mut settings, &mut case);
     drop(settings);
     case.flush(&rt);
     if case.is_wrong() {

@@ -15,56 +15,29 @@ const REST: u64 = 800_000;
 /// The number of ticks that are measured at once.
 const TICKS: u64 = 100;
 
-/// Prints how many pairs a line is about, and what happens to them.
-fn tell(pairs: u32, what: &str, case: &mut Case) {
+/// Prints how many pairs a line is about, what happens to them, and the time that it took.
+fn tell(pairs: u32, what: &str, nanoseconds: u128, case: &mut Case) {
     case.put(pairs);
     case.say(" ", what);
-}
-
-fn tell_micros(nanoseconds: u128, case: &mut Case) {
     case.say(": ", nanoseconds / 1000);
     case.put(" us");
 }
 
-/// Returns the nanoseconds of the tick at which all pairs of a gateway are idle.
-fn idle<G: Gate>(rt: &HostRuntime, station: &mut Station<G>, case: &mut Case) -> u128 {
-    let start = now(rt, case);
-    station.tick(ACTIVE + REST, case);
-    let spent = since(rt, start, case);
-    if station.entry_count() > 0 {
-        case.fault();
-    }
-    spent
-}
-
-/// Returns the nanoseconds of `TICKS` ticks of a gateway all of whose pairs are idle, and none of which it may release.
-/// The first such tick isn't counted.
-fn rest<G: Gate>(rt: &HostRuntime, station: &mut Station<G>, case: &mut Case) -> u128 {
-    let pairs = station.entry_count();
-    station.tick(ACTIVE + REST, case);
-    let start = now(rt, case);
-    for tick in 1..=TICKS {
-        station.tick(ACTIVE + REST + tick, case);
-    }
-    let spent = since(rt, start, case);
-    if station.entry_count() != pairs {
-        case.fault();
-    }
-    spent
-}
-
-/// Opens `pairs` pairs, lets them become idle, and prints what each costs.
+/// Opens `pairs` pairs, lets all of them become idle at one tick, and prints what each costs.
 fn open_and_idle<G: Gate>(rt: &HostRuntime, settings: &Settings, pairs: u32, case: &mut Case) {
     let start = now(rt, case);
     if let Some(mut station) = Station::<G>::ready(settings, Protocol::Udp, pairs, case) {
         let opened = since(rt, start, case);
-        let idled = idle(rt, &mut station, case);
+        let start = now(rt, case);
+        station.tick(ACTIVE + REST, case);
+        let idled = since(rt, start, case);
+        if station.gateway.entry_count() > 0 {
+            case.fault();
+        }
         station.end();
-        tell(pairs, "pairs opened", case);
-        tell_micros(opened, case);
+        tell(pairs, "pairs opened", opened, case);
         case.end();
-        tell(pairs, "pairs idle at one tick", case);
-        tell_micros(idled, case);
+        tell(pairs, "pairs idle at one tick", idled, case);
         case.end();
     }
 }
@@ -73,10 +46,20 @@ fn open_and_idle<G: Gate>(rt: &HostRuntime, settings: &Settings, pairs: u32, cas
 fn load_and_rest<G: Gate>(rt: &HostRuntime, settings: &Settings, pairs: u32, case: &mut Case) {
     if let Some(mut both) = Both::<G>::ready(settings, Protocol::Udp, pairs, case) {
         tell_load(rt, &mut both, pairs, case);
-        tell(pairs, "idle pairs, the peer silent", case);
-        tell_rest(rt, &mut both.zero, case);
-        tell(pairs, "idle pairs of the other gateway", case);
-        tell_rest(rt, &mut both.one, case);
+        tell_rest(
+            rt,
+            "idle pairs, the peer silent",
+            &mut both.zero,
+            pairs,
+            case,
+        );
+        tell_rest(
+            rt,
+            "idle pairs of the other gateway",
+            &mut both.one,
+            pairs,
+            case,
+        );
         both.end();
     }
 }
@@ -86,18 +69,34 @@ fn tell_load<G: Gate>(rt: &HostRuntime, both: &mut Both<G>, pairs: u32, case: &m
     let start = now(rt, case);
     let ticks = both.load(case);
     let spent = since(rt, start, case);
-    if both.zero.entry_count() != both.one.entry_count() {
+    if both.zero.gateway.entry_count() != both.one.gateway.entry_count() {
         case.fault();
     }
-    tell(pairs, "pairs loaded", case);
-    tell_micros(spent, case);
+    tell(pairs, "pairs loaded", spent, case);
     case.say(", ", ticks);
     case.put(" ticks\n");
 }
 
-fn tell_rest<G: Gate>(rt: &HostRuntime, station: &mut Station<G>, case: &mut Case) {
-    let spent = rest(rt, station, case);
-    tell_micros(spent, case);
+/// Prints the cost of `TICKS` ticks of a gateway all of whose pairs are idle, and none of which it may release. The
+/// first such tick isn't counted.
+fn tell_rest<G: Gate>(
+    rt: &HostRuntime,
+    what: &str,
+    station: &mut Station<G>,
+    pairs: u32,
+    case: &mut Case,
+) {
+    let held = station.gateway.entry_count();
+    station.tick(ACTIVE + REST, case);
+    let start = now(rt, case);
+    for tick in 1..=TICKS {
+        station.tick(ACTIVE + REST + tick, case);
+    }
+    let spent = since(rt, start, case);
+    if station.gateway.entry_count() != held {
+        case.fault();
+    }
+    tell(pairs, what, spent, case);
     case.say(" for ", TICKS);
     case.put(" ticks\n");
 }

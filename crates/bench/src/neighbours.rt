@@ -8,6 +8,9 @@ use cases_words::Case;
 /// The number of entries for which a cache has capacity.
 const FULL: u32 = 1024;
 
+/// The hardware address of all hosts.
+const MAC: Mac = Mac([2, 0, 0, 0, 0, 1]);
+
 /// Returns the address of one of the hosts that fill the cache, in turn.
 fn host(number: u32) -> Ip {
     Ip(0xc0a8_0000 + number % FULL)
@@ -19,22 +22,22 @@ fn stranger(number: u32) -> Ip {
     Ip(0x0a00_0000 + number.wrapping_mul(0x9e37_79b1) % 0x0100_0000)
 }
 
-fn mac() -> Mac {
-    Mac([2, 0, 0, 0, 0, 1])
-}
-
-fn learn_strangers(rt: &HostRuntime, cache: &mut Cache, count: u32, case: &mut Case) -> u128 {
+/// Learns strangers or hosts, and returns the nanoseconds for each.
+fn learn(
+    rt: &HostRuntime,
+    cache: &mut Cache,
+    is_strange: bool,
+    count: u32,
+    case: &mut Case,
+) -> u128 {
     let start = now(rt, case);
     for number in 0..count {
-        cache.learn(stranger(number), mac(), u64::from(number));
-    }
-    each(rt, start, count, case)
-}
-
-fn learn_hosts(rt: &HostRuntime, cache: &mut Cache, count: u32, case: &mut Case) -> u128 {
-    let start = now(rt, case);
-    for number in 0..count {
-        cache.learn(host(number), mac(), u64::from(number));
+        let address = if is_strange {
+            stranger(number)
+        } else {
+            host(number)
+        };
+        cache.learn(address, MAC, u64::from(number));
     }
     each(rt, start, count, case)
 }
@@ -57,9 +60,9 @@ fn tell_known(rt: &HostRuntime, cache: &Cache, count: u32, case: &mut Case) {
 
 fn measure_in(rt: &HostRuntime, cache: &mut Cache, case: &mut Case) {
     let count = case.times();
-    let strangers = learn_strangers(rt, cache, count, case);
-    learn_hosts(rt, cache, FULL, case);
-    let renewal = learn_hosts(rt, cache, count, case);
+    let strangers = learn(rt, cache, true, count, case);
+    learn(rt, cache, false, FULL, case);
+    let renewal = learn(rt, cache, false, count, case);
     case.put(renewal);
     case.say(" ns a renewal, ", strangers);
     case.put(" ns a stranger, ");

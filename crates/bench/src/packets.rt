@@ -25,6 +25,15 @@ const FIRST_INSIDE: u32 = 5000;
 /// The outside port of the first pair.
 const FIRST_OUTSIDE: u32 = 20_000;
 
+/// The place of a segment's flags in its frame.
+pub(crate) const FLAGS: usize = 47;
+
+/// The flags of a segment that opens a connection.
+pub(crate) const SYN: u8 = 0x02;
+
+/// The flags of a segment that ends its sender's half of a connection.
+pub(crate) const FIN: u8 = 0x11;
+
 /// A kind of packet: the side on which it comes in, its protocol, and its length in bytes, 40 to 1,500.
 #[derive(Clone, Copy)]
 pub(crate) struct Kind {
@@ -33,21 +42,21 @@ pub(crate) struct Kind {
     pub(crate) size: u16,
 }
 
-/// A packet of 192.168.1.10 to 198.51.100.7:53 in its frame, up to the ports. The length, the protocol, the header
-/// checksum and the source port are 0.
+/// A packet of 192.168.1.10:5000 to 198.51.100.7:53 in its frame, up to the ports. The length, the protocol and the
+/// header checksum are 0.
 const FROM_INSIDE: [u8; STARTS] = *b"\
     \x00\x00\x5e\x00\x01\x0b\x02\x00\x00\x00\x00\x0a\x08\x00\
     \x45\x00\x00\x00\x00\x01\x00\x00\x40\x00\x00\x00\
-    \xc0\xa8\x01\x0a\xc6\x33\x64\x07\x00\x00\x00\x35";
+    \xc0\xa8\x01\x0a\xc6\x33\x64\x07\x13\x88\x00\x35";
 
-/// A packet of 198.51.100.7:53 to 192.0.2.1, the address that all hosts have outside, in its frame, up to the ports.
-/// The length, the protocol, the header checksum and the destination port are 0.
+/// A packet of 198.51.100.7:53 to 192.0.2.1:20000, at the address that all hosts have outside, in its frame, up to the
+/// ports. The length, the protocol and the header checksum are 0.
 const FROM_OUTSIDE: [u8; STARTS] = *b"\
     \x00\x00\x5e\x00\x01\x0a\x02\x00\x00\x00\x00\xfe\x08\x00\
     \x45\x00\x00\x00\x00\x01\x00\x00\x40\x00\x00\x00\
-    \xc6\x33\x64\x07\xc0\x00\x02\x01\x00\x35\x00\x00";
+    \xc6\x33\x64\x07\xc0\x00\x02\x01\x00\x35\x4e\x20";
 
-/// Returns the start of such a packet's frame, without the header checksum.
+/// Returns the start of such a packet's frame.
 fn start_of(kind: Kind) -> [u8; STARTS] {
     let mut start = match kind.side {
         Side::Inside => FROM_INSIDE,
@@ -57,56 +66,38 @@ fn start_of(kind: Kind) -> [u8; STARTS] {
     start[16] = high;
     start[17] = low;
     start[23] = kind.protocol.number();
-    start
-}
-
-/// Returns a start with its header checksum.
-fn summed(mut start: [u8; STARTS]) -> [u8; STARTS] {
     let [high, low] = (65535 - sum(&start[14..34])).to_be_bytes();
     start[24] = high;
     start[25] = low;
     start
 }
 
-/// Writes what follows the ports. No gateway tests the checksum of a datagram or of a segment, so any value will do.
+/// Writes what follows the ports; of a query, all that follows the header. No gateway tests the checksum of a datagram
+/// or of a segment, so any value will do.
 fn set_transport(frame: &mut [u8; LONGEST], kind: Kind) {
     match kind.protocol {
-        // No query is measured.
-        Protocol::Icmp => {}
+        // An Echo.
+        Protocol::Icmp => frame[34..40].copy_from_slice(&[8, 0, 0x12, 0x34, 0x13, 0x88]),
         Protocol::Udp => {
             let [high, low] = kind.size.saturating_sub(20).to_be_bytes();
-            frame[38] = high;
-            frame[39] = low;
-            frame[40] = 0x12;
-            frame[41] = 0x34;
+            frame[38..42].copy_from_slice(&[high, low, 0x12, 0x34]);
         }
         Protocol::Tcp => {
             // An acknowledgement without options.
             frame[46] = 0x50;
-            frame[47] = 0x10;
+            frame[FLAGS] = 0x10;
             frame[50] = 0x12;
             frame[51] = 0x34;
         }
     }
 }
 
-/// Returns the frame of a packet of a kind, which belongs to no pair yet. The payload is zeros.
+/// Returns the frame of a packet of a kind, which belongs to the first pair. The payload is zeros.
 pub(crate) fn frame_of(kind: Kind) -> [u8; LONGEST] {
     let mut frame = [0; LONGEST];
-    frame[..STARTS].copy_from_slice(&summed(start_of(kind)));
+    frame[..STARTS].copy_from_slice(&start_of(kind));
     set_transport(&mut frame, kind);
     frame
-}
-
-/// The flags of a segment that opens a connection.
-pub(crate) const SYN: u8 = 0x02;
-
-/// The flags of a segment that ends its sender's half of a connection.
-pub(crate) const FIN: u8 = 0x11;
-
-/// Sets the flags of a segment.
-pub(crate) fn set_flags(frame: &mut [u8; LONGEST], flags: u8) {
-    frame[47] = flags;
 }
 
 /// Makes a frame's packet one of the pair with this number, counted from 0.

@@ -4,7 +4,7 @@
 use crate::boxes::{Both, converse};
 use crate::gates::Gate;
 use crate::packets::{Kind, OPENING, frame_of, set_pair};
-use crate::stations::{ACTIVE, Station};
+use crate::stations::ACTIVE;
 use addresses::{Port, Protocol};
 use cases_words::Case;
 use nat_types::Side;
@@ -30,13 +30,6 @@ const UNEVEN: PortRanges = PortRanges {
 };
 
 impl<G: Gate> Both<G> {
-    /// Moves both clocks on until both gateways are Active.
-    fn wake(&mut self, case: &mut Case) {
-        for _ in 0..BOTH_ACTIVE / 10 {
-            self.tick(10, case);
-        }
-    }
-
     /// Gives the second gateway a packet of a new flow.
     fn come_to_one(&mut self, number: u32, case: &mut Case) {
         let (side, protocol, size) = (Side::Inside, Protocol::Tcp, OPENING);
@@ -49,11 +42,13 @@ impl<G: Gate> Both<G> {
         self.one.hand(side, &frame, size, case);
     }
 
-    /// Has the second gateway take the only port that it has, and then ask for more, in the datagrams that it sends
-    /// last.
+    /// Moves both clocks on until both gateways are Active. Has the second gateway take the only port that it has, and
+    /// then ask for more, in the datagrams that it sends last.
     fn want(&mut self, case: &mut Case) {
         self.load(case);
-        self.wake(case);
+        for _ in 0..BOTH_ACTIVE / 10 {
+            self.tick(10, case);
+        }
         self.come_to_one(0, case);
         converse(&mut self.one, &mut self.zero, case);
         self.come_to_one(1, case);
@@ -73,73 +68,60 @@ impl<G: Gate> Both<G> {
         }
     }
 
-    /// Has the second gateway take the batch that begins, where the count isn't 0.
-    fn take_batch(&mut self, count: u32, case: &mut Case) {
+    /// Does `count` times, once or not at all, what the word says, and returns how many entries the table of the gateway
+    /// that took the last datagrams then has.
+    ///
+    /// - `want`: the first gateway takes a Want, and grants ports
+    /// - `begin`: the second one takes the first datagram of a batch of no pairs
+    /// - `batch`: the second one takes a whole batch
+    fn work(&mut self, what: Work, count: u32, case: &mut Case) -> usize {
+        match what {
+            Work::Want => self.want(case),
+            Work::Begin | Work::Batch => self.begin(case),
+        }
         for _ in 0..count {
-            converse(&mut self.zero, &mut self.one, case);
+            match what {
+                Work::Want => self.zero.take(&self.one, case),
+                Work::Begin => self.one.take(&self.zero, case),
+                Work::Batch => converse(&mut self.zero, &mut self.one, case),
+            }
+        }
+        match what {
+            Work::Want => self.zero.gateway.entry_count(),
+            Work::Begin | Work::Batch => self.one.gateway.entry_count(),
         }
     }
 }
 
-/// Asks for ports, and grants them `count` times: once, or not at all.
-fn grant<G: Gate>(count: u32, case: &mut Case) {
-    match Settings::sample(case.alloc) {
-        Ok(mut settings) => {
-            settings.ports = UNEVEN;
-            grant_by::<G>(&settings, count, case);
-            drop(settings);
-        }
-        Err(_) => case.fault(),
-    }
+/// What is measured.
+#[derive(Clone, Copy, PartialEq, Eq)]
+enum Work {
+    /// A Want, and the grant of ports.
+    Want,
+    /// The first datagram of a batch of no pairs.
+    Begin,
+    /// A whole batch.
+    Batch,
 }
 
-fn grant_by<G: Gate>(settings: &Settings, count: u32, case: &mut Case) {
-    if let Some(mut both) = Both::<G>::ready(settings, Protocol::Udp, PAIRS, case) {
-        both.want(case);
-        take_often(&mut both.zero, &both.one, count, case);
-        tell_entries(&both.zero, case);
-        both.end();
-    }
-}
-
-/// Begins a batch of no pairs, whose first datagram is taken `count` times: once, or not at all.
-fn begin<G: Gate>(settings: &Settings, count: u32, case: &mut Case) {
-    if let Some(mut both) = Both::<G>::ready(settings, Protocol::Udp, 0, case) {
-        both.begin(case);
-        take_often(&mut both.one, &both.zero, count, case);
-        tell_entries(&both.one, case);
-        both.end();
-    }
-}
-
-/// Begins a batch, and takes it whole, where the count isn't 0.
-fn load<G: Gate>(settings: &Settings, count: u32, case: &mut Case) {
-    if let Some(mut both) = Both::<G>::ready(settings, Protocol::Udp, PAIRS, case) {
-        both.begin(case);
-        both.take_batch(count, case);
-        tell_entries(&both.one, case);
-        both.end();
-    }
-}
-
-/// Gives a gateway the datagrams that the other sent last, `count` times.
-fn take_often<G: Gate>(station: &mut Station<G>, other: &Station<G>, count: u32, case: &mut Case) {
-    for _ in 0..count {
-        station.take(other, case);
-    }
-}
-
-fn tell_entries<G: Gate>(station: &Station<G>, case: &mut Case) {
-    case.put(station.entry_count());
-    case.put(" entries\n");
-}
+const WORKS: [(&str, Work); 3] = [
+    ("want", Work::Want),
+    ("begin", Work::Begin),
+    ("batch", Work::Batch),
+];
 
 /// Does what the next word says so many times, and prints how many entries the table then has.
-pub(crate) fn report_ports<G: Gate>(settings: &Settings, case: &mut Case) {
-    match case.word() {
-        "want" => grant::<G>(case.times(), case),
-        "begin" => begin::<G>(settings, case.times(), case),
-        "batch" => load::<G>(settings, case.times(), case),
-        _ => case.fault(),
+pub(crate) fn report_ports<G: Gate>(settings: &mut Settings, case: &mut Case) {
+    let what = case.pick(&WORKS, Work::Want);
+    let count = case.times();
+    if what == Work::Want {
+        settings.ports = UNEVEN;
+    }
+    let pairs = if what == Work::Begin { 0 } else { PAIRS };
+    if let Some(mut both) = Both::<G>::ready(settings, Protocol::Udp, pairs, case) {
+        let entries = both.work(what, count, case);
+        both.end();
+        case.put(entries);
+        case.put(" entries\n");
     }
 }

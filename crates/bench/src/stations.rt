@@ -14,23 +14,14 @@ pub(crate) const ACTIVE: u64 = 360;
 
 /// A gateway, and its last output. A caller ends it by `end`.
 pub(crate) struct Station<G> {
-    gateway: G,
+    pub(crate) gateway: G,
     out: Out,
 }
 
 impl<G: Gate> Station<G> {
-    /// Founds gateway 0.
-    pub(crate) fn founded(settings: &Settings, case: &mut Case) -> Option<Station<G>> {
-        Station::of(G::begun(case.alloc, settings, GatewayId::Zero), case)
-    }
-
-    /// Begins gateway 1.
-    pub(crate) fn second(settings: &Settings, case: &mut Case) -> Option<Station<G>> {
-        Station::of(G::begun(case.alloc, settings, GatewayId::One), case)
-    }
-
-    fn of(gateway: Option<G>, case: &mut Case) -> Option<Station<G>> {
-        match gateway {
+    /// Begins a gateway in its first boot. Gateway 0 is founded.
+    pub(crate) fn begun(settings: &Settings, id: GatewayId, case: &mut Case) -> Option<Station<G>> {
+        match G::begun(case.alloc, settings, id) {
             Some(gateway) => Some(Station {
                 gateway,
                 out: Out::new(case.alloc),
@@ -57,10 +48,15 @@ impl<G: Gate> Station<G> {
         pairs: u32,
         case: &mut Case,
     ) -> Option<Station<G>> {
-        let mut station = Station::founded(settings, case)?;
+        let mut station = Station::begun(settings, GatewayId::Zero, case)?;
         station.tick(ACTIVE, case);
         station.open(protocol, pairs.min(PORTS), case);
-        station.open(other(protocol), pairs.saturating_sub(PORTS), case);
+        let other = if protocol == Protocol::Udp {
+            Protocol::Tcp
+        } else {
+            Protocol::Udp
+        };
+        station.open(other, pairs.saturating_sub(PORTS), case);
         Some(station)
     }
 
@@ -76,16 +72,6 @@ impl<G: Gate> Station<G> {
             let event = Event::Datagram(datagram);
             self.gateway.step(event, &mut self.out, case);
         }
-    }
-
-    /// Whether the gateway's table is loaded.
-    pub(crate) fn is_synced(&self) -> bool {
-        self.gateway.is_synced()
-    }
-
-    /// Returns how many entries the gateway's table has, without a list of them.
-    pub(crate) fn entry_count(&self) -> usize {
-        self.gateway.entry_count()
     }
 
     /// Whether the gateway's last output has a datagram.
@@ -136,13 +122,5 @@ impl<G: Gate> Station<G> {
         let bytes = &frame[..(HEADER + usize::from(size)).min(LONGEST)];
         let event = Event::Frame(side, bytes);
         self.gateway.step(event, &mut self.out, case)
-    }
-}
-
-/// Returns the protocol whose ports are used where this one has none left.
-fn other(protocol: Protocol) -> Protocol {
-    match protocol {
-        Protocol::Icmp | Protocol::Tcp => Protocol::Udp,
-        Protocol::Udp => Protocol::Tcp,
     }
 }
