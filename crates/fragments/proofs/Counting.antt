@@ -21,7 +21,7 @@ counts (suc n) fragments = counts n fragments + count_by (carries n) fragments
 
 sum_by-zero : (fs : List (List ℕ)) → sum_by (λ (f : List ℕ). 0) fs ≡ 0
 sum_by-zero [] = refl
-sum_by-zero (f ∷ fs) = sum_by-cons (λ (g : List ℕ). 0) f fs ∙ sum_by-zero fs
+sum_by-zero (f ∷ fs) = omega (arith, sum_by-cons (λ (g : List ℕ). 0) f fs, sum_by-zero fs)
 
 sum_by-plus : (p q : List ℕ → ℕ) (fs : List (List ℕ)) → sum_by (λ f. p f + q f) fs ≡ sum_by p fs + sum_by q fs
 sum_by-plus p q [] = refl
@@ -72,17 +72,20 @@ counts-all : (n : ℕ) (fs : List (List ℕ)) → AllByRecursion (λ f. end_of f
 counts-all n fs within = exchanged n fs ∙ sum-all n fs within
 
 -- ---- how many of a list pass a test
+abbrev pub tally : Bool → ℕ
+tally passes = (cond passes 1 0)
+
 pub count-cons : (p : List ℕ → Bool) (f : List ℕ) (fs : List (List ℕ)) → count_by p (f ∷ fs) ≡ cond (p f) 1 0 + count_by p fs
 count-cons p f fs = sum_by-cons (λ (g : List ℕ). cond (p g) 1 0) f fs
 
 pub count-none : (p : List ℕ → Bool) (fs : List (List ℕ)) → AllByRecursion (λ f. p f ≡ false) fs → count_by p fs ≡ 0
 count-none p [] none = refl
-count-none p (f ∷ fs) none = count-cons p f fs ∙ ap₂ ◌+◌ (ap (λ (b : Bool). cond b 1 0) none.0) (count-none p fs none.1)
+count-none p (f ∷ fs) none = count-cons p f fs ∙ ap₂ ◌+◌ (ap tally none.0) (count-none p fs none.1)
 
 count-same : (p q : List ℕ → Bool) (fs : List (List ℕ)) → AllByRecursion (λ f. p f ≡ q f) fs → count_by p fs ≡ count_by q fs
 count-same p q [] same = refl
 count-same p q (f ∷ fs) same =
-    count-cons p f fs ∙ ap₂ ◌+◌ (ap (λ (b : Bool). cond b 1 0) same.0) (count-same p q fs same.1) ∙ sym (count-cons q f fs)
+    count-cons p f fs ∙ ap₂ ◌+◌ (ap tally same.0) (count-same p q fs same.1) ∙ sym (count-cons q f fs)
 
 -- no two of a list pass a test: at most one does
 abbrev AtMostOne : (List ℕ → Bool) → List (List ℕ) → Type 0
@@ -94,8 +97,8 @@ count-most p [] most = omega arith
 count-most p (f ∷ fs) most = by (p f) refl (count-most p fs most.1)
   where
     by : (b : Bool) → p f ≡ b → count_by p fs ≤ 1 → count_by p (f ∷ fs) ≤ 1
-    by true is rest = omega (arith, count-cons p f fs, ap (λ (c : Bool). cond c 1 0) is, count-none p fs (most.0 is))
-    by false is rest = omega (arith, count-cons p f fs, ap (λ (c : Bool). cond c 1 0) is, rest)
+    by true is rest = omega (arith, count-cons p f fs, ap tally is, count-none p fs (most.0 is))
+    by false is rest = omega (arith, count-cons p f fs, ap tally is, rest)
 
 all-of : {X : Type 0} (P Q : X → Type 0) → ((x : X) → P x → Q x) → (xs : List X) → AllByRecursion P xs → AllByRecursion Q xs
 all-of P Q more [] all = tt
@@ -144,13 +147,13 @@ pub record Beside (f g : List ℕ) : Type 0 where
   pub second_past : is_last f ≡ true → end_of g ≤ end_of f
 
 not-past : (last : Bool) (m n : ℕ) → (last && nat_lt m n) ≡ false → last ≡ true → n ≤ m
-not-past true m n no is = ltb-false m n no
-not-past false m n no is = cc
+not-past true m n isnt is = ltb-false m n isnt
+not-past false m n isnt is = cc
 
 pub beside : (f g : List ℕ) → contradicts f g ≡ false → Beside f g
 unfolding contradicts
-beside f g no =
-    let outer = or_parts (overlaps f g || is_past f g) (is_past g f) no in
+beside f g isnt =
+    let outer = or_parts (overlaps f g || is_past f g) (is_past g f) isnt in
     let inner = or_parts (overlaps f g) (is_past f g) outer.0 in
     record {
       apart = by (and_cases (nat_lt (first_of f) (end_of g)) (nat_lt (first_of g) (end_of f)) inner.0);
@@ -172,7 +175,7 @@ carry-clash k f g one two =
     let high-f = ltb-true k (end_of f) a.1 in
     let low-g = leb-true (first_of g) k b.0 in
     let high-g = ltb-true k (end_of g) b.1 in
-    or-first _ _ (overlap f g (omega arith) (omega arith))
+    or-first _ _ _ (overlap f g (omega arith) (omega arith))
 
 trivial : (fs : List (List ℕ)) → AllByRecursion (λ (f : List ℕ). Unit {0}) fs
 trivial [] = tt
@@ -230,7 +233,7 @@ ends-within (f ∷ fs) last apart found = by (is_last f) refl found (λ there. e
     by true is here rest =
         let same : f ≡ last = same_Some f last here in
         subst (λ (l : List ℕ). AllByRecursion (λ g. end_of g ≤ end_of l) (f ∷ fs)) same
-        (omega arith, all-of (λ g. contradicts f g ≡ false) (λ g. end_of g ≤ end_of f) (λ g no. (beside f g no).second_past is) fs apart.0)
+        (omega arith, all-of (λ g. contradicts f g ≡ false) (λ g. end_of g ≤ end_of f) (λ g isnt. (beside f g isnt).second_past is) fs apart.0)
     by false is here rest =
         let lasts = found-passes is_last fs last here in
         let apart_here = found-all (λ g. contradicts f g ≡ false) is_last fs last apart.0 here in
@@ -288,7 +291,7 @@ found-some p [] x found = cc
 found-some p (f ∷ fs) x found = by (p f) refl found (λ there. found-some p fs x there)
   where
     by : (b : Bool) → p f ≡ b → (let o : Option (List ℕ) = cond b (Some f) (find p fs) in o) ≡ Some x → (find p fs ≡ Some x → 1 ≤ count_by p fs) → 1 ≤ count_by p (f ∷ fs)
-    by true is here rest = omega (arith, count-cons p f fs, ap (λ (c : Bool). cond c 1 0) is)
+    by true is here rest = omega (arith, count-cons p f fs, ap tally is)
     by false is here rest = omega (arith, count-cons p f fs, rest here)
 
 complete-at : (fs : List (List ℕ)) (last : List ℕ) → AreApart fs → AllByRecursion (λ f. is_broken f ≡ false) fs → find is_last fs ≡ Some last → carried_by fs ≡ payload_end fs → IsComplete fs
@@ -321,14 +324,14 @@ found-of p (f ∷ fs) some = by (p f) refl (λ there. found-of p fs there)
     by : (b : Bool) → p f ≡ b → (1 ≤ count_by p fs → (x : List ℕ) × (find p fs ≡ Some x) × (list_any p fs ≡ true))
         → (x : List ℕ) × ((let o : Option (List ℕ) = cond b (Some f) (find p fs) in o) ≡ Some x) × ((b || list_any p fs) ≡ true)
     by true is rest = (f, refl, refl)
-    by false is rest = rest (omega (arith, some, count-cons p f fs, ap (λ (c : Bool). cond c 1 0) is))
+    by false is rest = rest (omega (arith, some, count-cons p f fs, ap tally is))
 
 pub none-of : (p : List ℕ → Bool) (fs : List (List ℕ)) → count_by p fs ≡ 0 → AllByRecursion (λ f. p f ≡ false) fs
 none-of p [] none = tt
 none-of p (f ∷ fs) none = by (p f) refl (λ rest. none-of p fs rest)
   where
     by : (b : Bool) → p f ≡ b → (count_by p fs ≡ 0 → AllByRecursion (λ g. p g ≡ false) fs) → AllByRecursion (λ g. p g ≡ false) (f ∷ fs)
-    by true is rest = absurd (omega (arith, none, count-cons p f fs, ap (λ (c : Bool). cond c 1 0) is))
+    by true is rest = absurd (omega (arith, none, count-cons p f fs, ap tally is))
     by false is rest = (is, rest (omega (arith, none, count-cons p f fs)))
 
 -- a fragment that carries a byte ends by the end, where no byte behind it is carried
@@ -347,7 +350,7 @@ ends-by n (f ∷ fs) fine behind =
 
     by : (n < end_of f) ⊎ (end_of f ≤ n) → end_of f ≤ n
     by (inr within) = within
-    by (inl long) = absurd (omega (arith, behind (end_of f - 1) (omega (arith, long)), count-cons (carries (end_of f - 1)) f fs, ap (λ (c : Bool). cond c 1 0) (carries-end long)))
+    by (inl long) = absurd (omega (arith, behind (end_of f - 1) (omega (arith, long)), count-cons (carries (end_of f - 1)) f fs, ap tally (carries-end long)))
 
 counts-full : (n : ℕ) (fs : List (List ℕ)) → ((k : ℕ) → k < n → count_by (carries k) fs ≡ 1) → counts n fs ≡ n
 unfolding counts

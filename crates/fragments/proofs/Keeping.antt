@@ -14,7 +14,7 @@ use Rattle.fragments.specs.Fragment.{IsFragment, carried, contradicts, end_of, f
 use Rattle.fragments.specs.Gathered.{AreApart, AreKept, Datagram, IsOf, IsPartial, arrived, begun, dropped_old, effect_of, is_from, is_named, is_young, joined, refused, taken, with_first, with_fragments, with_place, without_first}
 use Rattle.fragments.specs.Name.{name_of, same_name}
 use Rattle.fragments.specs.Whole.{carried_by, is_whole, payload_end, whole_length}
-use Rattle.fragments.proofs.Counting.{found-all, found-passes}
+use Rattle.fragments.proofs.Counting.{found-all, found-passes, tally}
 use Rattle.fragments.proofs.Trimming.{trimmed-fragment}
 use Rattle.fragments.specs.declared.names.Name.{Name}
 use Rattle.fragments.specs.declared.datagrams.Effect.{Effect}
@@ -30,6 +30,7 @@ all-without {X} P p (x ∷ xs) all = by (p x) (all-without P p xs all.1)
     by false rest = (all.0, rest)
 
 distinct-without : {X : Type 0} (e : X → X → Bool) (p : X → Bool) (xs : List X) → IsDistinct e xs → IsDistinct e (without_first p xs)
+unfolding IsDistinct
 distinct-without e p [] d = tt
 distinct-without {X} e p (x ∷ xs) d = by (p x) (distinct-without e p xs d.1)
   where
@@ -65,9 +66,9 @@ fewer-without p [] some = absurd (omega arith)
 fewer-without {X} p (x ∷ xs) some = by (p x) refl (λ there. fewer-without p xs there)
   where
     by : (b : Bool) → p x ≡ b → (1 ≤ count_by p xs → Fewer p (without_first p xs) xs) → Fewer p (cond b xs (x ∷ without_first p xs)) (x ∷ xs)
-    by true is rest = (omega (arith, count-cons p x xs, ap (λ (b : Bool). cond b 1 0) is), omega arith)
+    by true is rest = (omega (arith, count-cons p x xs, ap tally is), omega arith)
     by false is rest =
-        let none = ap (λ (b : Bool). cond b 1 0) is in
+        let none = ap tally is in
         let less = rest (omega (arith, some, count-cons p x xs, none)) in
         (omega (arith, count-cons p x xs, count-cons p x (without_first p xs), none, less.0), omega (arith, less.1))
 
@@ -76,6 +77,7 @@ all-rest P [] all = tt
 all-rest P (x ∷ xs) all = all.1
 
 distinct-rest : {X : Type 0} (e : X → X → Bool) (xs : List X) → IsDistinct e xs → IsDistinct e (drop 1 xs)
+unfolding IsDistinct
 distinct-rest e [] d = tt
 distinct-rest e (x ∷ xs) d = d.1
 
@@ -93,6 +95,7 @@ all-push P [] y all one = (one, tt)
 all-push P (x ∷ xs) y all one = (all.0, all-push P xs y all.1 one)
 
 distinct-push : {X : Type 0} (e : X → X → Bool) (xs : List X) (y : X) → IsDistinct e xs → AllByRecursion (λ x. e x y ≡ false) xs → IsDistinct e (xs ++ y ∷ [])
+unfolding IsDistinct
 distinct-push e [] y d new = (tt, tt)
 distinct-push e (x ∷ xs) y d new = (all-push (λ z. e x z ≡ false) xs y d.0 new.0, distinct-push e xs y d.1 new.1)
 
@@ -238,8 +241,8 @@ kept-begun now f ds is fine new kept =
         by true same =
             let is_s : d.name.source.0 ≡ s = eqb-true d.name.source.0 s same in
             let fewer : count_by (is_from s) placed < 16 = subst (λ (n : ℕ). count_by (is_from n) placed < 16) is_s few in
-            omega (arith, count-push (is_from s) placed d, ap (λ (c : Bool). cond c 1 0) same, fewer)
-        by false other = omega (arith, count-push (is_from s) placed d, ap (λ (c : Bool). cond c 1 0) other, most)
+            omega (arith, count-push (is_from s) placed d, ap tally same, fewer)
+        by false other = omega (arith, count-push (is_from s) placed d, ap tally other, most)
 
 -- ---- the first datagram of a name gets other fragments
 length-with : {X : Type 0} (p : X → Bool) (g : X → X) (xs : List X) → length (with_first p g xs) ≡ length xs
@@ -267,6 +270,7 @@ all-with-same {X} q p g same (x ∷ xs) all = by (p x) (all-with-same q p g same
     by false rest = (all.0, rest)
 
 distinct-with : {X : Type 0} (e : X → X → Bool) (p : X → Bool) (g : X → X) → ((x y : X) → e x (g y) ≡ e x y) → ((x y : X) → e (g x) y ≡ e x y) → (xs : List X) → IsDistinct e xs → IsDistinct e (with_first p g xs)
+unfolding IsDistinct
 distinct-with e p g right left [] d = tt
 distinct-with {X} e p g right left (x ∷ xs) d = by (p x) (distinct-with e p g right left xs d.1)
   where
@@ -315,6 +319,7 @@ all-filter {X} P p (x ∷ xs) all = by (p x) (all-filter P p xs all.1)
     by false rest = rest
 
 distinct-filter : {X : Type 0} (e : X → X → Bool) (p : X → Bool) (xs : List X) → IsDistinct e xs → IsDistinct e (filter p xs)
+unfolding IsDistinct
 distinct-filter e p [] d = tt
 distinct-filter {X} e p (x ∷ xs) d = by (p x) (distinct-filter e p xs d.1)
   where
@@ -358,6 +363,7 @@ pub all-young : (now : ℕ) (ds : List Datagram) → AllByRecursion (λ d. is_yo
 all-young now ds = all-pass (is_young now) ds
 
 pub kept-none : AreKept []
+unfolding IsDistinct
 kept-none = record { few = omega arith; sources = λ s. omega arith; distinct = tt; each = tt }
 
 -- ---- what an effect says
@@ -380,8 +386,8 @@ completes-says false false true true is = cc
 completes-says false false true false is = (refl, refl, refl)
 
 beside-all : (there : List (List ℕ)) (f : List ℕ) → (list_any (λ g. contradicts g f) there || nat_le 64 (length there)) ≡ false → NoneContradicts there f
-beside-all there f no =
-    let parts = or_parts (list_any (λ g. contradicts g f) there) (nat_le 64 (length there)) no in
+beside-all there f isnt =
+    let parts = or_parts (list_any (λ g. contradicts g f) there) (nat_le 64 (length there)) isnt in
     record { apart = none-any (λ g. contradicts g f) there parts.0; few = leb-false 64 (length there) parts.1 }
 
 pub waits : (there : List (List ℕ)) (f : List ℕ) → effect_of there f ≡ Waits → NoneContradicts there f × (is_whole (there ++ f ∷ []) ≡ false)

@@ -3,9 +3,9 @@ use Rattle.std.proofs.Common.{◌≡◌, ◌⊎◌, inl, inr, ℕ, zero, suc, �
 use Rattle.std.specs.List.{AllByRecursion, Contains, count_by, find, list_any, range_with_len}
 use Rattle.std.proofs.lemmas.Bool.{or_left, or_right}
 use Rattle.std.proofs.lemmas.Option.{same_Some}
-use Rattle.fragments.proofs.Counting.{any-found, count-cons, found-of, none-of}
+use Rattle.fragments.proofs.Counting.{any-found, count-cons, found-of, none-of, tally}
 use Rattle.fragments.specs.Fragment.{carried, carries, end_of, first_of, is_last, starts}
-use Rattle.fragments.specs.Whole.{IsComplete, byte_at, is_marked, payload_again, payload_end, reassembled, whole_fields}
+use Rattle.fragments.specs.Whole.{IsComplete, byte_at, first_header_length, is_marked, payload_again, payload_end, reassembled, whole_fields, whole_service}
 
 -- an item is one of a list
 abbrev pub IsAmong : List ℕ → List (List ℕ) → Type 0
@@ -14,11 +14,11 @@ IsAmong f (g ∷ gs) = (g ≡ f) ⊎ IsAmong f gs
 
 pub among-from : (fs : List (List ℕ)) (f : List ℕ) → Contains fs f → IsAmong f fs
 among-from [] f there = absurd (let w = there.1 in omega arith)
-among-from (g ∷ fs) f there = at there.0 there.1 there.2
+among-from (g ∷ fs) f there = at there.0 there.1 there.2 (λ behind. among-from fs f behind)
   where
-    at : (k : ℕ) → k < length (g ∷ fs) → get_or (g ∷ fs) k f ≡ f → IsAmong f (g ∷ fs)
-    at zero within is = inl is
-    at (suc k) within is = inr (among-from fs f (k, omega arith, is))
+    at : (k : ℕ) → k < length (g ∷ fs) → get_or (g ∷ fs) k f ≡ f → (Contains fs f → IsAmong f fs) → IsAmong f (g ∷ fs)
+    at zero within is rest = inl is
+    at (suc k) within is rest = inr (rest (k, omega arith, is))
 
 pub among-to : (fs : List (List ℕ)) (f : List ℕ) → IsAmong f fs → Contains fs f
 among-to [] f there = absurd there
@@ -65,11 +65,11 @@ only-one p (f ∷ fs) x y one found there is = by (p f) refl found there (λ alo
         → (count_by p fs ≡ 1 → find p fs ≡ Some x → IsAmong y fs → y ≡ x) → y ≡ x
     by true here found_here (inl same) rest = sym same ∙ same_Some f x found_here
     by true here found_here (inr behind) rest =
-        let none = none-of p fs (omega (arith, one, count-cons p f fs, ap (λ (c : Bool). cond c 1 0) here)) in
+        let none = none-of p fs (omega (arith, one, count-cons p f fs, ap tally here)) in
         let not : p y ≡ false = among-all (λ g. p g ≡ false) fs y none behind in
         let bad : true ≡ false = sym is ∙ not in absurd (cc)
     by false here found_here (inl same) rest = let bad : true ≡ false = sym is ∙ (ap p (sym same) ∙ here) in absurd (cc)
-    by false here found_here (inr behind) rest = rest (omega (arith, one, count-cons p f fs, ap (λ (c : Bool). cond c 1 0) here)) found_here behind
+    by false here found_here (inr behind) rest = rest (omega (arith, one, count-cons p f fs, ap tally here)) found_here behind
 
 -- the same items, each any number of times
 abbrev pub AreSame : List (List ℕ) → List (List ℕ) → Type 0
@@ -103,7 +103,7 @@ same-any p fs gs same = by (list_any p fs) refl (list_any p gs) refl
     by false one true two = let bad : false ≡ true = sym one ∙ carry gs fs (λ f. (same f).1) two in absurd (cc)
 
 -- the byte at a place is that of the fragment that is found to carry it
-byte_of : ℕ → Option (List ℕ) → ℕ
+pub byte_of : ℕ → Option (List ℕ) → ℕ
 byte_of k None = 0
 byte_of k (Some f) = slice_index (carried f) (k - first_of f)
 
