@@ -1,12 +1,14 @@
 -- The idle pairs of a tick.
-use Rattle.std.proofs.Common.{◌≡◌, ℕ, zero, suc, ◌+◌, ◌<◌, ◌≤◌, Bool, true, false, cond, not, nat_lt, nat_le, ◌==◌, ◌-◌, ◌&&◌, ◌||◌, inl, inr, List, [], ◌∷◌, ◌++◌, length, get_or, drop, refl, sym, ap, subst, ◌∙◌, arith, append_assoc, slice_get, Option, Some, None}
+use Rattle.std.proofs.Common.{◌≡◌, ℕ, zero, suc, ◌+◌, ◌<◌, ◌≤◌, Bool, true, false, cond, not, nat_lt, nat_le, ◌==◌, ◌-◌, ◌&&◌, ◌||◌, ◌⊎◌, inl, inr, List, [], ◌∷◌, ◌++◌, length, get_or, drop, refl, sym, ap, subst, ◌∙◌, arith, append_assoc, slice_get, Option, Some, None}
 use Rattle.std.proofs.lemmas.Option.{get_or_from_slice_get, slice_get_within}
 use Rattle.std.proofs.lemmas.List.{length-append}
 use Rattle.std.proofs.lemmas.List.Sums.{sum_by-cons}
 use Rattle.std.proofs.Math.Seq.{drop-cons}
+use Rattle.std.specs.List.{filter}
+use Rattle.nat_types.specs.Same.{same_key}
 use Rattle.nat_types.specs.declared.notes.Note.{Note}
 use Rattle.link.specs.Link.{Link}
-use Rattle.spec_binding.specs.Rows.{idle_row, after, answered, changed, noted_by, numbers_of, quiet, release_row, released_row}
+use Rattle.spec_binding.specs.Rows.{dropping, idle_row, after, answered, changed, noted_by, numbers_of, quiet, release_row, released_row}
 use Rattle.spec_binding.specs.Ledgers.{Ledger, LetGo, is_reached, ledger_after, release_all, may_ask}
 use Rattle.nat_types.specs.declared.records.Record.{Record}
 use Rattle.spec_pair.specs.Box.{Letter}
@@ -24,11 +26,13 @@ use Rattle.nat_types.specs.declared.pairs.Key.{Key}
 use Rattle.nat_types.specs.declared.pairs.Pair.{Pair}
 use Rattle.activity.specs.Lives.{Activity}
 use Rattle.bindings.specs.declared.entries.Entry.{Entry}
-use Rattle.bindings.specs.Entries.{has_key, is_alone, slot_of, state_count}
+use Rattle.bindings.specs.Entries.{has_key, is_alone, is_alone_by, slot_of, state_count}
 use Rattle.bindings.specs.Lists.{without}
-use Rattle.bindings.proofs.Offered.{find-some, length-keep, slot-key}
+use Rattle.bindings.proofs.Offered.{few-passing, find-some, length-keep, slot-key, slot-without}
 use Rattle.std.proofs.lemmas.Bool.{and_parts, ltb-false}
 use Rattle.bindings.specs.Lives.{idle_keys_in, is_idle_row}
+use Rattle.bindings.specs.Table.{alone_keys_of, idle_keys_of, is_alone_at}
+use Rattle.bind_core.specs.Cores.{Core, book_of, ledger_of, looked_at, may_end}
 
 -- no more keys are idle than the table has entries
 pub few-idle : (lone : Bool) (now : ℕ) (es : List Entry) (ls : List Activity) → length (idle_keys_in lone now es ls) ≤ length es
@@ -113,34 +117,123 @@ uncounted (y ∷ ys) k x none found =
     rest true n = absurd (omega (arith, n, none))
     rest false n = omega (arith, n, none)
 
-idle-quiet : (b : Book) (ask : Bool) (k : Key) → is_lone b.stage ≡ false → ask ≡ false → state_count is_alone b.entries ≡ 0 → idle_row b ask k ≡ quiet
-idle-quiet b ask k lone mute none = at (is_synced b.stage) (is_lone b.stage) ask (slot_of b.entries k) refl lone mute
+unalone : (es : List Entry) (k : Key) → state_count is_alone es ≡ 0 → is_alone_by (slot_of es k) ≡ false
+unalone es k none = at (slot_of es k) refl
   where
-    at : (t lone ask : Bool) (o : Option Entry) → slot_of b.entries k ≡ o → lone ≡ false → ask ≡ false → (let r : Transition = cond t (release_row lone ask o) quiet in r) ≡ quiet
-    at false lone ask o there h g = refl
-    at true true ask o there h g = cc
-    at true false true o there h g = cc
-    at true false false None there h g = refl
-    at true false false (Some x) there h g = released-quiet x.pair x.state (uncounted b.entries k x none there)
+    at : (o : Option Entry) → slot_of es k ≡ o → is_alone_by o ≡ false
+    at None found = refl
+    at (Some x) found = uncounted es k x none found
+
+idle-quiet : (b : Book) (ask : Bool) (k : Key) → is_lone b.stage ≡ false → ask ≡ false → is_alone_by (slot_of b.entries k) ≡ false → idle_row b ask k ≡ quiet
+idle-quiet b ask k lone mute none = at (is_synced b.stage) (is_lone b.stage) ask (slot_of b.entries k) none lone mute
+  where
+    at : (t lone ask : Bool) (o : Option Entry) → is_alone_by o ≡ false → lone ≡ false → ask ≡ false → (let r : Transition = cond t (release_row lone ask o) quiet in r) ≡ quiet
+    at false lone ask o other h g = refl
+    at true true ask o other h g = cc
+    at true false true o other h g = cc
+    at true false false None other h g = refl
+    at true false false (Some x) other h g = released-quiet x.pair x.state other
+
+-- a quiet row leaves the rest
+left-out : (now : ℕ) (k : Key) (ks : List Key) (l : Ledger) (e : Link) → idle_row l.book (may_ask now l.book e) k ≡ quiet → release_all now (k ∷ ks) l e ≡ release_all now ks l e
+left-out now k ks l e h =
+    ap (λ (r : Transition). let rest : LetGo = release_all now ks (ledger_after now r.change l) (answered e r.answer) in let all : LetGo = record rest { notes = noted_by l.book.id now r.what ++ rest.notes } in all) h
 
 -- a gateway that isn't lone, may not ask, and has made no pair alone, releases none
 none-from : (now : ℕ) (ks : List Key) (l : Ledger) (e : Link) → is_lone l.book.stage ≡ false → may_ask now l.book e ≡ false → state_count is_alone l.book.entries ≡ 0 → release_all now ks l e ≡ record { ledger = l; link = e; notes = [] }
 none-from now [] l e lone mute none = refl
-none-from now (k ∷ ks) l e lone mute none =
-    ap (λ (r : Transition). let rest : LetGo = release_all now ks (ledger_after now r.change l) (answered e r.answer) in let all : LetGo = record rest { notes = noted_by l.book.id now r.what ++ rest.notes } in all) (idle-quiet l.book (may_ask now l.book e) k lone mute none)
-    ∙ none-from now ks l e lone mute none
+none-from now (k ∷ ks) l e lone mute none = left-out now k ks l e (idle-quiet l.book (may_ask now l.book e) k lone mute (unalone l.book.entries k none)) ∙ none-from now ks l e lone mute none
 
 neither : (a b : Bool) → (a || b) ≡ false → (a ≡ false) × (b ≡ false)
 neither true b h = cc
 neither false b h = (refl, h)
 
-pub none-go : (now : ℕ) (ks : List Key) (l : Ledger) (e : Link) → (is_lone l.book.stage || (may_ask now l.book e || nat_lt 0 (state_count is_alone l.book.entries))) ≡ false → release_all now ks l e ≡ record { ledger = l; link = e; notes = [] }
+pub none-go : (now : ℕ) (ks : List Key) (l : Ledger) (e : Link) → ((is_lone l.book.stage || may_ask now l.book e) || nat_lt 0 (state_count is_alone l.book.entries)) ≡ false → release_all now ks l e ≡ record { ledger = l; link = e; notes = [] }
 none-go now ks l e h =
     let count = state_count is_alone l.book.entries in
-    let parts = neither (is_lone l.book.stage) (may_ask now l.book e || nat_lt 0 count) h in
-    let more = neither (may_ask now l.book e) (nat_lt 0 count) parts.1 in
-    let few = ltb-false 0 count more.1 in
-    none-from now ks l e parts.0 more.0 (omega (arith, few))
+    let parts = neither (is_lone l.book.stage || may_ask now l.book e) (nat_lt 0 count) h in
+    let both = neither (is_lone l.book.stage) (may_ask now l.book e) parts.0 in
+    let few = ltb-false 0 count parts.1 in
+    none-from now ks l e both.0 both.1 (omega (arith, few))
+
+-- ---- where only Alone pairs may be released
+
+-- after the row, the gateway still isn't lone and may not ask, and no other pair is Alone
+abbrev StaysMute : ℕ → Ledger → Link → Transition → Type 0
+StaysMute now l e r =
+    (is_lone (after l.book r).stage ≡ false) × (may_ask now (after l.book r) (answered e r.answer) ≡ false)
+    × ((q : Key) → is_alone_by (slot_of l.book.entries q) ≡ false → is_alone_by (slot_of (after l.book r).entries q) ≡ false)
+
+quiet-mute : (now : ℕ) (l : Ledger) (e : Link) → is_lone l.book.stage ≡ false → may_ask now l.book e ≡ false → StaysMute now l e quiet
+quiet-mute now l e lone mute = (lone, mute, λ q other. other)
+
+drop-mute : (now : ℕ) (l : Ledger) (e : Link) (p : Pair) → is_lone l.book.stage ≡ false → may_ask now l.book e ≡ false → StaysMute now l e (dropping p)
+drop-mute now l e p lone mute = (lone, mute, λ q other. ap is_alone_by (slot-without p.key l.book.entries q) ∙ at q (same_key p.key q) other)
+  where
+    at : (q : Key) (b : Bool) → is_alone_by (slot_of l.book.entries q) ≡ false → is_alone_by (let o : Option Entry = cond b None (slot_of l.book.entries q) in o) ≡ false
+    at q true other = refl
+    at q false other = other
+
+-- an idle pair is left then, or dropped
+left-or-dropped : (p : Pair) (s : EntryState) → (released_row false false p s ≡ quiet) ⊎ (released_row false false p s ≡ dropping p)
+left-or-dropped p (Pending m) = inl refl
+left-or-dropped p Doomed = inl refl
+left-or-dropped p Live = inl refl
+left-or-dropped p (Closing m) = inl refl
+left-or-dropped p Alone = inr refl
+left-or-dropped p Held = inl refl
+
+idle-mute : (now : ℕ) (l : Ledger) (e : Link) (k : Key) → is_lone l.book.stage ≡ false → may_ask now l.book e ≡ false → StaysMute now l e (idle_row l.book (may_ask now l.book e) k)
+idle-mute now l e k lone mute = at (is_synced l.book.stage) (is_lone l.book.stage) (may_ask now l.book e) (slot_of l.book.entries k) lone mute
+  where
+    at : (t own ask : Bool) (o : Option Entry) → own ≡ false → ask ≡ false → StaysMute now l e (let r : Transition = cond t (release_row own ask o) quiet in r)
+    at false own ask o h g = quiet-mute now l e lone mute
+    at true true ask o h g = absurd (cc)
+    at true false true o h g = absurd (cc)
+    at true false false None h g = quiet-mute now l e lone mute
+    at true false false (Some x) h g =
+        elim (left-or-dropped x.pair x.state) [
+          | inl left ↦ subst (StaysMute now l e) (sym left) (quiet-mute now l e lone mute)
+          | inr dropped ↦ subst (StaysMute now l e) (sym dropped) (drop-mute now l e x.pair lone mute)
+        ]
+
+-- the keys that pass a test are enough, where each other key's pair isn't Alone
+passing-from : (now : ℕ) (p : Key → Bool) (ks : List Key) (l : Ledger) (e : Link) → is_lone l.book.stage ≡ false → may_ask now l.book e ≡ false → ((q : Key) → p q ≡ false → is_alone_by (slot_of l.book.entries q) ≡ false)
+    → release_all now ks l e ≡ release_all now (filter p ks) l e
+passing-from now p [] l e lone mute others = refl
+passing-from now p (k ∷ ks) l e lone mute others = at (p k) refl (passing-from now p ks)
+  where
+    row : Transition
+    row = idle_row l.book (may_ask now l.book e) k
+
+    at : (b : Bool) → p k ≡ b
+        → ((m : Ledger) (f : Link) → is_lone m.book.stage ≡ false → may_ask now m.book f ≡ false → ((q : Key) → p q ≡ false → is_alone_by (slot_of m.book.entries q) ≡ false) → release_all now ks m f ≡ release_all now (filter p ks) m f)
+        → release_all now (k ∷ ks) l e ≡ release_all now (let zs : List Key = cond b (k ∷ filter p ks) (filter p ks) in zs) l e
+    at true h rest =
+        let stays = idle-mute now l e k lone mute in
+        ap (λ (g : LetGo). let all : LetGo = record g { notes = noted_by l.book.id now row.what ++ g.notes } in all)
+        (rest (ledger_after now row.change l) (answered e row.answer) stays.0 stays.1 (λ q fails. stays.2 q (others q fails)))
+    at false h rest = left-out now k ks l e (idle-quiet l.book (may_ask now l.book e) k lone mute (others k h)) ∙ rest l e lone mute others
+
+-- the pairs that a tick looks at are enough
+pub looked-all : (c : Core) (e : Link) (now : ℕ) → release_all now (looked_at c e now) (ledger_of c) e ≡ release_all now (idle_keys_of c.table (is_lone c.stage) now) (ledger_of c) e
+looked-all c e now = at (may_end c e now) refl
+  where
+    at : (b : Bool) → may_end c e now ≡ b
+        → release_all now (let ks : List Key = cond b (idle_keys_of c.table (is_lone c.stage) now) (alone_keys_of c.table now) in ks) (ledger_of c) e ≡ release_all now (idle_keys_of c.table (is_lone c.stage) now) (ledger_of c) e
+    at true h = refl
+    at false h =
+        let parts = neither (is_lone c.stage) (may_ask now (book_of c) e) h in
+        sym (passing-from now (is_alone_at c.table) (idle_keys_of c.table false now) (ledger_of c) e parts.0 parts.1 (λ q other. other))
+        ∙ ap (λ (lone : Bool). release_all now (idle_keys_of c.table lone now) (ledger_of c) e) (sym parts.0)
+
+-- no more pairs are looked at than the table has entries
+pub few-looked : (c : Core) (e : Link) (now : ℕ) → length (looked_at c e now) ≤ length c.table.entries
+few-looked c e now = at (may_end c e now)
+  where
+    at : (b : Bool) → length (let ks : List Key = cond b (idle_keys_of c.table (is_lone c.stage) now) (alone_keys_of c.table now) in ks) ≤ length c.table.entries
+    at true = few-idle (is_lone c.stage) now c.table.entries c.table.lives
+    at false = few-passing (is_alone_at c.table) false now c.table.entries c.table.lives
 
 -- ---- a gateway that is apart
 

@@ -1,5 +1,5 @@
 -- What callers see of a core.
-use Rattle.std.specs.Prelude.{ℕ, Bool, List, Option, Some, None, true, false, ◌&&◌, [], map, if◌then◌else◌}
+use Rattle.std.specs.Prelude.{ℕ, Bool, List, Option, Some, None, true, false, ◌&&◌, ◌||◌, [], map, if◌then◌else◌}
 use Rattle.nat_types.specs.declared.gateways.GatewayId.{GatewayId}
 use Rattle.nat_types.specs.declared.records.Record.{Record}
 use Rattle.nat_types.specs.declared.records.Record.TheVariants.{Install, Accept, Refuse, Ask, Yes, No, Begin, Put, Done, Want, Grant, Owner, Tell}
@@ -11,16 +11,17 @@ use Rattle.nat_types.specs.Same.{same_pair}
 use Rattle.bindings.specs.declared.entries.Entry.{Entry}
 use Rattle.bindings.specs.Entries.{slot_of, translates}
 use Rattle.bindings.specs.Runs.{port_at}
+use Rattle.link.specs.Link.{Link}
 use Rattle.addresses.specs.declared.transport.Port.{Port}
-use Rattle.bindings.specs.Table.{Table}
+use Rattle.bindings.specs.Table.{Table, alone_keys_of, idle_keys_of}
 use Rattle.bindings.specs.Revivals.{revived_entries}
 use Rattle.resync.specs.Cursor.{to_come}
 use Rattle.resync.specs.declared.cursor.Cursor.{Cursor}
 use Rattle.spec_binding.specs.Resets.{revived}
 use Rattle.spec_binding.specs.declared.changes.Transition.{Transition}
 use Rattle.spec_binding.specs.declared.setups.Stage.{Stage}
-use Rattle.spec_binding.specs.Books.{Book, is_synced}
-use Rattle.spec_binding.specs.Ledgers.{Ledger}
+use Rattle.spec_binding.specs.Books.{Book, is_lone, is_synced}
+use Rattle.spec_binding.specs.Ledgers.{Ledger, may_ask}
 use Rattle.bind_core.specs.Changes.{table_after, wants_after}
 
 -- The core: its gateway, its table, the most pairs that one inside address may have, after how many centiseconds without an answer it is apart, its stage, whether Begin was taken and not yet Done, the last port that an Owner named,
@@ -61,6 +62,16 @@ ledger_of c = record { book = book_of c; lives = c.table.lives; hashers = c.tabl
 -- the core once a row is carried out
 abbrev pub core_after : ℕ → Core → Transition → Core
 core_after now c r = record c { table = table_after now r.change c.table; wants = wants_after r.change c.wants }
+
+-- ---- ticks
+
+-- whether an idle pair that the peer has too may end: the gateway is lone, or may ask the peer
+abbrev pub may_end : Core → Link → ℕ → Bool
+may_end c e now = is_lone c.stage || may_ask now (book_of c) e
+
+-- the keys of the idle pairs that a tick looks at: of all, or where none that the peer has too may end, of the Alone ones
+abbrev pub looked_at : Core → Link → ℕ → List Key
+looked_at c e now = (if may_end c e now then idle_keys_of c.table (is_lone c.stage) now else alone_keys_of c.table now)
 
 -- ---- packets
 

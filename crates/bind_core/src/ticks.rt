@@ -5,8 +5,8 @@ ghost use Rattle.nat_types.specs.declared.records.Record.{Record as Rec};
 ghost use Rattle.spec_binding.specs.Machine.{Stands, Works};
 ghost use Rattle.spec_binding.specs.Books.{is_apart as is_apart_at, is_lone as is_lone_at};
 ghost use Rattle.spec_binding.specs.Rows.{noted_by, answered, idle_row};
-ghost use Rattle.bindings.specs.Table.{idle_keys_of};
-ghost use Rattle.bind_core.specs.Cores.{book_of, ledger_of};
+ghost use Rattle.bindings.specs.Table.{alone_keys_of, idle_keys_of};
+ghost use Rattle.bind_core.specs.Cores.{book_of, ledger_of, looked_at, may_end};
 ghost use Rattle.bindings.specs.Entries.{is_alone, state_count};
 ghost use Rattle.spec_binding.specs.Ledgers.{ledger_after, release_all, may_ask as may_ask_at};
 
@@ -43,6 +43,17 @@ impl Core {
         }
     }
 
+    fn list_alone(&mut self, now: u64)
+        ensures { self.new ≡ record self.old { idle = alone_keys_of self.old.table now } }
+    {
+        self.table.recall();
+        self.idle.clear();
+        match self.table.alone_keys(now, &mut self.idle) {
+            Ok(()) => {}
+            Err(_no_room) => unreachable!(),
+        }
+    }
+
     pub(crate) fn idle_key_at(&self, i: usize) -> Key
         requires { i < length self.now.idle }
         ensures { slice_get self.now.idle i ≡ Some result }
@@ -64,14 +75,32 @@ impl Core {
         !self.is_apart(link, now) && is_reached(link, now)
     }
 
-    /// Whether any pair may be released: the gateway is lone, or may ask the peer for a pair's end,
-    /// or has a pair of which the peer has nothing.
-    fn may_release(&self, link: &Link, now: u64) -> bool
-        ensures { result ≡ (is_lone_at self.now.stage
-            || (may_ask_at now (book_of self.now) link.now
-            || nat_lt 0 (state_count is_alone self.now.table.entries))) }
+    /// Whether an idle pair that the peer has too may end: the gateway is lone, or may ask the peer.
+    fn may_end(&self, link: &Link, now: u64) -> bool
+        ensures { result ≡ may_end self.now link.now now }
     {
-        self.is_lone() || self.may_ask(link, now) || self.table.alone_count() > 0
+        self.is_lone() || self.may_ask(link, now)
+    }
+
+    /// Whether any pair may be released: one that the peer has too may end, or the gateway has one
+    /// of which the peer has nothing.
+    fn may_release(&self, link: &Link, now: u64) -> bool
+        ensures { result ≡ (may_end self.now link.now now
+            || nat_lt 0 (state_count is_alone self.now.table.entries)) }
+    {
+        self.may_end(link, now) || self.table.alone_count() > 0
+    }
+
+    /// Lists the keys of the idle pairs that may be released. While none that the peer has too may
+    /// end, these are Alone, and no other is looked at.
+    fn list_looked_at(&mut self, link: &Link, now: u64)
+        ensures { self.new ≡ record self.old { idle = looked_at self.old link.now now } }
+    {
+        if self.may_end(link, now) {
+            self.list_idle(now);
+        } else {
+            self.list_alone(now);
+        }
     }
 
     fn release(&mut self, key: Key, link: &mut Link, now: u64, notes: &mut Vec<Note>)
@@ -99,7 +128,8 @@ impl Core {
         self.perform(link, notes, now, row);
     }
 
-    /// Carries out the rows of all idle pairs, in the table's order.
+    /// Carries out the rows of all idle pairs, in the table's order. Those that can't be released
+    /// have rows that do nothing, and are left out.
     fn release_idle(&mut self, link: &mut Link, now: u64, notes: &mut Vec<Note>)
         requires reserved { vec_len notes.old + length self.old.table.entries
             < vec_capacity notes.old }
@@ -127,7 +157,7 @@ impl Core {
         idle_works();
         works_join();
         works_nothing();
-        self.list_idle(now);
+        self.list_looked_at(link, now);
         for i in 0..self.idle_count() {
             let key = self.idle_key_at(i);
             self.release(key, link, now, notes);
@@ -136,8 +166,8 @@ impl Core {
 
     /// Releases idle pairs, one after the other. A lone gateway drops each. Another one drops each
     /// Alone one, and asks the peer for the end of each Live one, where the gateway isn't apart,
-    /// the peer was heard at most 300 cs ago and the link isn't full then. Where no pair may be
-    /// released, no pair is looked at.
+    /// the peer was heard at most 300 cs ago and the link isn't full then. While it may not ask,
+    /// the Live ones cost nothing. Where no pair may be released, no pair is looked at.
     pub fn tick(&mut self, link: &mut Link, now: u64, notes: &mut Vec<Note>)
         requires reserved { vec_len notes.old + length self.old.table.entries
             < vec_capacity notes.old }

@@ -118,6 +118,14 @@ climbs-filter low p (k ∷ ks) c = by (p k) (climbs-filter (key_place k) p ks c.
     by true ih = (c.0, ih)
     by false ih = climbs-lower low (key_place k) (filter p ks) c.0 ih
 
+pub rising-filter : (low : ℕ) (p : Key → Bool) (ks : List Key) → Rising low ks → Rising low (filter p ks)
+rising-filter low p [] c = tt
+rising-filter low p (k ∷ ks) c = by (p k) (rising-filter (suc (key_place k)) p ks c.1)
+  where
+    by : (b : Bool) → Rising (suc (key_place k)) (filter p ks) → Rising low (cond b (k ∷ filter p ks) (filter p ks))
+    by true ih = (c.0, ih)
+    by false ih = rising-lower low (suc (key_place k)) (filter p ks) (let l = c.0 in omega (arith, l)) ih
+
 pub climbs-from : (low : ℕ) (ks : List Key) → ((d : Key) → 0 < length ks → low ≤ key_place (get_or ks 0 d)) → IsNonDecreasingBy key_place ks → Climbs low ks
 climbs-from low [] first order = tt
 climbs-from low (k ∷ ks) first order =

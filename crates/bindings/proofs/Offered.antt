@@ -41,6 +41,8 @@ pub use Rattle.bindings.proofs.Renewed.{past-renewed}
 -- Which entries are idle.
 -- no more keys are idle than there are entries
 pub use Rattle.bindings.proofs.Resting.{few-idle}
+-- no more idle keys pass a test than there are entries
+pub use Rattle.bindings.proofs.Resting.{few-passing}
 -- a key with an entry is listed exactly where that entry is idle and may be released
 pub use Rattle.bindings.proofs.Resting.{listed-is}
 -- The lists of a table after the peer began anew.

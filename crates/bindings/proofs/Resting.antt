@@ -1,9 +1,12 @@
 -- Which entries are idle.
 use Rattle.std.proofs.Common.{◌≡◌, ℕ, suc, ◌≤◌, Bool, true, false, cond, ◌&&◌, ◌||◌, Some, None, List, [], ◌∷◌, length, refl, sym, ap, ◌∙◌, arith}
+use Rattle.std.specs.List.{filter}
 use Rattle.nat_types.specs.declared.pairs.Key.{Key}
 use Rattle.activity.specs.Lives.{Activity, History, is_idle, looks_idle}
 use Rattle.activity.proofs.Offered.{looks-is}
 use Rattle.bindings.specs.declared.entries.Entry.{Entry}
+use Rattle.bindings.specs.declared.watches.Watch.{Watch}
+use Rattle.bindings.specs.Dues.{watch_of, watched_keys}
 use Rattle.bindings.specs.Entries.{has_key, slot_of, HasDistinctKeys}
 use Rattle.bindings.specs.Lives.{life_in, HasPast, may_go, is_idle_row, idle_keys_in, is_among}
 use Rattle.bindings.proofs.Found.{find-none}
@@ -19,7 +22,22 @@ few-idle lone now (e ∷ es) (l ∷ ls) = at (is_idle_row lone now e l) (few-idl
     at true h = omega arith
     at false h = omega arith
 
--- ---- one entry
+passing : (p : Key → Bool) (ks : List Key) → length (filter p ks) ≤ length ks
+passing p [] = omega arith
+passing p (k ∷ ks) = at (p k) (passing p ks)
+  where
+    at : (b : Bool) → length (filter p ks) ≤ length ks → length (cond b (k ∷ filter p ks) (filter p ks)) ≤ suc (length ks)
+    at true h = omega arith
+    at false h = omega arith
+
+-- no more of their keys pass a test than there are entries
+pub few-passing : (p : Key → Bool) (lone : Bool) (now : ℕ) (es : List Entry) (ls : List Activity) → length (filter p (idle_keys_in lone now es ls)) ≤ length es
+few-passing p lone now es ls = let all = few-idle lone now es ls in let left = passing p (idle_keys_in lone now es ls) in omega (arith, all, left)
+
+-- the keys of the idle entries that may be released are those of the watch of such entries
+pub watched-all : (lone : Bool) (watch : Watch) (now : ℕ) (es : List Entry) (ls : List Activity) → watch ≡ watch_of lone → watched_keys watch now es ls ≡ idle_keys_in lone now es ls
+watched-all true watch now es ls h = ap (λ (w : Watch). watched_keys w now es ls) h
+watched-all false watch now es ls h = ap (λ (w : Watch). watched_keys w now es ls) h
 
 -- ---- as a relation
 

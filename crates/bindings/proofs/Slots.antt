@@ -1,5 +1,5 @@
 -- The slots of a table: by key, and by endpoint.
-use Rattle.std.proofs.Common.{◌≡◌, ℕ, ◌<◌, Bool, true, false, cond, Option, Some, None, inl, inr, ◌&&◌, List, [], ◌∷◌, length, map, nat_lt, refl, ap, ◌∙◌, sym, nat_le}
+use Rattle.std.proofs.Common.{◌≡◌, ℕ, ◌<◌, Bool, true, false, cond, Option, Some, None, inl, inr, List, [], ◌∷◌, length, map, nat_lt, refl, ap, ◌∙◌, sym, nat_le}
 use Rattle.std.specs.List.{find, filter}
 use Rattle.std.specs.Option.{is_some, option_or}
 use Rattle.std.proofs.lemmas.Bool.{cond-true, cond-false, both_ways, and_parts, and_from, false_from_ne_true, lt-leb, leb-false}

@@ -1,5 +1,5 @@
--- Each entry that may be released is still looked at in time after a change of the rows or the moments.
-use Rattle.std.proofs.Common.{◌≡◌, ℕ, ◌≤◌, Bool, true, false, not, ◌&&◌, ◌||◌, cond, nat_lt, nat_le, Option, Some, None, List, [], ◌∷◌, map, refl, ap, sym, ◌∙◌, arith}
+-- Each entry of the watch is still looked at in time after a change of the rows, the moments or the watch.
+use Rattle.std.proofs.Common.{◌≡◌, ℕ, ◌≤◌, Bool, true, false, not, ◌||◌, cond, nat_lt, nat_le, Option, Some, None, List, [], ◌∷◌, map, refl, ap, sym, ◌∙◌, arith}
 use Rattle.std.specs.Option.{option_map}
 use Rattle.std.proofs.Math.ListN.{get_or-map}
 use Rattle.std.proofs.lemmas.Bool.{cond-false, both_ways, leb-true}
@@ -16,9 +16,12 @@ use Rattle.slots.specs.Rows.{Row}
 use Rattle.slots.specs.Rows as slots
 use Rattle.bindings.specs.declared.entries.Entry.{Entry}
 use Rattle.bindings.specs.declared.store.Item.{Item}
+use Rattle.bindings.specs.declared.watches.Watch.{Watch}
+use Rattle.bindings.specs.declared.watches.Watch.TheVariants.{OnlyAlone, Own, HeldToo}
+use Rattle.bindings.specs.Entries.{is_alone}
 use Rattle.bindings.specs.Lives.{may_go, is_among}
 use Rattle.bindings.specs.Stores.{entries_of, AreKeyed}
-use Rattle.bindings.specs.Dues.{IsTimed, IsTimedAt, AreTimed, AreTimedBut, KeepsDues, AreListed}
+use Rattle.bindings.specs.Dues.{covers, is_watched, IsTimed, IsTimedAt, AreTimed, AreTimedBut, KeepsDues, AreListed}
 use Rattle.bindings.proofs.Found.{find-passes}
 use Rattle.bindings.proofs.Listed.{none-listed}
 
@@ -70,9 +73,9 @@ none-without key (x ∷ rows) = by (same_key x.key key) refl (none-without key r
 -- ---- one key
 
 -- a key whose slot has a moment not after its entry is idle is looked at in time
-pub timed-by : (alone : Bool) (rows : List (Row Item)) (key : Key) (n : SlotNumber) (i : Item) (moments : List (Option ℕ)) (m : ℕ) → slots.number_of rows key ≡ Some n → slots.item_of rows key ≡ Some i
-    → moment_of moments n ≡ Some m → m ≤ due_moment key.protocol i.life → IsTimedAt alone moments rows key
-timed-by alone rows key n i moments m has holds is early r h go =
+pub timed-by : (watch : Watch) (rows : List (Row Item)) (key : Key) (n : SlotNumber) (i : Item) (moments : List (Option ℕ)) (m : ℕ) → slots.number_of rows key ≡ Some n → slots.item_of rows key ≡ Some i
+    → moment_of moments n ≡ Some m → m ≤ due_moment key.protocol i.life → IsTimedAt watch moments rows key
+timed-by watch rows key n i moments m has holds is early r h go =
     let some : Some r.number ≡ Some n = sym (ap (option_map (λ (x : Row Item). x.number)) h) ∙ has in
     let thing : Some r.item ≡ Some i = sym (ap (option_map (λ (x : Row Item). x.item)) h) ∙ holds in
     let number : r.number ≡ n = cc in
@@ -89,9 +92,9 @@ due-by now (Some m) h = (m, refl, leb-true m now h)
 -- ---- one key's row changes
 
 -- where the rows of the other keys stay and this key is looked at in time, all are
-kept-timed : (alone : Bool) (key : Key) (old new : List (Option ℕ)) (rows rows2 : List (Row Item)) → ((q : Key) → same_key key q ≡ false → slots.row_of rows2 q ≡ slots.row_of rows q)
-    → KeepsDues rows2 key old new → IsTimedAt alone new rows2 key → AreTimed alone old rows → AreTimed alone new rows2
-kept-timed alone key old new rows rows2 others keeps set timed q r h go = by (same_key key q) refl
+kept-timed : (watch : Watch) (key : Key) (old new : List (Option ℕ)) (rows rows2 : List (Row Item)) → ((q : Key) → same_key key q ≡ false → slots.row_of rows2 q ≡ slots.row_of rows q)
+    → KeepsDues rows2 key old new → IsTimedAt watch new rows2 key → AreTimed watch old rows → AreTimed watch new rows2
+kept-timed watch key old new rows rows2 others keeps set timed q r h go = by (same_key key q) refl
   where
     by : (b : Bool) → same_key key q ≡ b → IsTimed new r
     by true e = set r (ap (slots.row_of rows2) (key-eq key q e) ∙ h) go
@@ -99,36 +102,36 @@ kept-timed alone key old new rows rows2 others keeps set timed q r h go = by (sa
         let w = timed q r (sym (others q e) ∙ h) go in
         (w.0, keeps q r.number (ap (option_map (λ (x : Row Item). x.number)) h) (differs key q e) ∙ w.1, w.2)
 
-pub added-timed : (alone : Bool) (old new : List (Option ℕ)) (r : Row Item) (rows : List (Row Item)) → KeepsDues (slots.put_in r rows) r.key old new → IsTimedAt alone new (slots.put_in r rows) r.key
-    → AreTimed alone old rows → AreTimed alone new (slots.put_in r rows)
-added-timed alone old new r rows = kept-timed alone r.key old new rows (slots.put_in r rows) (row-put r rows)
+pub added-timed : (watch : Watch) (old new : List (Option ℕ)) (r : Row Item) (rows : List (Row Item)) → KeepsDues (slots.put_in r rows) r.key old new → IsTimedAt watch new (slots.put_in r rows) r.key
+    → AreTimed watch old rows → AreTimed watch new (slots.put_in r rows)
+added-timed watch old new r rows = kept-timed watch r.key old new rows (slots.put_in r rows) (row-put r rows)
 
 -- all keys are looked at in time after this key's item was changed, or where it has none
-pub changed-timed : (alone : Bool) (key : Key) (change : Item → Item) (old new : List (Option ℕ)) (rows rows2 : List (Row Item))
+pub changed-timed : (watch : Watch) (key : Key) (change : Item → Item) (old new : List (Option ℕ)) (rows rows2 : List (Row Item))
     → ((i : Item) → slots.item_of rows key ≡ Some i → rows2 ≡ slots.with_item key (change i) rows) → (slots.item_of rows key ≡ None → rows2 ≡ rows)
-    → KeepsDues rows2 key old new → IsTimedAt alone new rows2 key → AreTimed alone old rows → AreTimed alone new rows2
-changed-timed alone key change old new rows rows2 some none = kept-timed alone key old new rows rows2 (λ q e. by q e (slots.item_of rows key) refl)
+    → KeepsDues rows2 key old new → IsTimedAt watch new rows2 key → AreTimed watch old rows → AreTimed watch new rows2
+changed-timed watch key change old new rows rows2 some none = kept-timed watch key old new rows rows2 (λ q e. by q e (slots.item_of rows key) refl)
   where
     by : (q : Key) → same_key key q ≡ false → (o : Option Item) → slots.item_of rows key ≡ o → slots.row_of rows2 q ≡ slots.row_of rows q
     by q e None f = ap (λ rs. slots.row_of rs q) (none f)
     by q e (Some i) f = ap (λ rs. slots.row_of rs q) (some i f) ∙ row-with key (change i) rows q e
 
-pub without-timed : (alone : Bool) (key : Key) (moments : List (Option ℕ)) (rows : List (Row Item)) → AreTimed alone moments rows → AreTimed alone moments (slots.without key rows)
-without-timed alone key moments rows timed q r h go = by (same_key key q) refl
+pub without-timed : (watch : Watch) (key : Key) (moments : List (Option ℕ)) (rows : List (Row Item)) → AreTimed watch moments rows → AreTimed watch moments (slots.without key rows)
+without-timed watch key moments rows timed q r h go = by (same_key key q) refl
   where
     by : (b : Bool) → same_key key q ≡ b → IsTimed moments r
     by true e = (let none = sym (ap (slots.row_of (slots.without key rows)) (key-eq key q e)) ∙ none-without key rows in absurd (cc))
     by false e = timed q r (sym (row-without key rows q e) ∙ h) go
 
-pub none-timed : (alone : Bool) (moments : List (Option ℕ)) → AreTimed alone moments []
-none-timed alone moments key r h go = absurd (cc)
+pub none-timed : (watch : Watch) (moments : List (Option ℕ)) → AreTimed watch moments []
+none-timed watch moments key r h go = absurd (cc)
 
 -- ---- all that came due
 
 -- a listed key that is set again is looked at in time
-pub timed-again : (alone : Bool) (key : Key) (keys : List Key) (old new : List (Option ℕ)) (rows : List (Row Item)) → KeepsDues rows key old new → IsTimedAt alone new rows key
-    → AreTimedBut alone (key ∷ keys) old rows → AreTimedBut alone keys new rows
-timed-again alone key keys old new rows keeps set but q none r h go = by (same_key key q) refl
+pub timed-again : (watch : Watch) (key : Key) (keys : List Key) (old new : List (Option ℕ)) (rows : List (Row Item)) → KeepsDues rows key old new → IsTimedAt watch new rows key
+    → AreTimedBut watch (key ∷ keys) old rows → AreTimedBut watch keys new rows
+timed-again watch key keys old new rows keeps set but q none r h go = by (same_key key q) refl
   where
     by : (b : Bool) → same_key key q ≡ b → IsTimed new r
     by true e = set r (ap (slots.row_of rows) (key-eq key q e) ∙ h) go
@@ -137,13 +140,13 @@ timed-again alone key keys old new rows keeps set but q none r h go = by (same_k
         (w.0, keeps q r.number (ap (option_map (λ (x : Row Item). x.number)) h) (differs key q e) ∙ w.1, w.2)
 
 -- where no listed key is left, all keys are looked at in time
-pub timed-all : (alone : Bool) (moments : List (Option ℕ)) (rows : List (Row Item)) → AreTimedBut alone [] moments rows → AreTimed alone moments rows
-timed-all alone moments rows but key = but key refl
+pub timed-all : (watch : Watch) (moments : List (Option ℕ)) (rows : List (Row Item)) → AreTimedBut watch [] moments rows → AreTimed watch moments rows
+timed-all watch moments rows but key = but key refl
 
 -- after the due moments are unset, each key that isn't listed is looked at in time
-pub timed-but : (alone : Bool) (now : ℕ) (moments : List (Option ℕ)) (found : List ℕ) (keys : List Key) (rows : List (Row Item)) → AreDue now moments found → AreListed rows found keys
-    → AreTimed alone moments rows → AreTimedBut alone keys (map (cleared now) moments) rows
-timed-but alone now moments found keys rows due listed timed key none r h go =
+pub timed-but : (watch : Watch) (now : ℕ) (moments : List (Option ℕ)) (found : List ℕ) (keys : List Key) (rows : List (Row Item)) → AreDue now moments found → AreListed rows found keys
+    → AreTimed watch moments rows → AreTimedBut watch keys (map (cleared now) moments) rows
+timed-but watch now moments found keys rows due listed timed key none r h go =
     let w = timed key r h go in
     let moment = get_or-map (cleared now) moments r.number.0 None ∙ ap (cleared now) w.1 in
     by w.0 w.1 moment w.2 (nat_le w.0 now) refl
@@ -156,13 +159,17 @@ timed-but alone now moments found keys rows due listed timed key none r h go =
         absurd (omega (arith, once, never))
     by m is moment early false e = (m, moment ∙ cond-false (nat_le m now) None (Some m) e, early)
 
--- ---- lone gateways
+-- ---- another watch
 
--- the keys of entries
-abbrev pub keys_of : List Entry → List Key
-keys_of es = map (λ e. e.pair.key) es
+-- an Alone entry may be released, and an entry that may be released otherwise may be where the gateway is lone
+alone-goes : (s : EntryState) → is_alone s ≡ true → may_go false s ≡ true
+alone-goes (Pending marked) h = h
+alone-goes Doomed h = h
+alone-goes Live h = absurd (cc)
+alone-goes (Closing marked) h = h
+alone-goes Alone h = h
+alone-goes Held h = h
 
--- an entry that may be released otherwise may be released where the gateway is lone
 more-go : (s : EntryState) → may_go false s ≡ true → may_go true s ≡ true
 more-go (Pending marked) h = h
 more-go Doomed h = h
@@ -171,12 +178,26 @@ more-go (Closing marked) h = h
 more-go Alone h = h
 more-go Held h = absurd (cc)
 
--- where the gateway has not just become lone, all keys are looked at in time as before
-pub timed-as : (alone lone : Bool) (moments : List (Option ℕ)) (rows : List (Row Item)) → (lone && not alone) ≡ false → AreTimed alone moments rows → AreTimed lone moments rows
-timed-as true true moments rows h timed = timed
-timed-as true false moments rows h timed = λ key r is go. timed key r is (more-go r.item.entry.state go)
-timed-as false true moments rows h timed = absurd (cc)
-timed-as false false moments rows h timed = timed
+covered : (was watch : Watch) (s : EntryState) → covers was watch ≡ true → is_watched watch s ≡ true → is_watched was s ≡ true
+covered HeldToo OnlyAlone s h seen = more-go s (alone-goes s seen)
+covered HeldToo Own s h seen = more-go s seen
+covered HeldToo HeldToo s h seen = seen
+covered Own OnlyAlone s h seen = alone-goes s seen
+covered Own Own s h seen = seen
+covered Own HeldToo s h seen = absurd (cc)
+covered OnlyAlone OnlyAlone s h seen = seen
+covered OnlyAlone Own s h seen = absurd (cc)
+covered OnlyAlone HeldToo s h seen = absurd (cc)
+
+-- where a watch looks at no more entries than the one before it, all are looked at in time as before
+pub timed-as : (was watch : Watch) (moments : List (Option ℕ)) (rows : List (Row Item)) → covers was watch ≡ true → AreTimed was moments rows → AreTimed watch moments rows
+timed-as was watch moments rows h timed = λ key r is seen. timed key r is (covered was watch r.item.entry.state h seen)
+
+-- ---- all entries
+
+-- the keys of entries
+abbrev pub keys_of : List Entry → List Key
+keys_of es = map (λ e. e.pair.key) es
 
 all-among : (rows : List (Row Item)) (key : Key) (r : Row Item) → AreKeyed rows → slots.row_of rows key ≡ Some r → is_among key (keys_of (entries_of rows)) ≡ true
 all-among [] key r keyed h = absurd (cc)
@@ -193,6 +214,6 @@ all-among (x ∷ rows) key r keyed h = by (same_key x.key key) refl (all-among r
     by false e ih = own ∙ ap (λ b. b || rest) e ∙ ih (sym (cond-false (same_key x.key key) (Some x) (slots.row_of rows key) e) ∙ h)
 
 -- with the keys of all entries listed, each other key is looked at in time
-pub timed-none : (lone : Bool) (moments : List (Option ℕ)) (rows : List (Row Item)) → AreKeyed rows → AreTimedBut lone (keys_of (entries_of rows)) moments rows
-timed-none lone moments rows keyed key none r h go =
+pub timed-none : (watch : Watch) (moments : List (Option ℕ)) (rows : List (Row Item)) → AreKeyed rows → AreTimedBut watch (keys_of (entries_of rows)) moments rows
+timed-none watch moments rows keyed key none r h go =
     absurd (both_ways (is_among key (keys_of (entries_of rows))) none (all-among rows key r keyed h))

@@ -81,6 +81,10 @@ is_alone (Closing marked) = false
 is_alone Alone = true
 is_alone Held = false
 
+abbrev pub is_alone_by : Option Entry → Bool
+is_alone_by None = false
+is_alone_by (Some e) = is_alone e.state
+
 -- a tick looks for entries to mark, or for entries to tell the peer of
 abbrev pub is_sought : Sought → EntryState → Bool
 is_sought ToMark state = waits state

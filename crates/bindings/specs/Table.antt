@@ -1,6 +1,6 @@
 -- What callers see of a table.
 use Rattle.std.specs.Prelude.{◌≡◌, ℕ, ◌≤◌, Bool, true, false, Option, Some, None, List, [], length}
-use Rattle.std.specs.List.{insert}
+use Rattle.std.specs.List.{filter, insert}
 use Rattle.nat_types.specs.declared.pairs.EntryState.{EntryState}
 use Rattle.nat_types.specs.declared.pairs.Key.{Key}
 use Rattle.activity.specs.Lives.{History, Activity}
@@ -10,7 +10,7 @@ use Rattle.slots.specs.declared.hashers.Hashers.{Hashers}
 use Rattle.bindings.specs.declared.entries.Entry.{Entry}
 use Rattle.bindings.specs.declared.entries.PortBounds.{PortBounds}
 use Rattle.bindings.specs.declared.ports.Ports.{Ports}
-use Rattle.bindings.specs.Entries.{slot_of, is_alone, is_marked, HasDistinctKeys, HasDistinctEndpoints}
+use Rattle.bindings.specs.Entries.{slot_of, is_alone_by, is_marked, HasDistinctKeys, HasDistinctEndpoints}
 use Rattle.bindings.specs.Lists.{AreInOrder, IsOneToOne, place_in, put_in, without, with_state}
 use Rattle.bindings.specs.Ports.{AreAlike, AreFree, in_either, lowest_of, highest_of, key_count}
 use Rattle.bindings.specs.Lives.{HasPast, lives_without, idle_keys_in}
@@ -81,13 +81,13 @@ is_marked_by (Some e) = is_marked e.state
 abbrev pub is_marked_at : Table → Key → Bool
 is_marked_at t key = is_marked_by (slot_of t.entries key)
 
-abbrev pub is_alone_by : Option Entry → Bool
-is_alone_by None = false
-is_alone_by (Some e) = is_alone e.state
-
 -- a key's entry is Alone
 abbrev pub is_alone_at : Table → Key → Bool
 is_alone_at t key = is_alone_by (slot_of t.entries key)
+
+-- the keys of a table's idle entries that are Alone, by protocol and port
+abbrev pub alone_keys_of : Table → ℕ → List Key
+alone_keys_of t now = filter (is_alone_at t) (idle_keys_of t false now)
 
 -- the table with one more entry and its life
 abbrev pub with_entry : Table → Entry → Activity → Table

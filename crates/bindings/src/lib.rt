@@ -11,6 +11,7 @@ mod runs;
 mod store;
 mod table;
 mod tallies;
+mod watches;
 
 pub use entries::{Entry, PortBounds, TableFault};
 pub use laws::{room_law, uses_law};

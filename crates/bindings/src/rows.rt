@@ -6,11 +6,10 @@ ghost use Rattle.bindings.specs.Lists.{first_after};
 ghost use Rattle.bindings.specs.Dues.{idle_among, is_idle_key};
 ghost use Rattle.bindings.specs.Ports.{is_free_in, is_vacant};
 
-use crate::entries::{
-    endpoint_of, is_pair_state, is_translating, key_of, may_go_state, rank_of_state,
-};
+use crate::entries::{endpoint_of, is_pair_state, is_translating, key_of, rank_of_state};
 use crate::store::Store;
 use crate::tallies::{Sought, is_sought_state};
+use crate::watches::Watch;
 use crate::{Entry, TableFault};
 use addresses::{Port, Protocol};
 use memory::push;
@@ -117,41 +116,40 @@ pub(crate) fn next_sought(store: &Store, sought: Sought, from: Option<Key>) -> O
     None
 }
 
-/// Whether a key's entry is idle and may be released.
-fn is_idle_entry(store: &Store, key: Key, lone: bool, now: u64) -> bool
-    ensures { result ≡ is_idle_key lone now store.now.entries store.now.lives key }
+/// Whether a key's entry is looked at, and is idle.
+fn is_idle_entry(store: &Store, key: Key, watch: Watch, now: u64) -> bool
+    ensures { result ≡ is_idle_key watch now store.now.entries store.now.lives key }
 {
     match store.entry(key) {
-        Some(entry) => may_go_state(lone, entry.state) && store.is_idle(key, now),
+        Some(entry) => watch.sees(entry.state) && store.is_idle(key, now),
         None => false,
     }
 }
 
-/// Returns how many of the keys have idle entries that may be released.
-pub(crate) fn count_idle(store: &Store, keys: &[Key], lone: bool, now: u64) -> usize
+/// Returns how many of the keys have idle entries that are looked at.
+pub(crate) fn count_idle(store: &Store, keys: &[Key], watch: Watch, now: u64) -> usize
     ensures { result
-        ≡ count_by (is_idle_key lone now store.now.entries store.now.lives) keys.now }
+        ≡ count_by (is_idle_key watch now store.now.entries store.now.lives) keys.now }
 {
     let mut count = 0;
     for key in keys.iter() {
-        if is_idle_entry(store, *key, lone, now) {
+        if is_idle_entry(store, *key, watch, now) {
             count += 1;
         }
     }
     count
 }
 
-/// Appends those of the keys whose entries are idle and may be released to a list with capacity for
-/// them.
-pub(crate) fn list_idle(store: &Store, keys: &[Key], lone: bool, now: u64, out: &mut Vec<Key>)
-    requires { vec_len out.old + count_by (is_idle_key lone now store.now.entries store.now.lives)
+/// Appends those of the keys whose entries are looked at and are idle to a list with capacity for them.
+pub(crate) fn list_idle(store: &Store, keys: &[Key], watch: Watch, now: u64, out: &mut Vec<Key>)
+    requires { vec_len out.old + count_by (is_idle_key watch now store.now.entries store.now.lives)
         keys.now ≤ vec_capacity out.old }
     ensures items { out.new.items
-        ≡ out.old.items ++ idle_among lone now store.now.entries store.now.lives keys.now }
+        ≡ out.old.items ++ idle_among watch now store.now.entries store.now.lives keys.now }
     ensures capacity { vec_capacity out.new ≡ vec_capacity out.old }
 {
     for key in keys.iter() {
-        if is_idle_entry(store, *key, lone, now) {
+        if is_idle_entry(store, *key, watch, now) {
             out.push_reserved(*key);
         }
     }

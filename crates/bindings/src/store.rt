@@ -22,13 +22,13 @@ ghost use Rattle.bindings.specs.declared.store.Item.{Item as Kept};
 ghost use Rattle.std.specs.Prelude.{vec_capacity};
 ghost use Rattle.timers.specs.Due.{is_due};
 ghost use Rattle.slots.specs.Dues.{moment_of};
-ghost use Rattle.bindings.specs.Lives.{idle_keys_in};
 ghost use Rattle.bindings.specs.Stores.{AreKeyed};
-ghost use Rattle.bindings.specs.Dues.{AreListed, AreTimed, AreTimedBut, IsTimedAt, KeepsDues, idle_among};
+ghost use Rattle.bindings.specs.Dues.{AreListed, AreTimed, AreTimedBut, IsTimedAt, KeepsDues, idle_among, watched_keys};
 
 use crate::Entry;
-use crate::entries::{endpoint_of, is_pair_state, key_of, may_go_state, rank_of_state};
+use crate::entries::{endpoint_of, is_pair_state, key_of, rank_of_state};
 use crate::tallies::{Sought, Tally};
+use crate::watches::Watch;
 use activity::{Activity, Packet};
 use addresses::Ip;
 use memory::with_room;
@@ -53,11 +53,12 @@ pub(crate) struct Store {
     index: EndpointIndex<Hashers>,
     // How many entries a tick has to mark, and how many to tell, so that it finds without a walk that there are none.
     tally: Tally,
-    // The time at which each entry that may be released is looked at again, which is not after the entry is idle. A
-    // slot that no entry has any more may be due too. Its next entry is then looked at once too often.
+    // The time at which each entry of the watch is looked at again, which is not after the entry is idle. A slot that
+    // no such entry has any more may be due too. Its entry is then looked at once too often.
     dues: Dues,
-    // Whether Held entries are looked at too, as those of a lone gateway are.
-    alone: bool,
+    // Which entries are looked at. A lone gateway looks at the Held ones too, and one that may release only Alone ones
+    // at no others.
+    watch: Watch,
     // The keys that are to be looked at now, with capacity for one of each slot.
     found: Vec<Key>,
 }
@@ -81,7 +82,7 @@ impl Model for Store {
     } };
 
     ghost invariant = { λ s. IsIndexed s.slots.rows s.index
-        × AreWatched s.alone s.dues.moments s.slots (vec_capacity s.found)
+        × AreWatched s.watch s.dues.moments s.slots (vec_capacity s.found)
         × IsTally (entries_of s.slots.rows) s.tally };
 }
 
@@ -214,19 +215,19 @@ fn put_renewal(slots: &mut PortSlots<Item>, key: Key, now: u64)
     }
 }
 
-/// Makes a key's slot due not later than its entry is idle, where the entry may be released. A slot that is due before
+/// Makes a key's slot due not later than its entry is idle, where the entry is looked at. A slot that is due before
 /// that is left, and is set again after it was looked at.
 #[inline(always)]
-fn set_in_time(slots: &PortSlots<Item>, dues: &mut Dues, alone: bool, key: Key)
+fn set_in_time(slots: &PortSlots<Item>, dues: &mut Dues, watch: Watch, key: Key)
     requires count { length dues.old.moments ≡ slots.now.limit }
-    ensures timed { IsTimedAt alone dues.new.moments slots.now.rows key }
+    ensures timed { IsTimedAt watch dues.new.moments slots.now.rows key }
     ensures others { KeepsDues slots.now.rows key dues.old.moments dues.new.moments }
     ensures count { length dues.new.moments ≡ length dues.old.moments }
 {
     slots.recall();
     if let Some(number) = slots.number_of(key)
         && let Some(item) = slots.at(number)
-        && may_go_state(alone, item.entry.state)
+        && watch.sees(item.entry.state)
     {
         let due = item.life.due(key.protocol);
         if !is_due_by(dues, number, due) {
@@ -246,44 +247,43 @@ fn is_due_by(dues: &Dues, number: SlotNumber, moment: u64) -> bool
     }
 }
 
-/// Sets the slots of those keys again that came due and whose entries may be released.
-fn set_again(slots: &PortSlots<Item>, dues: &mut Dues, alone: bool, keys: &[Key])
+/// Sets the slots of those keys again that came due and whose entries are looked at.
+fn set_again(slots: &PortSlots<Item>, dues: &mut Dues, watch: Watch, keys: &[Key])
     requires count { length dues.old.moments ≡ slots.now.limit }
-    requires timed { AreTimedBut alone keys.now dues.old.moments slots.now.rows }
-    ensures timed { AreTimed alone dues.new.moments slots.now.rows }
+    requires timed { AreTimedBut watch keys.now dues.old.moments slots.now.rows }
+    ensures timed { AreTimed watch dues.new.moments slots.now.rows }
     ensures count { length dues.new.moments ≡ length dues.old.moments }
 {
     for key in keys.iter() {
-        set_in_time(slots, dues, alone, *key);
+        set_in_time(slots, dues, watch, *key);
     }
 }
 
-/// Sets the slots of all keys whose entries may be released by a lone gateway.
-fn set_all(slots: &PortSlots<Item>, dues: &mut Dues)
+/// Sets the slots of all keys whose entries are looked at.
+fn set_all(slots: &PortSlots<Item>, dues: &mut Dues, watch: Watch)
     requires count { length dues.old.moments ≡ slots.now.limit }
     requires keyed { AreKeyed slots.now.rows }
-    ensures timed { AreTimed true dues.new.moments slots.now.rows }
+    ensures timed { AreTimed watch dues.new.moments slots.now.rows }
     ensures count { length dues.new.moments ≡ length dues.old.moments }
 {
     slots.recall();
     let mut last = None;
     while let Some(key) = slots.key_after(last) {
-        set_in_time(slots, dues, true, key);
+        set_in_time(slots, dues, watch, key);
         last = Some(key);
     }
 }
 
-/// Records whether the gateway is lone. Where it has just become lone, the slots of all entries that may now be
-/// released are set.
-fn set_alone(slots: &PortSlots<Item>, dues: &mut Dues, alone: bool, lone: bool)
+/// Goes over from one watch to another. Where that looks at more entries, the slots of all its entries are set.
+fn set_watch(slots: &PortSlots<Item>, dues: &mut Dues, was: Watch, watch: Watch)
     requires count { length dues.old.moments ≡ slots.now.limit }
     requires keyed { AreKeyed slots.now.rows }
-    requires timed { AreTimed alone dues.old.moments slots.now.rows }
-    ensures timed { AreTimed lone dues.new.moments slots.now.rows }
+    requires timed { AreTimed was dues.old.moments slots.now.rows }
+    ensures timed { AreTimed watch dues.new.moments slots.now.rows }
     ensures count { length dues.new.moments ≡ length dues.old.moments }
 {
-    if lone && !alone {
-        set_all(slots, dues);
+    if !was.covers(watch) {
+        set_all(slots, dues, watch);
     }
 }
 
@@ -357,7 +357,7 @@ impl Store {
             index,
             tally: Tally::none(),
             dues,
-            alone: false,
+            watch: Watch::Own,
             found,
         })
     }
@@ -466,7 +466,7 @@ impl Store {
         let number = self.slots.insert(key, item_with(pair, state, life));
         list_pair(&mut self.index, pair, state, number);
         self.tally = self.tally.plus(state);
-        set_in_time(&self.slots, &mut self.dues, self.alone, key);
+        set_in_time(&self.slots, &mut self.dues, self.watch, key);
     }
 
     /// Sets the state of a key's entry. A pair remains one of its rank, or becomes Doomed, and a Doomed entry remains
@@ -490,7 +490,7 @@ impl Store {
             unlist_turned(&mut self.index, pair, was, state);
             put_state(&mut self.slots, key, pair, state);
             self.tally = self.tally.minus(was).plus(state);
-            set_in_time(&self.slots, &mut self.dues, self.alone, key);
+            set_in_time(&self.slots, &mut self.dues, self.watch, key);
         }
     }
 
@@ -539,7 +539,7 @@ impl Store {
     {
         self.slots.recall();
         put_packet(&mut self.slots, key, packet);
-        set_in_time(&self.slots, &mut self.dues, self.alone, key);
+        set_in_time(&self.slots, &mut self.dues, self.watch, key);
     }
 
     /// Begins the life of a key's pair anew at `now`, with an empty list of packets.
@@ -554,24 +554,23 @@ impl Store {
     {
         self.slots.recall();
         put_renewal(&mut self.slots, key, now);
-        set_in_time(&self.slots, &mut self.dues, self.alone, key);
+        set_in_time(&self.slots, &mut self.dues, self.watch, key);
     }
 
-    /// Finds the keys that are to be looked at, in order. The keys of all idle entries that may be released are among
-    /// them.
-    pub(crate) fn find_due(&mut self, lone: bool, now: u64)
-        ensures among { idle_keys_in lone now self.old.entries self.old.lives
-            ≡ idle_among lone now self.old.entries self.old.lives self.new.found }
+    /// Finds the keys that are to be looked at, in order. The keys of all idle entries of the watch are among them.
+    pub(crate) fn find_due(&mut self, watch: Watch, now: u64)
+        ensures among { watched_keys watch now self.old.entries self.old.lives
+            ≡ idle_among watch now self.old.entries self.old.lives self.new.found }
         ensures same { self.new ≡ record self.old { found = self.new.found } }
     {
         self.slots.recall();
-        set_alone(&self.slots, &mut self.dues, self.alone, lone);
-        self.alone = lone;
+        set_watch(&self.slots, &mut self.dues, self.watch, watch);
+        self.watch = watch;
         self.dues.find(now);
         self.found.clear();
         list_keys(&self.slots, &mut self.dues, &mut self.found);
         sort_keys(&mut self.found);
-        set_again(&self.slots, &mut self.dues, lone, &self.found);
+        set_again(&self.slots, &mut self.dues, watch, &self.found);
     }
 
     /// Returns the keys that the last `find_due` found.

@@ -16,7 +16,8 @@ ghost use Rattle.bindings.specs.Table.{empty_table};
 ghost use Rattle.bindings.specs.Runs.{own_in, without_port, all_ports, first_run, port_at};
 ghost use Rattle.bindings.specs.Lives.{KeepsOthers, is_among, may_go, rests_at, is_unused_at};
 ghost use Rattle.bindings.specs.Ports.{AreBounds, in_either, key_count, is_open_in, is_vacant, is_spare, chosen_port, ports_in};
-ghost use Rattle.bindings.specs.Table.{IsTable, IsPast, owns, idle_keys_of, is_alone_at, is_marked_at, with_entry_state, without_entry};
+ghost use Rattle.bindings.specs.Table.{IsTable, IsPast, owns, alone_keys_of, idle_keys_of, is_alone_at, is_marked_at, with_entry_state, without_entry};
+ghost use Rattle.bindings.specs.Dues.{watched_keys};
 ghost use Rattle.bindings.specs.Lives.{lives_with};
 ghost use Rattle.bindings.specs.Lists.{place_in};
 ghost use Rattle.std.specs.List.{insert};
@@ -31,6 +32,7 @@ use crate::rows::{count_idle, is_vacant_port, list_idle, list_pairs, next_sought
 use crate::runs::{find_run, list_owned};
 use crate::store::Store;
 use crate::tallies::Sought;
+use crate::watches::Watch;
 use crate::{Entry, PortBounds, TableFault};
 use activity::{Activity, Packet, Remote, Way};
 use addresses::{Ip, Parity, Port, Protocol, TcpFlags};
@@ -545,9 +547,32 @@ impl Table {
         self.store.is_unused(key)
     }
 
+    /// Appends the keys of the idle entries of a watch, each once, by protocol (icmp first) and port. An Err says that
+    /// there is no memory, and changes nothing.
+    fn append_idle(&mut self, watch: Watch, now: u64, keys: &mut Vec<Key>) -> Result<(), AllocError>
+        ensures keys { OnOk result (keys.new.items
+            ≡ keys.old.items ++ watched_keys watch now self.old.entries self.old.lives) }
+        ensures same { self.new ≡ self.old }
+        ensures err { OnErr result (keys.new.items ≡ keys.old.items) }
+        ensures room { vec_len keys.old + length (watched_keys watch now self.old.entries
+            self.old.lives) ≤ vec_capacity keys.old → IsOk result }
+        ensures capacity { vec_capacity keys.old ≤ vec_capacity keys.new }
+        ensures exact { OnOk result (vec_capacity keys.new ≡ max (vec_capacity keys.old)
+            (vec_len keys.old + length (watched_keys watch now self.old.entries
+            self.old.lives))) }
+        ensures refused { OnErr result (WasRefused (length (watched_keys watch now
+            self.old.entries self.old.lives))) }
+    {
+        self.store.find_due(watch, now);
+        let count = count_idle(&self.store, self.store.found(), watch, now);
+        reserve_exact(keys, count)?;
+        list_idle(&self.store, self.store.found(), watch, now, keys);
+        Ok(())
+    }
+
     /// Appends the keys of the idle entries that may be released, each once, by protocol (icmp first) and port: of the
-    /// Live and the Alone ones, and where the gateway is lone of the Held ones too. Capacity for as many keys as there are entries is
-    /// enough. An Err says that there is no memory, and changes nothing.
+    /// Live and the Alone ones, and where the gateway is lone of the Held ones too. Capacity for as many keys as there
+    /// are entries is enough. An Err says that there is no memory, and changes nothing.
     pub fn idle_keys(&mut self, lone: bool, now: u64, keys: &mut Vec<Key>) -> Result<(), AllocError>
         ensures keys { OnOk result (keys.new.items
             ≡ keys.old.items ++ idle_keys_of self.old lone now) }
@@ -565,10 +590,25 @@ impl Table {
             (vec_len keys.old + length (idle_keys_of self.old lone now))) }
         ensures refused { OnErr result (WasRefused (length (idle_keys_of self.old lone now))) }
     {
-        self.store.find_due(lone, now);
-        let count = count_idle(&self.store, self.store.found(), lone, now);
-        reserve_exact(keys, count)?;
-        list_idle(&self.store, self.store.found(), lone, now, keys);
-        Ok(())
+        self.recall();
+        self.append_idle(Watch::of(lone), now, keys)
+    }
+
+    /// Appends the keys of the idle Alone entries, each once, by protocol (icmp first) and port: of those that may be
+    /// released where the peer can't be asked. The Live entries cost nothing then, but the first `idle_keys` afterwards
+    /// looks at each. Capacity and Err are as for `idle_keys`.
+    pub fn alone_keys(&mut self, now: u64, keys: &mut Vec<Key>) -> Result<(), AllocError>
+        ensures keys { OnOk result (keys.new.items ≡ keys.old.items ++ alone_keys_of self.old now) }
+        ensures same { self.new ≡ self.old }
+        ensures err { OnErr result (keys.new.items ≡ keys.old.items) }
+        ensures few { length (alone_keys_of self.old now) ≤ length self.old.entries }
+        ensures room { vec_len keys.old + length (alone_keys_of self.old now)
+            ≤ vec_capacity keys.old → IsOk result }
+        ensures capacity { vec_capacity keys.old ≤ vec_capacity keys.new }
+        ensures exact { OnOk result (vec_capacity keys.new ≡ max (vec_capacity keys.old)
+            (vec_len keys.old + length (alone_keys_of self.old now))) }
+        ensures refused { OnErr result (WasRefused (length (alone_keys_of self.old now))) }
+    {
+        self.append_idle(Watch::OnlyAlone, now, keys)
     }
 }

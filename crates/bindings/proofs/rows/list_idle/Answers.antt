@@ -25,7 +25,7 @@ pub loop-key-preserved : goal.loop-key-preserved
 loop-key-preserved c =
     let l = c.loop-key in
     let keys = c.args.keys.now in
-    let p = is_idle_key c.args.lone c.args.now c.args.store.now.entries c.args.store.now.lives in
+    let p = is_idle_key c.args.watch c.args.now c.args.store.now.entries c.args.store.now.lives in
     let within = c.loop-key-test.true in
     elim c.if-is_idle_entry.branch [
       | then-is_idle_entry w ↦
@@ -48,7 +48,7 @@ pub push_reserved-requires : goal.push_reserved-requires
 push_reserved-requires c =
     let l = c.loop-key in
     let keys = c.args.keys.now in
-    let p = is_idle_key c.args.lone c.args.now c.args.store.now.entries c.args.store.now.lives in
+    let p = is_idle_key c.args.watch c.args.now c.args.store.now.entries c.args.store.now.lives in
     let one = ap length (next p keys l.key-index _ c.loop-key-test.true (sym c.is_idle_entry.ensures ∙ c.if-is_idle_entry.true)) in
     let all = length-filter p (drop l.key-index keys) in
     let fits = l.invariant.room in

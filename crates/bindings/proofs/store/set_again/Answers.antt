@@ -10,9 +10,9 @@ loop-key-preserved c =
     let rows = c.args.slots.now.rows in
     let keys = c.args.keys.now in
     let i = c.loop-key.key-index in
-    let P : List Key → Type 0 = λ ks. AreTimedBut c.args.alone ks c.loop-key.dues.moments rows in
+    let P : List Key → Type 0 = λ ks. AreTimedBut c.args.watch ks c.loop-key.dues.moments rows in
     record {
-      timed = timed-again c.args.alone _ (drop (i + 1) keys) c.loop-key.dues.moments c.set_in_time.new.dues.moments rows c.set_in_time.ensures.others c.set_in_time.ensures.timed
+      timed = timed-again c.args.watch _ (drop (i + 1) keys) c.loop-key.dues.moments c.set_in_time.new.dues.moments rows c.set_in_time.ensures.others c.set_in_time.ensures.timed
           (subst P (drop_more keys i _ (omega (arith, c.loop-key-test.true))) c.loop-key.invariant.timed);
       count = c.set_in_time.ensures.count ∙ c.loop-key.invariant.count;
     }
@@ -20,5 +20,5 @@ loop-key-preserved c =
 pub returns-clause-timed : goal.returns-clause-timed
 returns-clause-timed c =
     let rows = c.args.slots.now.rows in
-    let P : List Key → Type 0 = λ ks. AreTimedBut c.args.alone ks c.loop-key.dues.moments rows in
-    timed-all c.args.alone c.loop-key.dues.moments rows (subst P (drop_all c.loop-key.key-index c.args.keys.now (omega (arith, c.loop-key-test.false))) c.loop-key.invariant.timed)
+    let P : List Key → Type 0 = λ ks. AreTimedBut c.args.watch ks c.loop-key.dues.moments rows in
+    timed-all c.args.watch c.loop-key.dues.moments rows (subst P (drop_all c.loop-key.key-index c.args.keys.now (omega (arith, c.loop-key-test.false))) c.loop-key.invariant.timed)

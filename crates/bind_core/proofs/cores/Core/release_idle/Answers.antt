@@ -3,24 +3,24 @@ use Rattle.std.proofs.lemmas.List.{append-nil}
 use Rattle.bindings.specs.Table.{idle_keys_of}
 use Rattle.spec_binding.specs.Books.{is_apart, is_lone}
 use Rattle.spec_binding.specs.Ledgers.{Ledger, LetGo, release_all}
-use Rattle.bind_core.specs.Cores.{Core, book_of, ledger_of}
+use Rattle.bind_core.specs.Cores.{Core, book_of, ledger_of, looked_at}
 use Rattle.bind_core.proofs.Performing.{works-as}
-use Rattle.bind_core.proofs.Releasing.{IsReleased, few-idle, one-more-at, gone, still-apart, still-few, TickLaws, released-works}
+use Rattle.bind_core.proofs.Releasing.{IsReleased, few-looked, looked-all, one-more-at, gone, still-apart, still-few, TickLaws, released-works}
 use Rattle.bind_core.proofs.cores.Core.release_idle.Goals as goal
 
 pub returns-clause-len : goal.returns-clause-len
 returns-clause-len c =
-    let few = few-idle (is_lone c.args.self.now.stage) c.args.now c.args.self.now.table.entries c.args.self.now.table.lives in
+    let few = few-looked c.args.self.now c.args.link.now c.args.now in
     let end = c.idle_count-i-end.ensures in
-    let keys = ap (λ (k : Core). length k.idle) c.list_idle.ensures in
+    let keys = ap (λ (k : Core). length k.idle) c.list_looked_at.ensures in
     let len = c.loop-i.invariant.len in
     omega (arith, few, end, keys, len)
 
 pub release-requires : goal.release-requires
 release-requires c =
-    let few = few-idle (is_lone c.args.self.now.stage) c.args.now c.args.self.now.table.entries c.args.self.now.table.lives in
+    let few = few-looked c.args.self.now c.args.link.now c.args.now in
     let end = c.idle_count-i-end.ensures in
-    let keys = ap (λ (k : Core). length k.idle) c.list_idle.ensures in
+    let keys = ap (λ (k : Core). length k.idle) c.list_looked_at.ensures in
     let len = c.loop-i.invariant.len in
     let capacity = c.loop-i.invariant.capacity in
     let reserved = c.requires in
@@ -29,7 +29,7 @@ release-requires c =
 
 pub loop-i-preserved : goal.loop-i-preserved
 loop-i-preserved c =
-    let keys = idle_keys_of c.args.self.now.table (is_lone c.args.self.now.stage) c.args.now in
+    let keys = looked_at c.args.self.now c.args.link.now c.args.now in
     let found : slice_get keys c.loop-i.i ≡ Some c.idle_key_at-key.result = sym (ap (λ ks. slice_get ks c.loop-i.i) c.loop-i.invariant.idle) ∙ c.idle_key_at-key.ensures in
     let released : IsReleased c.args.now c.idle_key_at-key.result (ledger_of c.loop-i.self) c.loop-i.link c.loop-i.notes.items (ledger_of c.release.new.self) c.release.new.link c.release.new.notes.items =
     record { ledger = c.release.ensures.ledger; link = c.release.ensures.link; notes = c.release.ensures.notes } in
@@ -55,38 +55,38 @@ loop-i-preserved c =
 -- before the first key, only the list of idle keys has changed
 pub loop-i-init : goal.loop-i-init
 loop-i-init c =
-    let keys = idle_keys_of c.args.self.now.table (is_lone c.args.self.now.stage) c.args.now in
-    let same = ap ledger_of c.list_idle.ensures in
+    let keys = looked_at c.args.self.now c.args.link.now c.args.now in
+    let same = ap ledger_of c.list_looked_at.ensures in
     record {
       ledger = ap (λ (l : Ledger). (release_all c.args.now keys l c.args.link.now).ledger) same;
       link = ap (λ (l : Ledger). (release_all c.args.now keys l c.args.link.now).link) same;
       notes = ap (λ (l : Ledger). c.args.notes.now.items ++ (release_all c.args.now keys l c.args.link.now).notes) same;
-      ready = ap (λ (k : Core). k.table.ready) c.list_idle.ensures;
-      idle = ap (λ (k : Core). k.idle) c.list_idle.ensures;
+      ready = ap (λ (k : Core). k.table.ready) c.list_looked_at.ensures;
+      idle = ap (λ (k : Core). k.idle) c.list_looked_at.ensures;
       len = omega arith;
       capacity = refl;
-      apart = ap (λ (k : Core). is_apart (book_of k) c.args.link.now c.args.now) c.list_idle.ensures;
-      few = λ is. let left = ap (λ (k : Core). length k.table.entries) c.list_idle.ensures in omega (arith, left);
+      apart = ap (λ (k : Core). is_apart (book_of k) c.args.link.now c.args.now) c.list_looked_at.ensures;
+      few = λ is. let left = ap (λ (k : Core). length k.table.entries) c.list_looked_at.ensures in omega (arith, left);
     }
 
 -- no key is left
-none-left : (c : goal.After-loop-i) → length (idle_keys_of c.args.self.now.table (is_lone c.args.self.now.stage) c.args.now) ≤ c.loop-i.i
+none-left : (c : goal.After-loop-i) → length (looked_at c.args.self.now c.args.link.now c.args.now) ≤ c.loop-i.i
 none-left c =
-    let sizes = ap (λ (k : Core). length k.idle) c.list_idle.ensures in
+    let sizes = ap (λ (k : Core). length k.idle) c.list_looked_at.ensures in
     let end = c.idle_count-i-end.ensures in
     let past = c.loop-i-test.false in
     omega (arith, sizes, end, past)
 
 pub returns-clause-ledger : goal.returns-clause-ledger
-returns-clause-ledger c = sym (ap (λ (g : LetGo). g.ledger) (gone c.args.now c.loop-i.i _ (ledger_of c.loop-i.self) c.loop-i.link (none-left c))) ∙ c.loop-i.invariant.ledger
+returns-clause-ledger c = sym (ap (λ (g : LetGo). g.ledger) (gone c.args.now c.loop-i.i _ (ledger_of c.loop-i.self) c.loop-i.link (none-left c))) ∙ c.loop-i.invariant.ledger ∙ ap (λ (g : LetGo). g.ledger) (looked-all c.args.self.now c.args.link.now c.args.now)
 
 pub returns-clause-link : goal.returns-clause-link
-returns-clause-link c = sym (ap (λ (g : LetGo). g.link) (gone c.args.now c.loop-i.i _ (ledger_of c.loop-i.self) c.loop-i.link (none-left c))) ∙ c.loop-i.invariant.link
+returns-clause-link c = sym (ap (λ (g : LetGo). g.link) (gone c.args.now c.loop-i.i _ (ledger_of c.loop-i.self) c.loop-i.link (none-left c))) ∙ c.loop-i.invariant.link ∙ ap (λ (g : LetGo). g.link) (looked-all c.args.self.now c.args.link.now c.args.now)
 
 pub returns-clause-notes : goal.returns-clause-notes
 returns-clause-notes c =
     sym (ap (λ (g : LetGo). c.loop-i.notes.items ++ g.notes) (gone c.args.now c.loop-i.i _ (ledger_of c.loop-i.self) c.loop-i.link (none-left c)) ∙ append-nil c.loop-i.notes.items)
-    ∙ c.loop-i.invariant.notes
+    ∙ c.loop-i.invariant.notes ∙ ap (λ (g : LetGo). c.args.notes.now.items ++ g.notes) (looked-all c.args.self.now c.args.link.now c.args.now)
 
 pub returns-clause-apart : goal.returns-clause-apart
 returns-clause-apart c = c.loop-i.invariant.apart

@@ -31,7 +31,7 @@ invariant_of-self c =
     let set = rw (rows, c.key_of-key.ensures) at c.set_in_time.ensures.timed in (
       rw rows (added i.slots i.index c.list_pair.new.index r c.self.invariant.0 refl free c.list_pair.ensures.slots c.list_pair.ensures.counts),
       record {
-        timed = rw rows (added-timed i.alone i.dues.moments c.set_in_time.new.dues.moments r i.slots.rows keeps set c.self.invariant.1.timed);
+        timed = rw rows (added-timed i.watch i.dues.moments c.set_in_time.new.dues.moments r i.slots.rows keeps set c.self.invariant.1.timed);
         count = c.set_in_time.ensures.count ∙ c.self.invariant.1.count ∙ sym limit;
         room = rw limit c.self.invariant.1.room;
       },

@@ -12,7 +12,7 @@ invariant_of-self c =
     let rows = λ (s : PortSlots Item). s.rows in (
       (changed-life c.self.inside.slots c.put_packet.new.slots c.self.inside.index c.self.inside.found.items c.args.key (life_carried c.args.key.protocol c.args.packet) c.self.invariant.0 c.recall.ensures.order c.put_packet.ensures.some c.put_packet.ensures.none).0,
       record {
-        timed = changed-timed c.self.inside.alone c.args.key (λ i. record i { life = life_carried c.args.key.protocol c.args.packet i.life }) c.self.inside.dues.moments c.set_in_time.new.dues.moments c.self.inside.slots.rows c.put_packet.new.slots.rows
+        timed = changed-timed c.self.inside.watch c.args.key (λ i. record i { life = life_carried c.args.key.protocol c.args.packet i.life }) c.self.inside.dues.moments c.set_in_time.new.dues.moments c.self.inside.slots.rows c.put_packet.new.slots.rows
             (λ i h. ap rows (c.put_packet.ensures.some i h)) (λ h. ap rows (c.put_packet.ensures.none h)) c.set_in_time.ensures.others c.set_in_time.ensures.timed c.self.invariant.1.timed;
         count = c.set_in_time.ensures.count ∙ c.self.invariant.1.count ∙ sym c.put_packet.ensures.limit;
         room = rw c.put_packet.ensures.limit c.self.invariant.1.room;

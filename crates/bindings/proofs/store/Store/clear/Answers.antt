@@ -12,7 +12,7 @@ invariant_of-self c =
     let limit = ap (λ (s : PortSlots Item). s.limit) c.clear.ensures in (
       rw rows (none-indexed c.clear-2.new.self c.clear-2.ensures.slots c.clear-2.ensures.counts),
       record {
-        timed = rw rows (none-timed i.alone i.dues.moments);
+        timed = rw rows (none-timed i.watch i.dues.moments);
         count = c.self.invariant.1.count ∙ sym limit;
         room = rw limit c.self.invariant.1.room;
       },

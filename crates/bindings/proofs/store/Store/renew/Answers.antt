@@ -12,7 +12,7 @@ invariant_of-self c =
     let rows = λ (s : PortSlots Item). s.rows in (
       (changed-life c.self.inside.slots c.put_renewal.new.slots c.self.inside.index c.self.inside.found.items c.args.key (life_renewed c.args.now) c.self.invariant.0 c.recall.ensures.order c.put_renewal.ensures.some c.put_renewal.ensures.none).0,
       record {
-        timed = changed-timed c.self.inside.alone c.args.key (λ i. record i { life = life_renewed c.args.now i.life }) c.self.inside.dues.moments c.set_in_time.new.dues.moments c.self.inside.slots.rows c.put_renewal.new.slots.rows
+        timed = changed-timed c.self.inside.watch c.args.key (λ i. record i { life = life_renewed c.args.now i.life }) c.self.inside.dues.moments c.set_in_time.new.dues.moments c.self.inside.slots.rows c.put_renewal.new.slots.rows
             (λ i h. ap rows (c.put_renewal.ensures.some i h)) (λ h. ap rows (c.put_renewal.ensures.none h)) c.set_in_time.ensures.others c.set_in_time.ensures.timed c.self.invariant.1.timed;
         count = c.set_in_time.ensures.count ∙ c.self.invariant.1.count ∙ sym c.put_renewal.ensures.limit;
         room = rw c.put_renewal.ensures.limit c.self.invariant.1.room;

@@ -28,7 +28,7 @@ invariant_of-self c =
     let listed = rw c.entry_of_item-pair.ensures at c.unlist.ensures.slots in
     let counts = rw c.entry_of_item-pair.ensures at c.unlist.ensures.counts in
     let limit = ap (λ (s : PortSlots Item). s.limit) c.remove.ensures.rows in
-    let watched : AreWatched i.alone i.dues.moments c.remove.new.self (vec_capacity i.found) = record { timed = rw rows (without-timed i.alone c.args.key i.dues.moments i.slots.rows c.self.invariant.1.timed); count = c.self.invariant.1.count ∙ sym limit; room = rw limit c.self.invariant.1.room } in
+    let watched : AreWatched i.watch i.dues.moments c.remove.new.self (vec_capacity i.found) = record { timed = rw rows (without-timed i.watch c.args.key i.dues.moments i.slots.rows c.self.invariant.1.timed); count = c.self.invariant.1.count ∙ sym limit; room = rw limit c.self.invariant.1.room } in
     let keys = rises-distinct 0 (entries_of i.slots.rows) (rises-up 0 i.slots.rows c.self.invariant.0.keyed c.recall.ensures.order) in
     let waiting = rw c.entry_of_item-pair.ensures at c.minus-self-inside.ensures.waiting in
     let alone = rw c.entry_of_item-pair.ensures at c.minus-self-inside.ensures.alone in (

@@ -27,7 +27,7 @@ invariant_of-self c =
     let rows = λ (s : PortSlots Item). s.rows in (
       (turned i.slots c.put_state.new.slots i.index c.unlist_turned.new.index c.args.key c.args.state c.in-Some.entry c.self.invariant.0 c.recall.ensures.order held (pair c.in-Some.entry held) (endpoints c.in-Some.entry held) c.put_state.ensures.some c.unlist_turned.ensures.slots c.unlist_turned.ensures.counts).0,
       record {
-        timed = changed-timed i.alone c.args.key (λ i. record i { entry = entry_in c.args.state c.in-Some.entry.pair }) i.dues.moments c.set_in_time.new.dues.moments i.slots.rows c.put_state.new.slots.rows
+        timed = changed-timed i.watch c.args.key (λ i. record i { entry = entry_in c.args.state c.in-Some.entry.pair }) i.dues.moments c.set_in_time.new.dues.moments i.slots.rows c.put_state.new.slots.rows
             (λ i h. ap rows (c.put_state.ensures.some i h)) (λ h. ap rows (c.put_state.ensures.none h)) c.set_in_time.ensures.others c.set_in_time.ensures.timed c.self.invariant.1.timed;
         count = c.set_in_time.ensures.count ∙ c.self.invariant.1.count ∙ sym c.put_state.ensures.limit;
         room = rw c.put_state.ensures.limit c.self.invariant.1.room;

@@ -1,63 +1,31 @@
-use Rattle.std.proofs.Common.{ℕ, ◌+◌, length, max, vec_len, vec_capacity, ap, sym, subst, ◌∙◌, arith}
-use Rattle.std.proofs.lemmas.Bool.{false≢true}
-use Rattle.std.proofs.lemmas.List.Sums.{length-filter}
-use Rattle.memory.specs.Memory.{WasRefused}
-use Rattle.bindings.specs.Dues.{is_idle_key}
-use Rattle.bindings.specs.Stores.{Store}
 use Rattle.bindings.proofs.Slots.{slot-key}
-use Rattle.bindings.proofs.Readied.{lacking}
-use Rattle.bindings.proofs.Resting.{few-idle, listed-is}
+use Rattle.bindings.proofs.Resting.{few-idle, listed-is, watched-all}
 use Rattle.bindings.proofs.table.Table.idle_keys.Goals as goal
 
-pub returns-in_err-reserve_exact-clause-listed : goal.returns-in_err-reserve_exact-clause-listed
-returns-in_err-reserve_exact-clause-listed c =
-    let i = c.self.inside in
-    rw (← c.self.view_is)
-    (λ key entry past held has. listed-is c.args.lone c.args.now i.store.entries i.store.lives key entry past c.self.invariant.0.keys held (slot-key i.store.entries key entry held) has)
+pub returns-clause-keys : goal.returns-clause-keys
+returns-clause-keys c =
+    let t = c.args.self.now in
+    rw (← watched-all c.args.lone c.of.result c.args.now t.entries t.lives c.of.ensures) c.append_idle.ensures.keys
 
 pub returns-clause-listed : goal.returns-clause-listed
 returns-clause-listed c =
-    let i = c.self.inside in
-    rw (← c.self.view_is)
-    (λ key entry past held has. listed-is c.args.lone c.args.now i.store.entries i.store.lives key entry past c.self.invariant.0.keys held (slot-key i.store.entries key entry held) has)
-
-pub returns-in_err-reserve_exact-clause-few : goal.returns-in_err-reserve_exact-clause-few
-returns-in_err-reserve_exact-clause-few c =
-    let i = c.self.inside in
-    rw (← c.self.view_is) (few-idle c.args.lone c.args.now i.store.entries i.store.lives)
+    let t = c.args.self.now in
+    λ key entry past held has. listed-is c.args.lone c.args.now t.entries t.lives key entry past c.recall.ensures.keys held (slot-key t.entries key entry held) has
 
 pub returns-clause-few : goal.returns-clause-few
-returns-clause-few c =
-    let i = c.self.inside in
-    rw (← c.self.view_is) (few-idle c.args.lone c.args.now i.store.entries i.store.lives)
+returns-clause-few c = few-idle c.args.lone c.args.now c.args.self.now.entries c.args.self.now.lives
 
-pub returns-in_err-reserve_exact-clause-room : goal.returns-in_err-reserve_exact-clause-room
-returns-in_err-reserve_exact-clause-room c =
-    let i = c.self.inside in
-    let keys = c.find_due.new.self.found in
-    let entries = ap (λ (s : Store). s.entries) c.find_due.ensures.same in
-    let lives = ap (λ (s : Store). s.lives) c.find_due.ensures.same in
-    let count = rw (c.found.ensures, entries, lives) at c.count_idle-count.ensures in
-    let long = ap length c.find_due.ensures.among ∙ length-filter (is_idle_key c.args.lone c.args.now i.store.entries i.store.lives) keys in
-    rw (← c.self.view_is) (λ room. absurd (false≢true (c.in_err-reserve_exact.ensures.succeeds (omega (arith, count, long, room)))))
-
-pub returns-in_err-reserve_exact-clause-refused : goal.returns-in_err-reserve_exact-clause-refused
-returns-in_err-reserve_exact-clause-refused c =
-    let i = c.self.inside in
-    let keys = c.find_due.new.self.found in
-    let entries = ap (λ (s : Store). s.entries) c.find_due.ensures.same in
-    let lives = ap (λ (s : Store). s.lives) c.find_due.ensures.same in
-    let count = rw (c.found.ensures, entries, lives) at c.count_idle-count.ensures in
-    let long = ap length c.find_due.ensures.among ∙ length-filter (is_idle_key c.args.lone c.args.now i.store.entries i.store.lives) keys in
-    rw (← c.self.view_is) (lacking c.from_residual.result (subst WasRefused (count ∙ sym long) c.in_err-reserve_exact.ensures.refused))
+pub returns-clause-room : goal.returns-clause-room
+returns-clause-room c =
+    let t = c.args.self.now in
+    rw (← watched-all c.args.lone c.of.result c.args.now t.entries t.lives c.of.ensures) c.append_idle.ensures.room
 
 pub returns-clause-exact : goal.returns-clause-exact
 returns-clause-exact c =
-    let i = c.self.inside in
-    let keys = c.find_due.new.self.found in
-    let entries = ap (λ (s : Store). s.entries) c.find_due.ensures.same in
-    let lives = ap (λ (s : Store). s.lives) c.find_due.ensures.same in
-    let count = rw (c.found.ensures, entries, lives) at c.count_idle-count.ensures in
-    let long = ap length c.find_due.ensures.among ∙ length-filter (is_idle_key c.args.lone c.args.now i.store.entries i.store.lives) keys in
-    let more = λ (n : ℕ). max (vec_capacity c.args.keys.now) (vec_len c.args.keys.now + n) in
-    rw (← c.self.view_is) (c.list_idle.ensures.capacity ∙ c.in_ok-reserve_exact.ensures.exact ∙ ap more (count ∙ sym long))
+    let t = c.args.self.now in
+    rw (← watched-all c.args.lone c.of.result c.args.now t.entries t.lives c.of.ensures) c.append_idle.ensures.exact
+
+pub returns-clause-refused : goal.returns-clause-refused
+returns-clause-refused c =
+    let t = c.args.self.now in
+    rw (← watched-all c.args.lone c.of.result c.args.now t.entries t.lives c.of.ensures) c.append_idle.ensures.refused
