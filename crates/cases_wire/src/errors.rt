@@ -40,7 +40,7 @@ fn tell_parameter(case: &mut Case, parameter: u32) {
 fn tell_packet(case: &mut Case, packet: ErrorPacket) {
     case.say(" from ", packet.flow.source);
     case.say(" to ", packet.flow.destination);
-    case.say(" length ", packet.length);
+    case.say(" length ", packet.size.length);
     tell_way(case, packet.flow.inside);
 }
 

@@ -39,9 +39,14 @@ fn reply_to(case: &mut Case, ask: &AskView<'_>) {
     if ask.bytes.len() > 1480 {
         return case.refused("no room for the reply");
     }
-    let mut out = [0xee; 1500];
-    let length = icmp::reply(ask, case.hex_ip(), case.hex_ip(), &mut out);
-    case.hex("", &out[..length]);
+    let (from, to) = (case.hex_ip(), case.hex_ip());
+    match Vec::with_capacity(case.alloc, 1500) {
+        Ok(mut out) => {
+            icmp::append_reply(&mut out, ask, from, to);
+            case.hex("", out.as_slice());
+        }
+        Err(_) => case.fault(),
+    }
 }
 
 /// Prints the error packet about a packet that is too long (`is_long`), or whose hops are used up.
@@ -52,12 +57,15 @@ pub(crate) fn complain(case: &mut Case, is_long: bool) {
         return;
     };
     let (from, to) = (case.hex_ip(), case.hex_ip());
-    let mut out = [0xee; 576];
-    if is_long {
-        let length = icmp::too_long(&packet, mtu, from, to, &mut out);
-        case.hex("", &out[..length]);
-    } else {
-        let length = icmp::exceeded(&packet, from, to, &mut out);
-        case.hex("", &out[..length]);
+    match Vec::with_capacity(case.alloc, 576) {
+        Ok(mut out) => {
+            if is_long {
+                icmp::append_too_long(&mut out, &packet, mtu, from, to);
+            } else {
+                icmp::append_exceeded(&mut out, &packet, from, to);
+            }
+            case.hex("", out.as_slice());
+        }
+        Err(_) => case.fault(),
     }
 }

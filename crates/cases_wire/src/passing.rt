@@ -52,7 +52,7 @@ pub fn tell_reading(case: &mut Case, reading: Result<Reading, Reason>) {
         Ok(Reading::Asked(asked)) => {
             case.put(asked.source);
             case.say(" asks ", asked.destination);
-            case.say(", ", asked.length);
+            case.say(", ", asked.size.length);
             case.put(" bytes");
         }
         Err(reason) => {

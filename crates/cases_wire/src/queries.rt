@@ -45,7 +45,7 @@ fn tell_packet(case: &mut Case, packet: Packet) {
     case.say(" ", flow.source_port);
     case.say(" to ", flow.destination);
     case.say(" ", flow.destination_port);
-    case.say(" length ", packet.length);
+    case.say(" length ", packet.size.length);
     case.put(" ");
 }
 

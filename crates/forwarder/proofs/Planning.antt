@@ -8,6 +8,7 @@ use Rattle.spec_binding.specs.declared.changes.Want.{Want as Wanted}
 use Rattle.spec_binding.specs.declared.changes.Want.TheVariants as want
 use Rattle.spec_binding.specs.Rows.{new_pair}
 use Rattle.ipv4.specs.declared.flows.Flow.{Flow}
+use Rattle.ipv4.specs.declared.packets.Size.{Size}
 use Rattle.waiting.specs.declared.waits.WaitsFor.TheVariants as wait
 use Rattle.waiting.specs.Packets.{has_place}
 use Rattle.packet_rules.specs.declared.networks.Direction.{Direction}
@@ -94,16 +95,16 @@ fits-holds g flow false (Ok (AskAgain by hop)) held = tt
 fits-holds g flow false (Ok (WaitFor e)) held = tt
 fits-holds g flow fits (Err reason) held = tt
 
-holds : (g : Shown) (side : Side) (flow : Flow) (length : ℕ) → Holds g flow (plan_of g side flow length)
-holds g side flow length = at (direction_of g.networks side flow.protocol flow.source.0 flow.destination.0)
+holds : (g : Shown) (side : Side) (flow : Flow) (size : Size) → Holds g flow (plan_of g side flow size)
+holds g side flow size = at (direction_of g.networks side flow.protocol flow.source.0 flow.destination.0)
   where
-    at : (r : Result Direction Reason) → Holds g flow (and_then r (λ way. and_then (plan_on g flow way) (if_fits (fits_at g (exit_of way) length))))
-    at (Ok w) = fits-holds g flow (fits_at g (exit_of w) length) (plan_on g flow w) (on-holds g flow w)
+    at : (r : Result Direction Reason) → Holds g flow (and_then r (λ way. and_then (plan_on g flow way) (if_fits (fits_at g (exit_of way) size))))
+    at (Ok w) = fits-holds g flow (fits_at g (exit_of w) size) (plan_on g flow w) (on-holds g flow w)
     at (Err reason) = tt
 
 -- a plan that was made for this gateway has the properties
-pub plan-holds : (g : Shown) (side : Side) (flow : Flow) (length : ℕ) (plan : Result Plan Reason) → plan ≡ plan_of g side flow length → Holds g flow plan
-plan-holds g side flow length plan is = subst (λ (p : Result Plan Reason). Holds g flow p) (sym is) (holds g side flow length)
+pub plan-holds : (g : Shown) (side : Side) (flow : Flow) (size : Size) (plan : Result Plan Reason) → plan ≡ plan_of g side flow size → Holds g flow plan
+plan-holds g side flow size plan is = subst (λ (p : Result Plan Reason). Holds g flow p) (sym is) (holds g side flow size)
 
 -- ---- an error
 
@@ -148,16 +149,16 @@ fits-error g false (Ok (AskAgain by hop)) held = tt
 fits-error g false (Ok (WaitFor e)) held = tt
 fits-error g fits (Err reason) held = tt
 
-error-holds : (g : Shown) (side : Side) (flow : ErrorFlow) (length : ℕ) → HoldsError g (error_plan g side flow length)
-error-holds g side flow length = at (error_direction g.networks side flow)
+error-holds : (g : Shown) (side : Side) (flow : ErrorFlow) (size : Size) → HoldsError g (error_plan g side flow size)
+error-holds g side flow size = at (error_direction g.networks side flow)
   where
-    at : (r : Result Direction Reason) → HoldsError g (and_then r (λ way. and_then (error_on g flow way) (if_fits (fits_at g (exit_of way) length))))
-    at (Ok w) = fits-error g (fits_at g (exit_of w) length) (error_on g flow w) (on-error g flow w)
+    at : (r : Result Direction Reason) → HoldsError g (and_then r (λ way. and_then (error_on g flow way) (if_fits (fits_at g (exit_of way) size))))
+    at (Ok w) = fits-error g (fits_at g (exit_of w) size) (error_on g flow w) (on-error g flow w)
     at (Err reason) = tt
 
 -- the plan of an error that was made for this gateway has the properties
-pub error-plan-holds : (g : Shown) (side : Side) (flow : ErrorFlow) (length : ℕ) (plan : Result Plan Reason) → plan ≡ error_plan g side flow length → HoldsError g plan
-error-plan-holds g side flow length plan is = subst (λ (p : Result Plan Reason). HoldsError g p) (sym is) (error-holds g side flow length)
+pub error-plan-holds : (g : Shown) (side : Side) (flow : ErrorFlow) (size : Size) (plan : Result Plan Reason) → plan ≡ error_plan g side flow size → HoldsError g plan
+error-plan-holds g side flow size plan is = subst (λ (p : Result Plan Reason). HoldsError g p) (sym is) (error-holds g side flow size)
 
 -- ---- an Echo to the gateway
 
@@ -199,11 +200,11 @@ reply-holds : (g : Shown) (side : Side) (echo : Echo) → HoldsReply g side (rep
 reply-holds g side echo = may-be (may_answer g.networks side echo.source.0)
   where
     planned : Result Reply Reason
-    planned = and_then (reply_via g side (hop_back g side echo.source) (next_back g side echo.source)) (if_reply_fits (fits_at g side echo.length))
+    planned = and_then (reply_via g side (hop_back g side echo.source) (next_back g side echo.source)) (if_reply_fits (fits_at g side echo.size))
 
     counted : (b : Bool) → may_reply g.moment (station_on g side).said ≡ b → HoldsReply g side (cond b planned (Err TooMany))
     counted true is =
-        fits-reply g side (fits_at g side echo.length) (reply_via g side (hop_back g side echo.source) (next_back g side echo.source))
+        fits-reply g side (fits_at g side echo.size) (reply_via g side (hop_back g side echo.source) (next_back g side echo.source))
         (via-reply g side (hop_back g side echo.source) (next_back g side echo.source) is)
     counted false is = tt
 

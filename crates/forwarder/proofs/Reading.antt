@@ -2,7 +2,7 @@
 use Rattle.std.proofs.Common.{◌≡◌, ◌≢◌, ℕ, Bool, true, false, cond, ◌==◌, ◌&&◌, nat_le, Option, Some, None, Result, Ok, Err, IfErr, List, length}
 use Rattle.std.specs.Option.{option_map}
 use Rattle.frames.specs.Frame.{frame_of}
-use Rattle.frames.specs.declared.ethernet.TheConstants.{LONGEST}
+use Rattle.frames.specs.declared.ethernet.TheConstants.{LONGEST, LONGEST_WHOLE}
 use Rattle.ipv4.specs.declared.faults.Ipv4Fault as fault
 use Rattle.ipv4.specs.declared.faults.Ipv4Fault.{Ipv4Fault}
 use Rattle.ipv4.specs.Carried.{transport_refusal as carried_refusal}
@@ -21,7 +21,7 @@ use Rattle.packet_rules.specs.declared.reasons.Reason.TheVariants.{BadAdvert, Ba
 use Rattle.packet_rules.specs.Asked.{is_asked}
 use Rattle.packet_rules.specs.Networks.{is_virtual}
 use Rattle.packet_rules.specs.Queries.{kind_entering, kind_leaving}
-use Rattle.packet_rules.specs.Steps.{about_refusal, advert_reading, arp_reading, body_reading, destination_refusal, error_reading, error_refusal, header_refusal, icmp_reading, ipv4_reading, is_vrrp, other_reading, packet_reading, query_reading, query_refusal, reading_of, reason_of, reason_of_icmp, size_refusal, transport_reading, transport_refusal, ttl_refusal, unless, up_refusal, virtual_refusal}
+use Rattle.packet_rules.specs.Steps.{about_refusal, advert_reading, arp_reading, arrival_of, body_reading, destination_refusal, error_reading, error_refusal, header_refusal, icmp_reading, ipv4_reading, is_vrrp, length_refusal, other_reading, packet_reading, query_reading, query_refusal, reading_of, reason_of, reason_of_icmp, size_refusal, transport_reading, transport_refusal, ttl_refusal, unless, up_refusal, virtual_refusal}
 
 -- a reading that isn't the Err TooLong, and a step that isn't
 abbrev Fits : Result Reading Reason → Type 0
@@ -125,7 +125,7 @@ body-fits side network active bytes = fits-either ((frame_of bytes).ethertype ==
 
 size-passes : (bytes : List ℕ) → Passes (size_refusal bytes)
 unfolding size_refusal
-size-passes bytes = passes-test (nat_le 14 (length bytes) && nat_le (length bytes) LONGEST) ShortFrame (λ e. cc)
+size-passes bytes = passes-test (nat_le 14 (length bytes) && nat_le (length bytes) LONGEST_WHOLE) ShortFrame (λ e. cc)
 
 up-passes : (up : Bool) → Passes (up_refusal up)
 unfolding up_refusal
@@ -146,3 +146,13 @@ fits-reason (Err reason) fits = λ is. fits cc
 -- a frame that was read is refused for another reason
 pub reading-is-short : (side : Side) (network : Network) (active up : Bool) (bytes : List ℕ) (r : Result Reading Reason) → r ≡ reading_of side network active up bytes → IfErr r (λ reason. reason ≢ TooLong)
 reading-is-short side network active up bytes r is = fits-reason r (λ e. reading-fits side network active up bytes cc)
+
+length-passes : (bytes : List ℕ) → Passes (length_refusal bytes)
+unfolding length_refusal
+length-passes bytes = passes-test (nat_le (length bytes) LONGEST) ShortFrame (λ e. cc)
+
+arrival-fits : (side : Side) (network : Network) (active up : Bool) (bytes : List ℕ) → Fits (arrival_of side network active up bytes)
+arrival-fits side network active up bytes = fits-unless _ _ (length-passes bytes) (reading-fits side network active up bytes)
+
+pub arrival-is-short : (side : Side) (network : Network) (active up : Bool) (bytes : List ℕ) (r : Result Reading Reason) → r ≡ arrival_of side network active up bytes → IfErr r (λ reason. reason ≢ TooLong)
+arrival-is-short side network active up bytes r is = fits-reason r (λ e. arrival-fits side network active up bytes cc)

@@ -6,7 +6,7 @@ ghost use Rattle.interfaces.specs.Tallies.{may_reply};
 ghost use Rattle.addresses.specs.declared.internet.Ip.{Ip as Address};
 ghost use Rattle.waiting.specs.declared.waits.WaitsFor.TheVariants.{Hop};
 ghost use Rattle.waiting.specs.Memory.{LacksCopy};
-ghost use Rattle.waiting.specs.Packets.{has_place};
+ghost use Rattle.waiting.specs.Packets.{beyond, has_place};
 ghost use Rattle.packet_rules.specs.Asked.{IsAskable, asked_of};
 ghost use Rattle.packet_rules.specs.Networks.{network_of};
 ghost use Rattle.packet_rules.specs.Own.{answer_frame as own_answer};
@@ -16,7 +16,7 @@ ghost use Rattle.spec_step.specs.declared.plans.Reply.TheVariants.{Ask, Send};
 ghost use Rattle.spec_step.specs.Shown.{station_on, with_station};
 ghost use Rattle.spec_step.specs.Verdict.{hop_back, if_reply_fits, next_back, outcome_reply, reply_to, reply_via};
 ghost use Rattle.forwarder.specs.Forwarder.{scene_on, shown_of};
-ghost use Rattle.forwarder.specs.Room.{HasRoomFor, Spends, frames_alone};
+ghost use Rattle.forwarder.specs.Room.{HasRoomFor, Spends, and_octets, frames_alone};
 
 use crate::Forwarder;
 use crate::outgoing::OwnAnswer;
@@ -57,7 +57,7 @@ impl Forwarder {
             Err(Reason::TooMany)
         } else {
             let reply = self.reply_via(side, echo.source);
-            if_reply_fits(self.fits_at(side, echo.length), reply)
+            if_reply_fits(self.fits_at(side, echo.size), reply)
         }
     }
 
@@ -94,6 +94,7 @@ impl Forwarder {
             (with_reply (station_on (shown_of self.old) side) self.old.moment) }
         ensures core { self.new.core ≡ self.old.core }
         ensures link { self.new.link ≡ self.old.link }
+        ensures kept { self.new.kept ≡ self.old.kept }
     {
         match side {
             Side::Inside => self.inside.count_reply(self.moment),
@@ -105,18 +106,22 @@ impl Forwarder {
     fn answer_frame(&self, page: &mut OutputBuffer, side: Side, bytes: &[u8], next: Mac)
         requires askable { IsAskable bytes.now }
         requires frames { 1 ≤ page.old.room.frames }
+        requires octets { beyond (length bytes.now) ≤ page.old.room.octets }
         ensures scene { scene_on self.now page.new ≡ framed (scene_on self.now page.old) side
             (own_answer (network_of self.now.networks side) next bytes.now) }
-        ensures room { page.old.room
-            ≡ record page.new.room { frames = page.new.room.frames + 1 } }
+        ensures room { page.old.room ≡ record page.new.room {
+          frames = page.new.room.frames + 1;
+          octets = page.old.room.octets;
+        } }
+        ensures octets { page.old.room.octets
+            ≤ page.new.room.octets + beyond (length bytes.now) }
     {
-        limits_law();
         let frame = OwnAnswer {
             network: self.networks.of(side),
             next,
             bytes,
         };
-        page.make_frame(side, &frame);
+        page.make_whole_frame(side, &frame);
     }
 
     /// Appends the frame that answers an Echo to the page, and counts it.
@@ -124,13 +129,15 @@ impl Forwarder {
         requires askable { IsAskable bytes.now }
         requires may { may_reply self.old.moment (station_on (shown_of self.old) side).said
             ≡ true }
-        requires room { HasRoomFor (frames_alone 1) self.old page.old }
+        requires room { HasRoomFor (and_octets (frames_alone 1) (length bytes.now)) self.old
+            page.old }
         ensures scene { let s = scene_on self.old page.old in
             let frame = own_answer (network_of self.old.networks side) next bytes.now in
             scene_on self.new page.new ≡ counted (framed s side frame) side
             (with_reply (station_on s.shown side) s.shown.moment) }
         ensures link { self.new.link ≡ self.old.link }
-        ensures spends { Spends (frames_alone 1) self.old page.old self.new page.new }
+        ensures spends { Spends (and_octets (frames_alone 1) (length bytes.now)) self.old
+            page.old self.new page.new }
     {
         self.answer_frame(page, side, bytes, next);
         self.count_reply(side);
@@ -142,11 +149,13 @@ impl Forwarder {
         requires askable { IsAskable bytes.now }
         requires may { may_reply self.old.moment (station_on (shown_of self.old) side).said
             ≡ true }
-        requires room { HasRoomFor (frames_alone 2) self.old page.old }
+        requires room { HasRoomFor (and_octets (frames_alone 2) (length bytes.now)) self.old
+            page.old }
         ensures scene { scene_on self.new page.new
             ≡ by_reply (scene_on self.old page.old) side bytes.now source (Send next) }
         ensures link { self.new.link ≡ self.old.link }
-        ensures spends { Spends (frames_alone 2) self.old page.old self.new page.new }
+        ensures spends { Spends (and_octets (frames_alone 2) (length bytes.now)) self.old
+            page.old self.new page.new }
     {
         self.send_answer(page, side, bytes, next);
         let hop = next_hop_back(&self.networks, side, source);
@@ -164,7 +173,8 @@ impl Forwarder {
         ensures scene { (source : Address) → scene_on self.new page.new
             ≡ by_reply (scene_on self.old page.old) side copy.bytes source (Ask hop) }
         ensures link { self.new.link ≡ self.old.link }
-        ensures spends { Spends (frames_alone 1) self.old page.old self.new page.new }
+        ensures spends { Spends (and_octets (frames_alone 1) (length copy.bytes)) self.old
+            page.old self.new page.new }
     {
         self.kept.keep(copy);
         self.send_request(page, side, hop);
@@ -184,7 +194,8 @@ impl Forwarder {
     ) -> Result<Outcome, NoMemory>
         requires askable { IsAskable bytes.now }
         requires read { echo ≡ asked_of (frame_of bytes.now).body }
-        requires room { HasRoomFor (frames_alone 2) self.old page.old }
+        requires room { HasRoomFor (and_octets (frames_alone 2) (length bytes.now)) self.old
+            page.old }
         ensures outcome { IfOk result (λ o. o
             ≡ outcome_reply (reply_to (shown_of self.old) side echo)) }
         ensures scene { OnOk result (scene_on self.new page.new
@@ -194,8 +205,10 @@ impl Forwarder {
             (outcome_reply (reply_to (shown_of self.old) side echo) ≡ Waiting) }
         ensures refused { OnErr result (LacksCopy (length bytes.now)) }
         ensures link { self.new.link ≡ self.old.link }
-        ensures spends { Spends (frames_alone 2) self.old page.old self.new page.new }
+        ensures spends { Spends (and_octets (frames_alone 2) (length bytes.now)) self.old
+            page.old self.new page.new }
     {
+        limits_law();
         match self.plan_reply(side, echo) {
             Ok(Reply::Send { next }) => {
                 self.reply(page, side, bytes, echo.source, next);
@@ -227,11 +240,13 @@ impl Forwarder {
     )
         requires askable { IsAskable packet.bytes }
         requires read { echo ≡ asked_of (frame_of packet.bytes).body }
-        requires room { HasRoomFor (frames_alone 2) self.old page.old }
+        requires room { HasRoomFor (and_octets (frames_alone 2) (length packet.bytes)) self.old
+            page.old }
         ensures scene { scene_on self.new page.new
             ≡ echo_taken (scene_on self.old page.old) packet.side packet.bytes echo }
         ensures link { self.new.link ≡ self.old.link }
-        ensures spends { Spends (frames_alone 2) self.old page.old self.new page.new }
+        ensures spends { Spends (and_octets (frames_alone 2) (length packet.bytes)) self.old
+            page.old self.new page.new }
     {
         let side = side_of(&packet);
         let bytes = bytes_of(&packet);

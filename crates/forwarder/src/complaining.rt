@@ -58,6 +58,7 @@ impl Forwarder {
             (with_complaint (station_on (shown_of self.old) side) self.old.moment) }
         ensures core { self.new.core ≡ self.old.core }
         ensures link { self.new.link ≡ self.old.link }
+        ensures kept { self.new.kept ≡ self.old.kept }
     {
         match side {
             Side::Inside => self.inside.count_complaint(self.moment),

@@ -4,7 +4,7 @@ ghost use Rattle.std.specs.Prelude.{◌≡◌, ◌≤◌, ◌+◌, true, IfOk, O
 ghost use Rattle.waiting.specs.declared.waits.WaitsFor.TheVariants.{Hop};
 ghost use Rattle.nat_types.specs.declared.gateways.Side.{Side as OnSide};
 ghost use Rattle.waiting.specs.Memory.{LacksCopy};
-ghost use Rattle.waiting.specs.Packets.{has_place};
+ghost use Rattle.waiting.specs.Packets.{beyond, has_place};
 ghost use Rattle.packet_rules.specs.Errors.{passed_frame};
 ghost use Rattle.packet_rules.specs.Flows.{error_in};
 ghost use Rattle.packet_rules.specs.Steps.{IsPassable};
@@ -13,7 +13,7 @@ ghost use Rattle.spec_step.specs.declared.events.Outcome.TheVariants.{Waiting};
 ghost use Rattle.spec_step.specs.declared.plans.Plan.TheVariants.{Ask, Send};
 ghost use Rattle.spec_step.specs.Verdict.{error_on, error_plan, exit_by, outcome_by, pair_in_of, pair_out};
 ghost use Rattle.forwarder.specs.Forwarder.{scene_on, shown_of};
-ghost use Rattle.forwarder.specs.Room.{HasRoomFor, Spends, frames_alone};
+ghost use Rattle.forwarder.specs.Room.{HasRoomFor, Spends, and_octets, frames_alone};
 
 use crate::Forwarder;
 use crate::outgoing::PassedFrame;
@@ -33,11 +33,11 @@ use waiting::{HeldPacket, WaitsFor};
 impl Forwarder {
     /// Returns the plan of an error, or why it is dropped. Nothing changes.
     fn plan_error(&self, side: Side, packet: ErrorPacket) -> Result<Plan, Reason>
-        ensures { result ≡ error_plan (shown_of self.now) side packet.flow packet.length }
+        ensures { result ≡ error_plan (shown_of self.now) side packet.flow packet.size }
     {
         match error_direction(&self.networks, side, packet.flow) {
             Ok(way) => match self.plan_error_on(packet.flow, way) {
-                Ok(plan) => if_fits(self.fits_at(way.exit(), packet.length), plan),
+                Ok(plan) => if_fits(self.fits_at(way.exit(), packet.size), plan),
                 Err(reason) => Err(reason),
             },
             Err(reason) => Err(reason),
@@ -92,13 +92,17 @@ impl Forwarder {
         requires passable { IsPassable bytes.now }
         requires read { packet.now ≡ error_in bytes.now }
         requires frames { 1 ≤ page.old.room.frames }
+        requires octets { beyond (length bytes.now) ≤ page.old.room.octets }
         ensures scene { scene_on self.now page.new
             ≡ framed (scene_on self.now page.old) (exit_by by.now)
             (passed_frame self.now.networks by.now next bytes.now) }
-        ensures room { page.old.room
-            ≡ record page.new.room { frames = page.new.room.frames + 1 } }
+        ensures room { page.old.room ≡ record page.new.room {
+          frames = page.new.room.frames + 1;
+          octets = page.old.room.octets;
+        } }
+        ensures octets { page.old.room.octets
+            ≤ page.new.room.octets + beyond (length bytes.now) }
     {
-        limits_law();
         let frame = PassedFrame {
             networks: &self.networks,
             by,
@@ -106,7 +110,7 @@ impl Forwarder {
             bytes,
             packet,
         };
-        page.make_frame(by.direction().exit(), &frame);
+        page.make_whole_frame(by.direction().exit(), &frame);
     }
 
     /// Passes an error on at once. Needs capacity for two frames on the page: the error, and an ARP
@@ -121,12 +125,14 @@ impl Forwarder {
     )
         requires passable { IsPassable bytes.now }
         requires read { packet ≡ error_in bytes.now }
-        requires room { HasRoomFor (frames_alone 2) self.old page.old }
+        requires room { HasRoomFor (and_octets (frames_alone 2) (length bytes.now)) self.old
+            page.old }
         ensures scene { (side : OnSide) → scene_on self.new page.new
             ≡ by_error_plan (scene_on self.old page.old) side bytes.now packet.flow
             (Send by next) }
         ensures link { self.new.link ≡ self.old.link }
-        ensures spends { Spends (frames_alone 2) self.old page.old self.new page.new }
+        ensures spends { Spends (and_octets (frames_alone 2) (length bytes.now)) self.old
+            page.old self.new page.new }
     {
         self.pass_frame(page, &by, next, bytes, &packet);
         let hop = by.next_hop(&self.networks, packet.flow.destination);
@@ -150,7 +156,8 @@ impl Forwarder {
         ensures scene { scene_on self.new page.new
             ≡ by_error_plan (scene_on self.old page.old) copy.side copy.bytes flow (Ask by hop) }
         ensures link { self.new.link ≡ self.old.link }
-        ensures spends { Spends (frames_alone 2) self.old page.old self.new page.new }
+        ensures spends { Spends (and_octets (frames_alone 2) (length copy.bytes)) self.old
+            page.old self.new page.new }
     {
         self.kept.keep(copy);
         self.send_request(page, by.direction().exit(), hop);
@@ -170,19 +177,22 @@ impl Forwarder {
     ) -> Result<Outcome, NoMemory>
         requires passable { IsPassable bytes.now }
         requires read { packet ≡ error_in bytes.now }
-        requires room { HasRoomFor (frames_alone 2) self.old page.old }
+        requires room { HasRoomFor (and_octets (frames_alone 2) (length bytes.now)) self.old
+            page.old }
         ensures outcome { IfOk result (λ o. o
-            ≡ outcome_by (error_plan (shown_of self.old) side packet.flow packet.length)) }
+            ≡ outcome_by (error_plan (shown_of self.old) side packet.flow packet.size)) }
         ensures scene { OnOk result (scene_on self.new page.new
             ≡ error_taken (scene_on self.old page.old) side bytes.now packet.flow) }
         ensures err { OnErr result (scene_on self.new page.new ≡ scene_on self.old page.old) }
         ensures waits { OnErr result
-            (outcome_by (error_plan (shown_of self.old) side packet.flow packet.length)
+            (outcome_by (error_plan (shown_of self.old) side packet.flow packet.size)
             ≡ Waiting) }
         ensures refused { OnErr result (LacksCopy (length bytes.now)) }
         ensures link { self.new.link ≡ self.old.link }
-        ensures spends { Spends (frames_alone 2) self.old page.old self.new page.new }
+        ensures spends { Spends (and_octets (frames_alone 2) (length bytes.now)) self.old
+            page.old self.new page.new }
     {
+        limits_law();
         match self.plan_error(side, packet) {
             Ok(Plan::Send { by, next }) => {
                 self.pass(page, bytes, packet, by, next);
@@ -212,11 +222,13 @@ impl Forwarder {
     )
         requires passable { IsPassable packet.bytes }
         requires read { reading ≡ error_in packet.bytes }
-        requires room { HasRoomFor (frames_alone 2) self.old page.old }
+        requires room { HasRoomFor (and_octets (frames_alone 2) (length packet.bytes)) self.old
+            page.old }
         ensures scene { scene_on self.new page.new
             ≡ error_taken (scene_on self.old page.old) packet.side packet.bytes reading.flow }
         ensures link { self.new.link ≡ self.old.link }
-        ensures spends { Spends (frames_alone 2) self.old page.old self.new page.new }
+        ensures spends { Spends (and_octets (frames_alone 2) (length packet.bytes)) self.old
+            page.old self.new page.new }
     {
         match self.plan_error(side_of(&packet), reading) {
             Ok(Plan::Send { by, next }) => {

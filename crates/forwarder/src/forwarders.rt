@@ -1,12 +1,12 @@
 //! The part of a gateway that handles packets, and what it shows.
-ghost use Rattle.std.specs.Prelude.{◌≡◌, ◌≢◌, IfErr, IfOk};
+ghost use Rattle.std.specs.Prelude.{◌≡◌, ◌≢◌, ◌≤◌, IfErr, IfOk, OnOk, length};
 ghost use Rattle.packet_rules.specs.Asked.{IsWhole};
 ghost use Rattle.packet_rules.specs.declared.reasons.Reason.TheVariants.{TooLong, TtlOver};
 ghost use Rattle.packet_rules.specs.Steps.{Carries};
 ghost use Rattle.spec_step.specs.GivingWay.{turn_of};
 ghost use Rattle.spec_step.specs.Shown.{has_side_out, is_apart, is_running, is_up, is_whole, serves};
 ghost use Rattle.spec_step.specs.Shown.{station_on};
-ghost use Rattle.spec_step.specs.Verdict.{reading_on};
+ghost use Rattle.spec_step.specs.Verdict.{arrival_on, reading_on};
 ghost use Rattle.forwarder.specs.Forwarder.{shown_of};
 
 use bind_core::Core;
@@ -111,11 +111,22 @@ impl Forwarder {
     /// it.
     #[inline(always)]
     pub fn read_frame(&self, side: Side, bytes: &[u8]) -> Result<Reading, Reason>
-        ensures reading { result ≡ reading_on (shown_of self.now) side bytes.now }
+        ensures reading { result ≡ arrival_on (shown_of self.now) side bytes.now }
+        ensures short { OnOk result (length bytes.now ≤ 1514) }
         ensures carries { IfOk result (Carries side bytes.now) }
         ensures over { IfErr result (λ reason. reason ≡ TtlOver → IsWhole bytes.now) }
         ensures fits { IfErr result (λ reason. reason ≢ TooLong) }
     {
         self.station(side).read_frame(side, self.is_up(), bytes)
+    }
+
+    /// Reads a frame that is at hand, of up to 65,549 bytes, as `read_frame` does one that comes in.
+    pub(crate) fn read_whole(&self, side: Side, bytes: &[u8]) -> Result<Reading, Reason>
+        ensures reading { result ≡ reading_on (shown_of self.now) side bytes.now }
+        ensures carries { IfOk result (Carries side bytes.now) }
+        ensures over { IfErr result (λ reason. reason ≡ TtlOver → IsWhole bytes.now) }
+        ensures fits { IfErr result (λ reason. reason ≢ TooLong) }
+    {
+        self.station(side).read_whole(side, self.is_up(), bytes)
     }
 }

@@ -1,5 +1,5 @@
 //! Packets that have to wait, or are dropped.
-ghost use Rattle.std.specs.Prelude.{◌≡◌, ◌≤◌, ◌+◌, true};
+ghost use Rattle.std.specs.Prelude.{◌≡◌, ◌≤◌, ◌+◌, length, true};
 ghost use Rattle.waiting.specs.declared.waits.WaitsFor.TheVariants.{Hop, Pair};
 ghost use Rattle.waiting.specs.Packets.{has_place};
 ghost use Rattle.spec_binding.specs.WellFormed.{IsWellFormedEndpoint};
@@ -12,7 +12,8 @@ ghost use Rattle.spec_step.specs.Shown.{station_on};
 ghost use Rattle.spec_step.specs.Verdict.{exit_by};
 ghost use Rattle.forwarder.specs.Forwarder.{scene_on, shown_of};
 ghost use Rattle.forwarder.specs.Plans.{IsOwn};
-ghost use Rattle.forwarder.specs.Room.{HasRoomFor, LeavesPlaces, Spends, a_packet, a_wish, an_ask, frames_alone};
+ghost use Rattle.forwarder.specs.Room.{HasRoomFor, LeavesPlaces, Spends, a_packet, a_wish, an_ask};
+ghost use Rattle.forwarder.specs.Room.{and_octets, frames_alone};
 
 use crate::Forwarder;
 use crate::outgoing::Request;
@@ -60,7 +61,8 @@ impl Forwarder {
         requires room { HasRoomFor an_ask self.old page.old }
         ensures scene { scene_on self.new page.new
             ≡ by_plan (scene_on self.old page.old) copy.side copy.bytes flow (Ask by hop) }
-        ensures spends { Spends an_ask self.old page.old self.new page.new }
+        ensures spends { Spends (and_octets an_ask (length copy.bytes)) self.old page.old
+            self.new page.new }
         ensures places { LeavesPlaces self.old self.new }
     {
         self.wish_for(page, flow, &by);
@@ -95,7 +97,8 @@ impl Forwarder {
         ensures scene { scene_on self.new page.new
             ≡ by_plan (scene_on self.old page.old) copy.side copy.bytes flow
             (WaitFor (source_of flow)) }
-        ensures spends { Spends a_wish self.old page.old self.new page.new }
+        ensures spends { Spends (and_octets a_wish (length copy.bytes)) self.old page.old
+            self.new page.new }
         ensures places { LeavesPlaces self.old self.new }
     {
         self.wish(page, source_endpoint(flow));

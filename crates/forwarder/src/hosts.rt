@@ -5,7 +5,8 @@ ghost use Rattle.interfaces.specs.Stations.{after_arp};
 ghost use Rattle.spec_step.specs.Parts.{answered_by, arp_taken};
 ghost use Rattle.spec_step.specs.Shown.{station_on, with_station};
 ghost use Rattle.forwarder.specs.Forwarder.{scene_on, shown_of};
-ghost use Rattle.forwarder.specs.Room.{HasRoomFor, LeavesPlaces, Spends, an_arp_packet, frames_alone};
+ghost use Rattle.forwarder.specs.Room.{HasRoomFor, LeavesPlaces, Spends, an_arp_packet, and_kept};
+ghost use Rattle.forwarder.specs.Room.{frames_alone};
 
 use crate::Forwarder;
 use crate::outgoing::ArpReply;
@@ -26,6 +27,7 @@ impl Forwarder {
             (after_arp station packet.now self.old.moment) }
         ensures core { self.new.core ≡ self.old.core }
         ensures link { self.new.link ≡ self.old.link }
+        ensures kept { self.new.kept ≡ self.old.kept }
     {
         match side {
             Side::Inside => self.inside.learn(packet, self.moment),
@@ -59,7 +61,7 @@ impl Forwarder {
     /// waited for the sender's hardware address is taken again.
     #[cold]
     pub fn take_arp(&mut self, page: &mut OutputBuffer, side: Side, packet: &ArpPacket)
-        requires room { HasRoomFor an_arp_packet self.old page.old }
+        requires room { HasRoomFor (and_kept an_arp_packet self.old) self.old page.old }
         ensures scene { scene_on self.new page.new
             ≡ arp_taken (scene_on self.old page.old) side packet.now }
         ensures spends { Spends an_arp_packet self.old page.old self.new page.new }

@@ -11,7 +11,7 @@ ghost use Rattle.forwarder.specs.Plans.{leaving_by};
 use crate::Forwarder;
 use addresses::{Ip, Port};
 use bindings::Entry;
-use ipv4::{Flow, Packet};
+use ipv4::{Flow, Packet, Size};
 use nat_types::{EntryState, Key, Pair, Side};
 use packet_rules::{
     Direction, Reason, Translation, direction_taken, mtu_at, source_endpoint, target_key,
@@ -79,11 +79,11 @@ impl Forwarder {
     /// Returns the plan of a packet, or why it is dropped. Nothing changes.
     #[inline(always)]
     pub(crate) fn plan(&self, side: Side, packet: Packet) -> Result<Plan, Reason>
-        ensures { result ≡ plan_of (shown_of self.now) side packet.flow packet.length }
+        ensures { result ≡ plan_of (shown_of self.now) side packet.flow packet.size }
     {
         match self.way_of(side, packet.flow) {
             Ok(way) => match self.plan_on(packet.flow, way) {
-                Ok(plan) => if_fits(self.fits_at(way.exit(), packet.length), plan),
+                Ok(plan) => if_fits(self.fits_at(way.exit(), packet.size), plan),
                 Err(reason) => Err(reason),
             },
             Err(reason) => Err(reason),
@@ -105,12 +105,14 @@ impl Forwarder {
         )
     }
 
-    /// Whether a packet of `length` bytes isn't too long for the side at which it leaves.
+    /// Whether a packet of this size may be sent at the side at which it leaves: it isn't too long
+    /// there, or it may be cut.
     #[inline(always)]
-    pub(crate) fn fits_at(&self, exit: Side, length: usize) -> bool
-        ensures { result ≡ fits_at (shown_of self.now) exit length }
+    pub(crate) fn fits_at(&self, exit: Side, size: Size) -> bool
+        ensures { result ≡ fits_at (shown_of self.now) exit size }
     {
-        length <= usize::from(mtu_at(&self.networks, exit))
+        size.length <= usize::from(mtu_at(&self.networks, exit))
+            || (self.networks.pass && !size.unbroken)
     }
 
     #[inline(always)]

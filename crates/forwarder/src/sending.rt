@@ -1,6 +1,7 @@
 //! Packets that go on at once.
-ghost use Rattle.std.specs.Prelude.{◌≡◌, ◌≤◌, ◌+◌, if◌then◌else◌};
+ghost use Rattle.std.specs.Prelude.{◌≡◌, ◌≤◌, ◌+◌, if◌then◌else◌, length};
 ghost use Rattle.activity.specs.declared.packets.Packet.{Packet as Carried};
+ghost use Rattle.waiting.specs.Packets.{beyond};
 ghost use Rattle.spec_binding.specs.WellFormed.{IsWellFormedEndpoint};
 ghost use Rattle.arp.specs.Neighbours.{asks_at};
 ghost use Rattle.nat_types.specs.declared.gateways.Side.{Side as OnSide};
@@ -16,7 +17,7 @@ ghost use Rattle.spec_step.specs.Shown.{station_on};
 ghost use Rattle.forwarder.specs.Forwarder.{scene_on, shown_of};
 ghost use Rattle.forwarder.specs.Plans.{IsOwn};
 ghost use Rattle.forwarder.specs.Room.{HasRoomFor, LeavesPlaces, Spends, a_packet, a_wish};
-ghost use Rattle.forwarder.specs.Room.{frames_alone, notes_alone};
+ghost use Rattle.forwarder.specs.Room.{and_octets, frames_alone, notes_alone};
 
 use crate::Forwarder;
 use crate::outgoing::SentFrame;
@@ -25,7 +26,7 @@ use addresses::{Ip, Mac, Port, TcpFlags};
 use ipv4::{Flow, Packet};
 use nat_types::{Endpoint, Key, Pair, Side};
 use output::OutputBuffer;
-use packet_rules::{Translation, limits_law};
+use packet_rules::Translation;
 
 fn remote_at(address: Ip, port: Port) -> Remote
     ensures { result ≡ remote address port }
@@ -159,13 +160,17 @@ impl Forwarder {
         requires forwardable { IsForwardable bytes.now }
         requires read { packet.now ≡ packet_in bytes.now }
         requires frames { 1 ≤ page.old.room.frames }
+        requires octets { beyond (length bytes.now) ≤ page.old.room.octets }
         ensures scene { scene_on self.now page.new
             ≡ framed (scene_on self.now page.old) (exit_by by.now)
             (sent_frame self.now.networks by.now next bytes.now) }
-        ensures room { page.old.room
-            ≡ record page.new.room { frames = page.new.room.frames + 1 } }
+        ensures room { page.old.room ≡ record page.new.room {
+          frames = page.new.room.frames + 1;
+          octets = page.old.room.octets;
+        } }
+        ensures octets { page.old.room.octets
+            ≤ page.new.room.octets + beyond (length bytes.now) }
     {
-        limits_law();
         let frame = SentFrame {
             networks: &self.networks,
             by,
@@ -173,7 +178,7 @@ impl Forwarder {
             bytes,
             packet,
         };
-        page.make_frame(by.direction().exit(), &frame);
+        page.make_whole_frame(by.direction().exit(), &frame);
     }
 
     /// Whether a neighbour on a side is to be asked for; if so, it counts as asked for now.
@@ -186,6 +191,7 @@ impl Forwarder {
             else shown_of self.old) }
         ensures core { self.new.core ≡ self.old.core }
         ensures link { self.new.link ≡ self.old.link }
+        ensures kept { self.new.kept ≡ self.old.kept }
     {
         match exit {
             Side::Inside => self.inside.ask(hop, self.moment),
@@ -222,10 +228,11 @@ impl Forwarder {
         requires read { packet ≡ packet_in bytes.now }
         requires formed { IsWellFormedEndpoint (source_of packet.flow) }
         requires own { IsOwn packet.flow by }
-        requires room { HasRoomFor a_packet self.old page.old }
+        requires room { HasRoomFor (and_octets a_packet (length bytes.now)) self.old page.old }
         ensures scene { (side : OnSide) → scene_on self.new page.new
             ≡ by_plan (scene_on self.old page.old) side bytes.now packet.flow (Send by next) }
-        ensures spends { Spends a_packet self.old page.old self.new page.new }
+        ensures spends { Spends (and_octets a_packet (length bytes.now)) self.old page.old
+            self.new page.new }
         ensures places { LeavesPlaces self.old self.new }
     {
         self.wish_for(page, packet.flow, &by);

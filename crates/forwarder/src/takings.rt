@@ -10,12 +10,13 @@ ghost use Rattle.spec_step.specs.Parts.{flow_taken, released, taken_again};
 ghost use Rattle.spec_step.specs.Verdict.{outcome_by, plan_of};
 ghost use Rattle.forwarder.specs.Forwarder.{scene_on, shown_of};
 ghost use Rattle.forwarder.specs.Room.{HasRoomFor, LeavesPlaces, Spends, a_packet, all_for_pairs};
+ghost use Rattle.forwarder.specs.Room.{and_kept, and_octets};
 
 use crate::Forwarder;
 use ipv4::Packet;
 use nat_types::{NoMemory, Side};
 use output::OutputBuffer;
-use packet_rules::{Reading, Reason};
+use packet_rules::{Reading, Reason, limits_law};
 use spec_step::{Outcome, Plan};
 use std::alloc::Global;
 use waiting::{Ended, HeldPacket, WaitsFor};
@@ -61,19 +62,21 @@ impl Forwarder {
     ) -> Result<Outcome, NoMemory>
         requires forwardable { IsForwardable bytes.now }
         requires read { packet ≡ packet_in bytes.now }
-        requires room { HasRoomFor a_packet self.old page.old }
+        requires room { HasRoomFor (and_octets a_packet (length bytes.now)) self.old page.old }
         ensures outcome { IfOk result (λ o. o
-            ≡ outcome_by (plan_of (shown_of self.old) side packet.flow packet.length)) }
+            ≡ outcome_by (plan_of (shown_of self.old) side packet.flow packet.size)) }
         ensures scene { OnOk result (scene_on self.new page.new
             ≡ flow_taken (scene_on self.old page.old) side bytes.now packet.flow) }
         ensures err { OnErr result (scene_on self.new page.new ≡ scene_on self.old page.old) }
         ensures waits { OnErr result
-            (outcome_by (plan_of (shown_of self.old) side packet.flow packet.length)
+            (outcome_by (plan_of (shown_of self.old) side packet.flow packet.size)
             ≡ Waiting) }
         ensures refused { OnErr result (LacksCopy (length bytes.now)) }
-        ensures spends { Spends a_packet self.old page.old self.new page.new }
+        ensures spends { Spends (and_octets a_packet (length bytes.now)) self.old page.old
+            self.new page.new }
         ensures places { LeavesPlaces self.old self.new }
     {
+        limits_law();
         recall_source(bytes, packet);
         match self.plan(side, packet) {
             Ok(Plan::Send { by, next }) => {
@@ -107,10 +110,11 @@ impl Forwarder {
     fn take_flow_again(&mut self, page: &mut OutputBuffer, reading: Packet, packet: HeldPacket)
         requires forwardable { IsForwardable packet.bytes }
         requires read { reading ≡ packet_in packet.bytes }
-        requires room { HasRoomFor a_packet self.old page.old }
+        requires room { HasRoomFor (and_octets a_packet (length packet.bytes)) self.old page.old }
         ensures scene { scene_on self.new page.new
             ≡ flow_taken (scene_on self.old page.old) packet.side packet.bytes reading.flow }
-        ensures spends { Spends a_packet self.old page.old self.new page.new }
+        ensures spends { Spends (and_octets a_packet (length packet.bytes)) self.old page.old
+            self.new page.new }
         ensures places { LeavesPlaces self.old self.new }
     {
         recall_source(bytes_of(&packet), reading);
@@ -138,13 +142,14 @@ impl Forwarder {
 
     /// Takes a kept packet as if it came in now: its frame is read again from the first step on.
     fn take_again(&mut self, page: &mut OutputBuffer, packet: HeldPacket)
-        requires room { HasRoomFor a_packet self.old page.old }
+        requires room { HasRoomFor (and_octets a_packet (length packet.bytes)) self.old page.old }
         ensures scene { scene_on self.new page.new
             ≡ taken_again (scene_on self.old page.old) packet }
-        ensures spends { Spends a_packet self.old page.old self.new page.new }
+        ensures spends { Spends (and_octets a_packet (length packet.bytes)) self.old page.old
+            self.new page.new }
         ensures places { LeavesPlaces self.old self.new }
     {
-        match self.read_frame(side_of(&packet), bytes_of(&packet)) {
+        match self.read_whole(side_of(&packet), bytes_of(&packet)) {
             Ok(Reading::Packet(reading)) => self.take_flow_again(page, reading, packet),
             Ok(Reading::Error(reading)) => self.take_error_again(page, reading, packet),
             Ok(Reading::Arp(_)) => {}
@@ -158,7 +163,7 @@ impl Forwarder {
 
     /// Ends the wait of the packet that waited for this, if one did, and takes it again.
     pub fn release_one(&mut self, page: &mut OutputBuffer, wait: WaitsFor)
-        requires room { HasRoomFor a_packet self.old page.old }
+        requires room { HasRoomFor (and_kept a_packet self.old) self.old page.old }
         ensures scene { scene_on self.new page.new
             ≡ released (scene_on self.old page.old) (One wait) }
         ensures spends { Spends a_packet self.old page.old self.new page.new }
@@ -175,7 +180,7 @@ impl Forwarder {
     pub fn release_all(&mut self, page: &mut OutputBuffer, list: Vec<HeldPacket>)
         requires empty { list.items ≡ [] }
         requires list { length self.old.kept ≤ vec_capacity list }
-        requires room { HasRoomFor all_for_pairs self.old page.old }
+        requires room { HasRoomFor (and_kept all_for_pairs self.old) self.old page.old }
         ensures scene { scene_on self.new page.new
             ≡ released (scene_on self.old page.old) AllPairs }
         ensures spends { Spends all_for_pairs self.old page.old self.new page.new }

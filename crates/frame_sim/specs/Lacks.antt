@@ -46,7 +46,7 @@ WasUntraced note = Unit {0} × WasRefused 1
 
 -- there was no place for this note in the output
 unfoldable pub WasUntold : Note → Type 0
-WasUntold note = Unit {0} × LacksPage (record { frames = 0; datagrams = 0; notes = 1 })
+WasUntold note = Unit {0} × LacksPage (record { frames = 0; octets = 0; datagrams = 0; notes = 1 })
 
 -- there was no list for the steps of these events
 unfoldable pub WasUnrun : List WorldEvent → Type 0

@@ -79,6 +79,7 @@ fn tell(out: &mut Out, note: &Note) -> Result<(), NoMemory>
 {
     out.page.ready(Room {
         frames: 0,
+        octets: 0,
         datagrams: 0,
         notes: 1,
     })?;

@@ -1,2 +1,3 @@
 mod Puts
 mod Frames
+pub mod Offered

@@ -16,7 +16,7 @@
 ghost use Rattle.std.specs.Prelude.{◌≡◌, ◌++◌, ◌↔◌, length, take, drop, IsOk, IfOk, IfErr};
 ghost use Rattle.byteorder.specs.Endian.{big_bytes};
 ghost use Rattle.std.specs.Borrow.{sem};
-ghost use Rattle.frames.specs.declared.ethernet.TheConstants.{LONGEST};
+ghost use Rattle.frames.specs.declared.ethernet.TheConstants.{LONGEST, LONGEST_WHOLE};
 ghost use Rattle.frames.specs.Bytes.{Puts};
 ghost use Rattle.frames.specs.Frame.{IsFrame, frame_of, header_bytes};
 ghost use Rattle.frames.specs.Lending.{LendsParts};
@@ -26,8 +26,11 @@ use addresses::Mac;
 use byteorder::{BigEndian, ByteOrder};
 use thiserror::Error;
 
-/// The bytes of the longest frame: its header and a body of 1,500 bytes.
+/// The bytes of the longest frame on a wire: its header and a body of 1,500 bytes.
 pub const LONGEST: usize = 1514;
+
+/// The bytes of the longest frame that can be handled: its header and the longest IPv4 packet, of 65,535 bytes.
+pub const LONGEST_WHOLE: usize = 65_549;
 
 /// The places of the header's fields.
 mod field {
@@ -52,10 +55,12 @@ impl EtherType {
     pub const ARP: EtherType = EtherType(0x0806);
 }
 
-/// Returns the EtherTypes of IPv4 and of ARP. The clauses say the numbers that IEEE 802 gives: the
-/// bytes of the longest frame, and the two EtherTypes.
+/// Returns the EtherTypes of IPv4 and of ARP. The clauses say the numbers that IEEE 802 and RFC 791
+/// give: the bytes of the longest frame on a wire and of the longest that can be handled, and the two
+/// EtherTypes.
 pub fn numbers_law() -> (EtherType, EtherType)
     ensures longest { LONGEST ≡ 1514 }
+    ensures longest_whole { LONGEST_WHOLE ≡ 65549 }
     ensures ethertypes { result.0.0 ≡ 0x0800 × result.1.0 ≡ 0x0806 }
 {
     (EtherType::IPV4, EtherType::ARP)

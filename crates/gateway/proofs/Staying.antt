@@ -37,7 +37,7 @@ use Rattle.spec_step.specs.declared.plans.Reply.{Reply}
 use Rattle.spec_step.specs.declared.plans.Reply.TheVariants as reply
 use Rattle.spec_step.specs.declared.plans.Plan.{Plan}
 use Rattle.spec_step.specs.declared.plans.Plan.TheVariants.{Send, Ask, AskAgain, Wait as WaitFor}
-use Rattle.spec_step.specs.Parts.{all_taken, asked_again, by_plan, by_refusal, by_row, by_verdict, carried_all, carried_by, flow_taken, released, retaken_by, taken_again, flags_in, framed, neighbour_asked, renewed_behind, request_by, wanted_by, wanted_for, by_error_plan, by_error_verdict, error_taken, by_reply, by_reply_verdict, complained, complained_to, counted, echo_taken, length_in, refused, sender_in}
+use Rattle.spec_step.specs.Parts.{all_taken, asked_again, by_plan, by_refusal, by_row, by_verdict, carried_all, carried_by, flow_taken, released, retaken_by, taken_again, flags_in, framed, neighbour_asked, renewed_behind, request_by, wanted_by, wanted_for, by_error_plan, by_error_verdict, error_taken, by_reply, by_reply_verdict, complained, complained_to, counted, echo_taken, size_in, refused, sender_in}
 use Rattle.spec_step.specs.Shown.{GatewayAndOutput, Shown, is_apart, scene, station_on, with_station}
 use Rattle.spec_step.specs.Verdict.{exit_by, hop_by, plan_of, reading_on, error_hop, error_plan, hop_back, next_back, reply_to}
 use Rattle.icmp.specs.declared.packets.ErrorFlow.{ErrorFlow}
@@ -207,7 +207,7 @@ verdict-stays s side bytes flow (Ok plan) = plan-stays s side bytes flow plan
 verdict-stays s side bytes flow (Err reason) = refusal-stays s side bytes flow reason
 
 pub flow-stays : (s : GatewayAndOutput) (side : Side) (bytes : List ℕ) (flow : Flow) → Stays s.shown (flow_taken s side bytes flow).shown
-flow-stays s side bytes flow = verdict-stays s side bytes flow (plan_of s.shown side flow (length_in bytes))
+flow-stays s side bytes flow = verdict-stays s side bytes flow (plan_of s.shown side flow (size_in bytes))
 
 -- an ICMP error changes none of these
 error-plan-stays : (s : GatewayAndOutput) (side : Side) (bytes : List ℕ) (flow : ErrorFlow) (plan : Plan) → Stays s.shown (by_error_plan s side bytes flow plan).shown
@@ -217,7 +217,7 @@ error-plan-stays s side bytes flow (AskAgain by hop) = again-asked-stays s (exit
 error-plan-stays s side bytes flow (WaitFor endpoint) = stays-here s.shown
 
 pub error-stays : (s : GatewayAndOutput) (side : Side) (bytes : List ℕ) (flow : ErrorFlow) → Stays s.shown (error_taken s side bytes flow).shown
-error-stays s side bytes flow = at (error_plan s.shown side flow (length_in bytes))
+error-stays s side bytes flow = at (error_plan s.shown side flow (size_in bytes))
   where
     at : (r : Result Plan Reason) → Stays s.shown (by_error_verdict s side bytes flow r).shown
     at (Ok plan) = error-plan-stays s side bytes flow plan

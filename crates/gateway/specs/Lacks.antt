@@ -21,11 +21,11 @@ use Rattle.spec_step.specs.declared.events.Event.TheVariants.{Frame, Datagram, T
 use Rattle.spec_step.specs.declared.events.Outcome.TheVariants.{Waiting}
 use Rattle.spec_step.specs.Founding.{bounds_of, link_places}
 use Rattle.spec_step.specs.Shown.{Shown}
-use Rattle.spec_step.specs.Verdict.{outcome_read, reading_on}
+use Rattle.spec_step.specs.Verdict.{arrival_on, outcome_read}
 use Rattle.forwarder.specs.declared.forwarders.Forwarder.{Forwarder}
 use Rattle.forwarder.specs.Forwarder.{shown_of}
-use Rattle.forwarder.specs.Room.{Needs, an_arp_packet, frames_alone}
-use Rattle.gateway.specs.Rooms.{apart_needs, both_routers, records_need, restart_needs, room_for, tick_needs, waiting_needs}
+use Rattle.forwarder.specs.Room.{Needs, and_kept, frames_alone}
+use Rattle.gateway.specs.Rooms.{apart_needs, both_routers, reading_needs, records_need, restart_needs, room_for, tick_needs, waiting_needs}
 use Rattle.gateway.specs.Ticks.{is_apart_at}
 
 -- ---- a gateway that begins
@@ -78,26 +78,26 @@ dropped_needs reason = frames_alone 0
 -- what a frame lacks, by how it is read: capacity, or the copy of a packet that has to wait
 abbrev pub LacksForFrame : Side → List ℕ → Result Reading Reason → Forwarder → Paged → Type 0
 LacksForFrame side bytes (Ok reading) f page =
-    LacksRoom an_arp_packet f page ⊎ ((outcome_read (shown_of f) side (Ok reading) ≡ Waiting) × WasUncopied (shown_of f) side bytes)
+    LacksRoom (reading_needs reading f) f page ⊎ ((outcome_read (shown_of f) side (Ok reading) ≡ Waiting) × WasUncopied (shown_of f) side bytes)
 LacksForFrame side bytes (Err reason) f page = LacksRoom (dropped_needs reason) f page
 
 -- what a datagram lacks, by whether its header names a greater boot of the other gateway than is known
 abbrev pub LacksForDatagram : Bool → Forwarder → Paged → Type 0
-LacksForDatagram true f page = WasUnlisted f ⊎ LacksRoom (restart_needs f) f page
-LacksForDatagram false f page = LacksRoom (records_need RECORDS_IN_A_DATAGRAM) f page
+LacksForDatagram true f page = WasUnlisted f ⊎ LacksRoom (and_kept (restart_needs f) f) f page
+LacksForDatagram false f page = LacksRoom (and_kept (records_need RECORDS_IN_A_DATAGRAM) f) f page
 
 -- what a tick lacks, by whether the gateway is apart at it
 abbrev pub LacksForTick : Bool → Forwarder → Paged → Type 0
-LacksForTick true f page = WasUnlisted f ⊎ LacksRoom (apart_needs f) f page
+LacksForTick true f page = WasUnlisted f ⊎ LacksRoom (and_kept (apart_needs f) f) f page
 LacksForTick false f page = LacksRoom (tick_needs f) f page
 
 -- what an event lacks, by its kind; an event of a side lacks nothing
 abbrev pub Lacks : Event → Forwarder → Paged → Type 0
-Lacks (Frame side bytes) f page = LacksForFrame side bytes.now (reading_on (shown_of f) side bytes.now) f page
+Lacks (Frame side bytes) f page = LacksForFrame side bytes.now (arrival_on (shown_of f) side bytes.now) f page
 Lacks (Datagram bytes) f page = LacksForDatagram (may_restart f.link (header_at bytes.now)) f page
 Lacks (Tick now) f page = LacksForTick (is_apart_at (shown_of f) now) f page
 Lacks Stop f page = LacksRoom both_routers f page
-Lacks (PeerOff boot) f page = WasUnlisted f ⊎ LacksRoom (waiting_needs f) f page
+Lacks (PeerOff boot) f page = WasUnlisted f ⊎ LacksRoom (and_kept (waiting_needs f) f) f page
 Lacks (Cable side up) f page = ⊥
 
 -- what an event lacks at a gateway with this view and this page

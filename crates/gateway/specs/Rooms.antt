@@ -1,13 +1,16 @@
 -- The capacity that each event needs.
-use Rattle.std.specs.Prelude.{ℕ, ◌+◌, ◌*◌, Bool, true, false, length, if◌then◌else◌}
+use Rattle.std.specs.Prelude.{ℕ, ◌+◌, ◌*◌, Bool, true, false, List, length, if◌then◌else◌}
 use Rattle.nat_types.specs.declared.records.Record.{Record}
 use Rattle.link.specs.declared.datagrams.TheConstants.{RECORDS_IN_A_DATAGRAM}
 use Rattle.link.specs.Link.{needs_answer}
 use Rattle.spec_step.specs.declared.events.Event.{Event}
 use Rattle.spec_step.specs.declared.events.Event.TheVariants.{Frame, Datagram, Tick, Stop, PeerOff, Side}
 use Rattle.output.specs.declared.pages.Room.{Room}
+use Rattle.waiting.specs.Packets.{HeldPacket, octets_in}
 use Rattle.forwarder.specs.declared.forwarders.Forwarder.{Forwarder}
-use Rattle.forwarder.specs.Room.{Needs, all_for_pairs, frames_alone, notes_alone}
+use Rattle.forwarder.specs.Room.{Needs, all_for_pairs, an_arp_packet, frames_alone, notes_alone}
+use Rattle.packet_rules.specs.declared.readings.Reading.{Reading}
+use Rattle.packet_rules.specs.declared.readings.Reading.TheVariants.{Arp}
 
 -- how many places of the link the answer to a record takes
 abbrev pub answers_to : Record → ℕ
@@ -31,6 +34,15 @@ most_datagrams Stop = 1
 most_datagrams (PeerOff boot) = 1
 most_datagrams (Side side up) = 0
 
+-- the octets of a frame that was read: an ARP packet may end the wait of a packet, no other frame has any
+abbrev pub reading_octets : Reading → List HeldPacket → ℕ
+reading_octets (Arp p) kept = octets_in kept
+reading_octets reading kept = 0
+
+-- the need of a frame that was read: that of an ARP packet, which is the greatest, with its own octets
+abbrev pub reading_needs : Reading → Forwarder → Needs
+reading_needs reading f = record an_arp_packet { octets = reading_octets reading f.kept }
+
 -- the need of one router for a cue: an advertisement, and where it becomes Active a gratuitous ARP frame
 abbrev pub a_router : Needs
 a_router = frames_alone 2
@@ -50,13 +62,14 @@ tick_needs f = record (idle_needs f) { frames = 2 * both_routers.frames }
 abbrev pub apart_needs : Forwarder → Needs
 apart_needs f = record {
   frames = (tick_needs f).frames + all_for_pairs.frames;
+  octets = 0;
   notes = (tick_needs f).notes + all_for_pairs.notes;
   pairs = all_for_pairs.pairs;
 }
 
 -- the need of so many records: for each a note, a pair, and the packet whose wait it may end
 abbrev pub records_need : ℕ → Needs
-records_need count = record { frames = 2 * count; notes = 4 * count; pairs = 2 * count }
+records_need count = record { frames = 2 * count; octets = 0; notes = 4 * count; pairs = 2 * count }
 
 -- the need where the other gateway began anew, or is off: a note of each entry, and the packets that waited for pairs
 abbrev pub waiting_needs : Forwarder → Needs
@@ -66,6 +79,7 @@ waiting_needs f = record all_for_pairs { notes = length f.core.table.entries + a
 abbrev pub restart_needs : Forwarder → Needs
 restart_needs f = record {
   frames = (waiting_needs f).frames + (records_need RECORDS_IN_A_DATAGRAM).frames;
+  octets = 0;
   notes = (waiting_needs f).notes + (records_need RECORDS_IN_A_DATAGRAM).notes;
   pairs = (waiting_needs f).pairs + (records_need RECORDS_IN_A_DATAGRAM).pairs;
 }
@@ -77,10 +91,14 @@ most_pairs = all_for_pairs.pairs + (records_need RECORDS_IN_A_DATAGRAM).pairs
 abbrev pub most_on_a_page : ℕ
 most_on_a_page = 4096
 
+-- the most octets of packets that wait
+abbrev pub most_octets : ℕ
+most_octets = 8196480
+
 -- the most entries that a table has
 abbrev pub most_entries : ℕ
 most_entries = 1000000
 
 -- the capacity of a page for this need, and for the datagram at the end
 abbrev pub room_for : Needs → Room
-room_for needs = record { frames = needs.frames; datagrams = 1; notes = needs.notes }
+room_for needs = record { frames = needs.frames; octets = needs.octets; datagrams = 1; notes = needs.notes }

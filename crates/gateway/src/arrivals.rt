@@ -1,13 +1,14 @@
 //! Frames that came in.
-ghost use Rattle.std.specs.Prelude.{◌≡◌, IfOk, Ok, OnErr, OnOk};
+ghost use Rattle.std.specs.Prelude.{◌≡◌, ◌≤◌, IfOk, Ok, OnErr, OnOk, length};
 ghost use Rattle.vrrp_states.specs.Table.{IsMoment};
 ghost use Rattle.packet_rules.specs.Steps.{Carries};
 ghost use Rattle.spec_step.specs.declared.events.Outcome.TheVariants.{Waiting};
 ghost use Rattle.spec_step.specs.Steps.{FrameDoes};
 ghost use Rattle.spec_step.specs.Verdict.{outcome_read};
 ghost use Rattle.forwarder.specs.Forwarder.{scene_on, shown_of};
-ghost use Rattle.forwarder.specs.Room.{HasRoomFor, an_arp_packet};
+ghost use Rattle.forwarder.specs.Room.{HasRoomFor};
 ghost use Rattle.gateway.specs.Lacks.{WasUncopied};
+ghost use Rattle.gateway.specs.Rooms.{reading_needs};
 
 use crate::NoMemory;
 use crate::routers::{Cue, cue_router};
@@ -33,7 +34,8 @@ pub(crate) fn take_reading(
 ) -> Result<Outcome, NoMemory>
     requires carries { Carries side bytes.now reading }
     requires moment { IsMoment forwarder.old.moment }
-    requires room { HasRoomFor an_arp_packet forwarder.old page.old }
+    requires short { length bytes.now ≤ 1514 }
+    requires room { HasRoomFor (reading_needs reading forwarder.old) forwarder.old page.old }
     ensures outcome { IfOk result (λ o. o
         ≡ outcome_read (shown_of forwarder.old) side (Ok reading)) }
     ensures does { OnOk result (FrameDoes (scene_on forwarder.old page.old) side bytes.now

@@ -12,7 +12,7 @@ ghost use Rattle.spec_step.specs.Founding.{link_places};
 ghost use Rattle.spec_step.specs.Parts.{datagram_taken, reset as reset_of};
 ghost use Rattle.spec_step.specs.Steps.{outcome_heard};
 ghost use Rattle.forwarder.specs.Forwarder.{scene_on, shown_of};
-ghost use Rattle.forwarder.specs.Room.{HasRoomFor, Spends, places_for_answers};
+ghost use Rattle.forwarder.specs.Room.{HasRoomFor, Spends, and_kept, places_for_answers};
 ghost use Rattle.gateway.specs.Rooms.{records_need, restart_needs, waiting_needs};
 
 use crate::records::take_records;
@@ -33,7 +33,8 @@ fn reset(forwarder: &mut Forwarder, page: &mut OutputBuffer, list: Vec<HeldPacke
     requires acknowledged { forwarder.old.link.acknowledged ≡ 0 }
     requires places { forwarder.old.link.capacity
         ≡ link_places forwarder.old.core.table.zero forwarder.old.core.table.one }
-    requires room { HasRoomFor (waiting_needs forwarder.old) forwarder.old page.old }
+    requires room { HasRoomFor (and_kept (waiting_needs forwarder.old) forwarder.old)
+        forwarder.old page.old }
     ensures scene { scene_on forwarder.new page.new ≡ reset_of (scene_on forwarder.old page.old) }
     ensures spends { Spends (waiting_needs forwarder.old) forwarder.old page.old
         forwarder.new page.new }
@@ -64,7 +65,8 @@ fn reset_where(
     requires acknowledged { restarted ≡ true → forwarder.old.link.acknowledged ≡ 0 }
     requires places { forwarder.old.link.capacity
         ≡ link_places forwarder.old.core.table.zero forwarder.old.core.table.one }
-    requires room { HasRoomFor (waiting_needs forwarder.old) forwarder.old page.old }
+    requires room { HasRoomFor (and_kept (waiting_needs forwarder.old) forwarder.old)
+        forwarder.old page.old }
     ensures scene { let s = scene_on forwarder.old page.old
         in scene_on forwarder.new page.new ≡ (if restarted then reset_of s else s) }
     ensures spends { Spends (waiting_needs forwarder.old) forwarder.old page.old
@@ -92,7 +94,8 @@ pub(crate) fn take_first(
     requires moment { IsMoment forwarder.old.moment }
     requires places { forwarder.old.link.capacity
         ≡ link_places forwarder.old.core.table.zero forwarder.old.core.table.one }
-    requires room { HasRoomFor (restart_needs forwarder.old) forwarder.old page.old }
+    requires room { HasRoomFor (and_kept (restart_needs forwarder.old) forwarder.old)
+        forwarder.old page.old }
     ensures scene { scene_on forwarder.new page.new
         ≡ datagram_taken (scene_on forwarder.old page.old) bytes.now }
     ensures outcome { result ≡ outcome_heard (taking forwarder.old.link (reading bytes.now)) }
@@ -119,7 +122,8 @@ pub(crate) fn take_further(
     requires further { (d : Datagram) → reading bytes.now ≡ Ok d
         → is_restart forwarder.old.link d ≡ false }
     requires moment { IsMoment forwarder.old.moment }
-    requires room { HasRoomFor (records_need RECORDS_IN_A_DATAGRAM) forwarder.old page.old }
+    requires room { HasRoomFor (and_kept (records_need RECORDS_IN_A_DATAGRAM) forwarder.old)
+        forwarder.old page.old }
     ensures scene { scene_on forwarder.new page.new
         ≡ datagram_taken (scene_on forwarder.old page.old) bytes.now }
     ensures outcome { result ≡ outcome_heard (taking forwarder.old.link (reading bytes.now)) }

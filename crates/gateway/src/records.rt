@@ -10,7 +10,8 @@ ghost use Rattle.vrrp_states.specs.Table.{IsMoment};
 ghost use Rattle.spec_step.specs.Parts.{record_done, record_shown, record_told, records_done};
 ghost use Rattle.spec_step.specs.Shown.{scene};
 ghost use Rattle.forwarder.specs.Forwarder.{scene_on, shown_of};
-ghost use Rattle.forwarder.specs.Room.{HasRoomFor, Spends, a_wish, places_for_answers};
+ghost use Rattle.forwarder.specs.Room.{HasRoomFor, Spends, a_wish, and_kept};
+ghost use Rattle.forwarder.specs.Room.{places_for_answers};
 ghost use Rattle.gateway.specs.Rooms.{answers_to, records_need};
 
 use crate::routers::start_routers;
@@ -80,7 +81,7 @@ pub(crate) fn take_record(forwarder: &mut Forwarder, page: &mut OutputBuffer, en
     requires formed { IsWellFormedRecord entry }
     requires moment { IsMoment forwarder.old.moment }
     requires places { needs_answer entry ≡ true → 0 < free_places forwarder.old.link }
-    requires room { HasRoomFor (records_need 1) forwarder.old page.old }
+    requires room { HasRoomFor (and_kept (records_need 1) forwarder.old) forwarder.old page.old }
     ensures scene { scene_on forwarder.new page.new
         ≡ record_done (scene_on forwarder.old page.old) entry }
     ensures spends { Spends (records_need 1) forwarder.old page.old forwarder.new page.new }
@@ -102,7 +103,8 @@ pub(crate) fn take_records(forwarder: &mut Forwarder, page: &mut OutputBuffer, r
     requires few { length records.now ≤ RECORDS_IN_A_DATAGRAM }
     requires moment { IsMoment forwarder.old.moment }
     requires places { answers_count records.now ≤ free_places forwarder.old.link }
-    requires room { HasRoomFor (records_need (length records.now)) forwarder.old page.old }
+    requires room { HasRoomFor (and_kept (records_need (length records.now)) forwarder.old)
+        forwarder.old page.old }
     ensures scene { scene_on forwarder.new page.new
         ≡ records_done (scene_on forwarder.old page.old) records.now }
     ensures datagrams { page.new.room.datagrams ≡ page.old.room.datagrams }

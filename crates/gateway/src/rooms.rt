@@ -1,11 +1,13 @@
 //! The memory that a step takes before it begins, by event.
 ghost use Rattle.std.specs.Prelude.{◌≡◌, ◌≤◌, OnErr, OnOk, IfOk, length, vec_capacity, []};
+ghost use Rattle.link.specs.declared.datagrams.TheConstants.{RECORDS_IN_A_DATAGRAM};
 ghost use Rattle.output.specs.Output.{IsWithin};
 ghost use Rattle.forwarder.specs.Forwarder.{scene_on};
+ghost use Rattle.forwarder.specs.Room.{and_kept};
 ghost use Rattle.gateway.specs.Lacks.{WasUnlisted, WasUnready};
-ghost use Rattle.gateway.specs.Rooms.{apart_needs, restart_needs, room_for, tick_needs};
-ghost use Rattle.gateway.specs.Rooms.{waiting_needs};
-ghost use Rattle.gateway.specs.Rooms.{most_entries, most_on_a_page, most_pairs};
+ghost use Rattle.gateway.specs.Rooms.{apart_needs, reading_needs, records_need, restart_needs};
+ghost use Rattle.gateway.specs.Rooms.{room_for, tick_needs, waiting_needs};
+ghost use Rattle.gateway.specs.Rooms.{most_entries, most_octets, most_on_a_page, most_pairs};
 
 use crate::NoMemory;
 use addresses::{Ip, Port, Protocol};
@@ -14,6 +16,7 @@ use link::RECORDS_IN_A_DATAGRAM;
 use memory::with_room;
 use nat_types::Endpoint;
 use output::{OutputBuffer, Room};
+use packet_rules::Reading;
 use std::alloc::Global;
 use waiting::HeldPacket;
 
@@ -61,13 +64,15 @@ const ENDPOINTS: [Endpoint; MOST_PAIRS] = [ANY_ENDPOINT; MOST_PAIRS];
 /// The capacity for the datagram at the end alone.
 pub(crate) const END_ROOM: Room = Room {
     frames: 0,
+    octets: 0,
     datagrams: 1,
     notes: 0,
 };
 
-/// The capacity for a frame that is taken: an answer, and a packet.
+/// The capacity for a frame that is taken: an answer, and a packet of up to 1,514 bytes.
 pub(crate) const FRAME_ROOM: Room = Room {
     frames: 1 + PACKET_FRAMES,
+    octets: 0,
     datagrams: 1,
     notes: PACKET_NOTES,
 };
@@ -75,23 +80,51 @@ pub(crate) const FRAME_ROOM: Room = Room {
 /// The capacity for a packet whose time to live is over: an error, and an ARP request after it.
 pub(crate) const OVER_ROOM: Room = Room {
     frames: PACKET_FRAMES,
+    octets: 0,
     datagrams: 1,
     notes: 0,
-};
-
-/// The capacity for a datagram that can't begin a new session: that of its records.
-pub(crate) const RECORDS_ROOM: Room = Room {
-    frames: RECORD_FRAMES,
-    datagrams: 1,
-    notes: RECORD_NOTES,
 };
 
 /// The capacity for the stop of both routers.
 pub(crate) const STOP_ROOM: Room = Room {
     frames: ROUTER_FRAMES,
+    octets: 0,
     datagrams: 1,
     notes: 0,
 };
+
+/// Returns the capacity for a frame that was read. An ARP packet may end the wait of a packet,
+/// which then takes its octets.
+#[inline(always)]
+pub(crate) fn reading_room(forwarder: &Forwarder, reading: &Reading) -> Room
+    ensures room { result ≡ room_for (reading_needs reading.now forwarder.now) }
+    ensures few { result.octets ≤ most_octets }
+{
+    match reading {
+        Reading::Arp(_) => Room {
+            frames: 1 + PACKET_FRAMES,
+            octets: forwarder.kept.octets(),
+            datagrams: 1,
+            notes: PACKET_NOTES,
+        },
+        _ => FRAME_ROOM,
+    }
+}
+
+/// Returns the capacity for a datagram that can't begin a new session: its records, with the
+/// packets whose wait they end.
+pub(crate) fn records_room(forwarder: &Forwarder) -> Room
+    ensures room { result
+        ≡ room_for (and_kept (records_need RECORDS_IN_A_DATAGRAM) forwarder.now) }
+    ensures few { result.octets ≤ most_octets }
+{
+    Room {
+        frames: RECORD_FRAMES,
+        octets: forwarder.kept.octets(),
+        datagrams: 1,
+        notes: RECORD_NOTES,
+    }
+}
 
 /// Returns the capacity for a tick: a stop of both routers and their tick, and the notes of idle
 /// pairs, or of those that are marked.
@@ -100,6 +133,7 @@ pub(crate) fn tick_room(forwarder: &Forwarder) -> Room
 {
     Room {
         frames: 2 * ROUTER_FRAMES,
+        octets: 0,
         datagrams: 1,
         notes: entry_count(forwarder) + 1,
     }
@@ -108,10 +142,12 @@ pub(crate) fn tick_room(forwarder: &Forwarder) -> Room
 /// Returns the capacity for a tick at which the gateway is apart: that of any tick, and the packets
 /// that waited for pairs.
 pub(crate) fn apart_room(forwarder: &Forwarder) -> Room
-    ensures { result ≡ room_for (apart_needs forwarder.now) }
+    ensures room { result ≡ room_for (and_kept (apart_needs forwarder.now) forwarder.now) }
+    ensures few { result.octets ≤ most_octets }
 {
     Room {
         frames: 2 * ROUTER_FRAMES + WAITING_FRAMES,
+        octets: forwarder.kept.octets(),
         datagrams: 1,
         notes: entry_count(forwarder) + 1 + WAITING_NOTES,
     }
@@ -120,10 +156,12 @@ pub(crate) fn apart_room(forwarder: &Forwarder) -> Room
 /// Returns the capacity for the operator's word that the other gateway is off: a note of each
 /// entry, and the packets that waited for pairs.
 pub(crate) fn word_room(forwarder: &Forwarder) -> Room
-    ensures { result ≡ room_for (waiting_needs forwarder.now) }
+    ensures room { result ≡ room_for (and_kept (waiting_needs forwarder.now) forwarder.now) }
+    ensures few { result.octets ≤ most_octets }
 {
     Room {
         frames: WAITING_FRAMES,
+        octets: forwarder.kept.octets(),
         datagrams: 1,
         notes: entry_count(forwarder) + WAITING_NOTES,
     }
@@ -132,10 +170,12 @@ pub(crate) fn word_room(forwarder: &Forwarder) -> Room
 /// Returns the capacity for a datagram that may begin a new session: a note of each entry, the
 /// packets that waited for pairs, and the records.
 pub(crate) fn restart_room(forwarder: &Forwarder) -> Room
-    ensures { result ≡ room_for (restart_needs forwarder.now) }
+    ensures room { result ≡ room_for (and_kept (restart_needs forwarder.now) forwarder.now) }
+    ensures few { result.octets ≤ most_octets }
 {
     Room {
         frames: WAITING_FRAMES + RECORD_FRAMES,
+        octets: forwarder.kept.octets(),
         datagrams: 1,
         notes: entry_count(forwarder) + WAITING_NOTES + RECORD_NOTES,
     }
@@ -161,6 +201,7 @@ pub(crate) fn make_ready(
     pairs: usize,
 ) -> Result<(), NoMemory>
     requires frames { room.frames ≤ most_on_a_page }
+    requires octets { room.octets ≤ most_octets }
     requires datagrams { room.datagrams ≤ most_on_a_page }
     requires pairs { pairs ≤ most_pairs }
     ensures scene { scene_on forwarder.new page.new ≡ scene_on forwarder.old page.old }

@@ -74,6 +74,7 @@ fn send_action(page: &mut OutputBuffer, side: Side, station: &Interface, action:
     ensures told { (g : Shown) → scene g page.new.told
         ≡ all_framed (scene g page.old.told) side (frames_of station.now action) }
     ensures frames { page.old.room.frames ≤ page.new.room.frames + 2 }
+    ensures octets { page.new.room.octets ≡ page.old.room.octets }
     ensures datagrams { page.new.room.datagrams ≡ page.old.room.datagrams }
     ensures notes { page.new.room.notes ≡ page.old.room.notes }
 {

@@ -14,8 +14,9 @@ ghost use Rattle.spec_step.specs.Machine.{AreBytes, HasBytes};
 ghost use Rattle.spec_step.specs.Parts.{datagram_taken};
 ghost use Rattle.spec_step.specs.Steps.{Does, FrameDoes, IsStepOn, ended_on, outcome_heard};
 ghost use Rattle.spec_step.specs.Steps.{outcome_on, outcome_word, word_by, word_refusal};
-ghost use Rattle.spec_step.specs.Verdict.{reading_on, verdict};
+ghost use Rattle.spec_step.specs.Verdict.{arrival_on, verdict};
 ghost use Rattle.forwarder.specs.Forwarder.{scene_on, shown_of};
+ghost use Rattle.forwarder.specs.Room.{and_kept};
 ghost use Rattle.gateway.specs.Gateway.{IsGateway};
 ghost use Rattle.gateway.specs.Lacks.{Lacks, LacksForDatagram, LacksForFrame, LacksForTick};
 ghost use Rattle.gateway.specs.Lacks.{LacksMemory, LacksRoom, WasUnlisted};
@@ -28,8 +29,8 @@ use crate::arrivals::take_reading;
 use crate::datagrams::{take_first, take_further};
 use crate::ends::{end_other, end_tick};
 use crate::rooms::{
-    END_ROOM, FRAME_ROOM, MOST_PAIRS, OVER_ROOM, RECORD_PAIRS, RECORDS_ROOM, STOP_ROOM, WAITING,
-    apart_room, list_for, make_ready, restart_room, tick_room, word_room,
+    END_ROOM, MOST_PAIRS, OVER_ROOM, RECORD_PAIRS, STOP_ROOM, WAITING, apart_room, list_for,
+    make_ready, reading_room, records_room, restart_room, tick_room, word_room,
 };
 use crate::ticks::{is_apart_at, take_stop, take_tick};
 use crate::turns::plug;
@@ -52,16 +53,17 @@ fn frame_came(
     requires moment { IsMoment forwarder.old.moment }
     ensures outcome { IfOk result (λ o. o ≡ verdict (shown_of forwarder.old) side bytes.now) }
     ensures does { OnOk result (FrameDoes (scene_on forwarder.old page.old) side bytes.now
-        (reading_on (shown_of forwarder.old) side bytes.now) (scene_on forwarder.new page.new)) }
+        (arrival_on (shown_of forwarder.old) side bytes.now) (scene_on forwarder.new page.new)) }
     ensures datagrams { OnOk result (1 ≤ page.new.room.datagrams) }
     ensures err { OnErr result (scene_on forwarder.new page.new
         ≡ scene_on forwarder.old page.old) }
     ensures lacks { OnErr result (LacksForFrame side bytes.now
-        (reading_on (shown_of forwarder.old) side bytes.now) forwarder.old page.old) }
+        (arrival_on (shown_of forwarder.old) side bytes.now) forwarder.old page.old) }
 {
     match forwarder.read_frame(side, bytes) {
         Ok(reading) => {
-            make_ready(forwarder, page, FRAME_ROOM, 1)?;
+            let room = reading_room(forwarder, &reading);
+            make_ready(forwarder, page, room, 1)?;
             take_reading(alloc, forwarder, page, side, bytes, reading)
         }
         Err(Reason::TtlOver) => {
@@ -95,7 +97,8 @@ fn first_came(
     ensures err { OnErr result (scene_on forwarder.new page.new
         ≡ scene_on forwarder.old page.old) }
     ensures lacks { OnErr result (WasUnlisted forwarder.old
-        ⊎ LacksRoom (restart_needs forwarder.old) forwarder.old page.old) }
+        ⊎ LacksRoom (and_kept (restart_needs forwarder.old) forwarder.old) forwarder.old
+        page.old) }
 {
     let room = restart_room(forwarder);
     match list_for(alloc, forwarder) {
@@ -124,9 +127,11 @@ fn further_came(
     ensures err { OnErr result (scene_on forwarder.new page.new
         ≡ scene_on forwarder.old page.old) }
     ensures lacks { OnErr result
-        (LacksRoom (records_need RECORDS_IN_A_DATAGRAM) forwarder.old page.old) }
+        (LacksRoom (and_kept (records_need RECORDS_IN_A_DATAGRAM) forwarder.old) forwarder.old
+        page.old) }
 {
-    make_ready(forwarder, page, RECORDS_ROOM, RECORD_PAIRS)?;
+    let room = records_room(forwarder);
+    make_ready(forwarder, page, room, RECORD_PAIRS)?;
     Ok(take_further(forwarder, page, bytes))
 }
 
@@ -173,7 +178,8 @@ fn tick_alone(
     ensures err { OnErr result (scene_on forwarder.new page.new
         ≡ scene_on forwarder.old page.old) }
     ensures lacks { OnErr result (WasUnlisted forwarder.old
-        ⊎ LacksRoom (apart_needs forwarder.old) forwarder.old page.old) }
+        ⊎ LacksRoom (and_kept (apart_needs forwarder.old) forwarder.old) forwarder.old
+        page.old) }
 {
     let room = apart_room(forwarder);
     match list_for(alloc, forwarder) {
@@ -266,7 +272,8 @@ fn word_came(
     ensures err { OnErr result (scene_on forwarder.new page.new
         ≡ scene_on forwarder.old page.old) }
     ensures lacks { OnErr result (WasUnlisted forwarder.old
-        ⊎ LacksRoom (waiting_needs forwarder.old) forwarder.old page.old) }
+        ⊎ LacksRoom (and_kept (waiting_needs forwarder.old) forwarder.old) forwarder.old
+        page.old) }
 {
     let room = word_room(forwarder);
     match list_for(alloc, forwarder) {

@@ -3,7 +3,7 @@ ghost use Rattle.std.specs.Prelude.{◌≡◌, ◌≤◌, [], None, length, vec_
 ghost use Rattle.spec_step.specs.Parts.{word_taken};
 ghost use Rattle.spec_step.specs.Steps.{outcome_word, word_by, word_refusal};
 ghost use Rattle.forwarder.specs.Forwarder.{scene_on, shown_of};
-ghost use Rattle.forwarder.specs.Room.{HasRoomFor};
+ghost use Rattle.forwarder.specs.Room.{HasRoomFor, and_kept};
 ghost use Rattle.gateway.specs.Rooms.{waiting_needs};
 
 use forwarder::Forwarder;
@@ -31,7 +31,8 @@ fn go_alone(forwarder: &mut Forwarder, page: &mut OutputBuffer, boot: u64, list:
     requires heard { word_refusal (shown_of forwarder.old) boot ≡ None }
     requires empty { list.items ≡ [] }
     requires list { length forwarder.old.kept ≤ vec_capacity list }
-    requires room { HasRoomFor (waiting_needs forwarder.old) forwarder.old page.old }
+    requires room { HasRoomFor (and_kept (waiting_needs forwarder.old) forwarder.old)
+        forwarder.old page.old }
     ensures scene { scene_on forwarder.new page.new
         ≡ word_taken (scene_on forwarder.old page.old) boot }
     ensures datagrams { page.new.room.datagrams ≡ page.old.room.datagrams }
@@ -54,7 +55,8 @@ pub(crate) fn take_word(
 ) -> Outcome
     requires empty { list.items ≡ [] }
     requires list { length forwarder.old.kept ≤ vec_capacity list }
-    requires room { HasRoomFor (waiting_needs forwarder.old) forwarder.old page.old }
+    requires room { HasRoomFor (and_kept (waiting_needs forwarder.old) forwarder.old)
+        forwarder.old page.old }
     ensures scene { scene_on forwarder.new page.new
         ≡ word_by (scene_on forwarder.old page.old) boot
         (word_refusal (shown_of forwarder.old) boot) }

@@ -1,5 +1,6 @@
 -- Packets that carry an ICMP error, and what is read of them.
 use Rattle.std.specs.Prelude.{◌≡◌, ◌==◌, not, Bool, List, [], ◌∷◌, ℕ, Option}
+use Rattle.ipv4.specs.Flow.{size_of}
 use Rattle.ipv4.specs.Header.{header_of, payload_of}
 use Rattle.ipv4.specs.Order.{first_fault}
 use Rattle.icmp.specs.declared.errors.TheConstants.{PROTOCOL}
@@ -37,7 +38,7 @@ error_flow packet = record {
 abbrev pub error_packet_of : List ℕ → ErrorPacket
 error_packet_of packet = record {
   flow = error_flow packet;
-  length = (header_of packet).total_length;
+  size = size_of packet;
 }
 
 -- the packet inside an error is of another protocol than ICMP, or begins as a query of this kind

@@ -15,7 +15,9 @@ pub use asks::{AskView, ask_grammar};
 pub use errors::{ErrorView, ErrorViewMut, PROTOCOL, error_grammar, is_error_message};
 pub use faults::IcmpFault;
 pub use kinds::Kind;
-pub use own::{exceeded, own_error_law, own_packet_law, reply, reply_law, too_long};
+pub use own::{
+    append_exceeded, append_reply, append_too_long, own_error_law, own_packet_law, reply_law,
+};
 pub use packets::{
     ErrorFlow, ErrorPacket, error_packet_grammar, query_flow, query_packet, query_packet_grammar,
 };

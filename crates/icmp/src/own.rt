@@ -18,7 +18,7 @@
 //! 00    00   2127     0007 0001 70696e67
 //! Reply code checksum 7    1    "ping"
 //! ```
-ghost use Rattle.std.specs.Prelude.{◌≡◌, ◌≤◌, ◌<◌, ◌+◌, ◌^◌, ◌++◌, length, drop, List, ℕ, slice_index};
+ghost use Rattle.std.specs.Prelude.{◌≡◌, ◌≤◌, ◌<◌, ◌+◌, ◌^◌, ◌++◌, length, vec_len, vec_capacity, List, ℕ, slice_index};
 ghost use Rattle.ipv4.specs.Header.{IsIpv4};
 ghost use Rattle.icmp.specs.Ask.{IsAsk};
 ghost use Rattle.icmp.specs.Query.{IsQuery, IsTranslatable, query_of};
@@ -32,6 +32,7 @@ use crate::errors::{TIME_EXCEEDED, UNREACHABLE};
 use crate::{AskView, Kind, PROTOCOL};
 use addresses::Ip;
 use byteorder::{BigEndian, ByteOrder};
+use frames::append_reserved;
 use ipv4::Ipv4View;
 use sums::{add, sum};
 
@@ -147,40 +148,32 @@ fn unsummed_head(said: Said) -> [u8; layout::HEAD]
     ]
 }
 
-/// Writes header, head and data one after the other, and leaves the bytes after them.
-fn put(header: &[u8; layout::HEADER], head: &[u8; layout::HEAD], carried: &[u8], out: &mut [u8])
-    requires { 28 + length carried.now ≤ length out.old }
-    ensures { out.new
-        ≡ header.now ++ (head.now ++ carried.now) ++ drop (28 + length carried.now) out.old }
-{
-    out[..layout::HEADER].copy_from_slice(header);
-    out[layout::HEADER..layout::DATA].copy_from_slice(head);
-    out[layout::DATA..layout::DATA + carried.len()].copy_from_slice(carried);
-}
-
-/// Writes a packet of the box at the beginning of `out`, and returns its length in bytes.
-fn write(way: Way, said: Said, carried: &[u8], out: &mut [u8]) -> usize
-    requires room { 28 + length carried.now ≤ length out.old }
+/// Appends a packet of the box to a list with capacity for it.
+fn append(list: &mut Vec<u8>, way: Way, said: Said, carried: &[u8])
+    requires room { vec_len list.old + (28 + length carried.now) ≤ vec_capacity list.old }
     requires fits { 28 + length carried.now < 2 ^ 16 }
-    ensures len { result ≡ 28 + length carried.now }
-    ensures written { out.new
-        ≡ own_packet way.service way.from.0 way.to.0
-        (own_head said.kind said.code said.first said.second carried.now ++ carried.now)
-        ++ drop result out.old }
+    ensures items { list.new.items ≡ list.old.items
+        ++ own_packet way.service way.from.0 way.to.0
+        (own_head said.kind said.code said.first said.second carried.now ++ carried.now) }
+    ensures len { vec_len list.new ≡ vec_len list.old + (28 + length carried.now) }
+    ensures capacity { vec_capacity list.old ≤ vec_capacity list.new }
 {
     let total = layout::DATA + carried.len();
     let header = summed_header(way, total as u16);
     let head = summed_head(said, carried);
-    put(&header, &head, carried, out);
-    total
+    append_reserved(list, &header);
+    append_reserved(list, &head);
+    append_reserved(list, carried);
 }
 
-/// Writes the Reply to an Echo, from the address that the Echo was sent to. Returns the packet's length in bytes.
-pub fn reply(ask: &AskView<'_>, from: Ip, to: Ip, out: &mut [u8; 1500]) -> usize
-    requires { 20 + length ask.now.bytes.now ≤ 1500 }
-    ensures len { result ≡ 20 + length ask.now.bytes.now }
-    ensures written { out.new
-        ≡ reply_packet ask.now.bytes.now from.0 to.0 ++ drop result out.old }
+/// Appends the Reply to an Echo, from the address that the Echo was sent to, to a list with capacity for it.
+pub fn append_reply(list: &mut Vec<u8>, ask: &AskView<'_>, from: Ip, to: Ip)
+    requires room { vec_len list.old + (20 + length ask.now.bytes.now) ≤ vec_capacity list.old }
+    requires fits { 20 + length ask.now.bytes.now < 2 ^ 16 }
+    ensures items { list.new.items
+        ≡ list.old.items ++ reply_packet ask.now.bytes.now from.0 to.0 }
+    ensures len { vec_len list.new ≡ vec_len list.old + (20 + length ask.now.bytes.now) }
+    ensures capacity { vec_capacity list.old ≤ vec_capacity list.new }
 {
     let said = Said {
         kind: Kind::Reply.number(),
@@ -193,14 +186,16 @@ pub fn reply(ask: &AskView<'_>, from: Ip, to: Ip, out: &mut [u8; 1500]) -> usize
         from,
         to,
     };
-    write(way, said, ask.data(), out)
+    append(list, way, said, ask.data());
 }
 
-/// Writes a Time Exceeded about a packet. Returns the length of the packet that carries it, in bytes.
-pub fn exceeded(packet: &Ipv4View<'_>, from: Ip, to: Ip, out: &mut [u8; 576]) -> usize
-    ensures len { result ≡ 28 + length (quoted packet.now.bytes.now) }
-    ensures written { out.new
-        ≡ exceeded_packet packet.now.bytes.now from.0 to.0 ++ drop result out.old }
+/// Appends a Time Exceeded about a packet to a list with capacity for 576 bytes.
+pub fn append_exceeded(list: &mut Vec<u8>, packet: &Ipv4View<'_>, from: Ip, to: Ip)
+    requires room { vec_len list.old + 576 ≤ vec_capacity list.old }
+    ensures items { list.new.items
+        ≡ list.old.items ++ exceeded_packet packet.now.bytes.now from.0 to.0 }
+    ensures len { vec_len list.new ≤ vec_len list.old + 576 }
+    ensures capacity { vec_capacity list.old ≤ vec_capacity list.new }
 {
     let said = Said {
         kind: TIME_EXCEEDED,
@@ -208,15 +203,16 @@ pub fn exceeded(packet: &Ipv4View<'_>, from: Ip, to: Ip, out: &mut [u8; 576]) ->
         first: 0,
         second: 0,
     };
-    write(complaining(from, to), said, quoted(packet), out)
+    append(list, complaining(from, to), said, quoted(packet));
 }
 
-/// Writes a Fragmentation Needed about a packet that is longer than `mtu` bytes. Returns the length of the packet that
-/// carries it, in bytes.
-pub fn too_long(packet: &Ipv4View<'_>, mtu: u16, from: Ip, to: Ip, out: &mut [u8; 576]) -> usize
-    ensures len { result ≡ 28 + length (quoted packet.now.bytes.now) }
-    ensures written { out.new
-        ≡ too_long_packet packet.now.bytes.now mtu from.0 to.0 ++ drop result out.old }
+/// Appends a Fragmentation Needed about a packet that is longer than `mtu` bytes to a list with capacity for 576 bytes.
+pub fn append_too_long(list: &mut Vec<u8>, packet: &Ipv4View<'_>, mtu: u16, from: Ip, to: Ip)
+    requires room { vec_len list.old + 576 ≤ vec_capacity list.old }
+    ensures items { list.new.items
+        ≡ list.old.items ++ too_long_packet packet.now.bytes.now mtu from.0 to.0 }
+    ensures len { vec_len list.new ≤ vec_len list.old + 576 }
+    ensures capacity { vec_capacity list.old ≤ vec_capacity list.new }
 {
     let said = Said {
         kind: UNREACHABLE,
@@ -224,7 +220,7 @@ pub fn too_long(packet: &Ipv4View<'_>, mtu: u16, from: Ip, to: Ip, out: &mut [u8
         first: 0,
         second: mtu,
     };
-    write(complaining(from, to), said, quoted(packet), out)
+    append(list, complaining(from, to), said, quoted(packet));
 }
 
 fn complaining(from: Ip, to: Ip) -> Way

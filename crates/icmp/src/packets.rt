@@ -12,7 +12,7 @@ ghost use Rattle.icmp.specs.declared.kinds.Kind.{Kind as KindValue};
 use crate::queries::identifier;
 use crate::{ErrorView, IcmpFault, Kind, PROTOCOL, QueryView};
 use addresses::{Ip, Protocol};
-use ipv4::{Flow, Ipv4View, Packet};
+use ipv4::{Flow, Ipv4View, Packet, Size};
 
 /// From whom to whom an error goes, and the flow of the packet that it is about.
 #[derive(Clone, Copy, Debug, PartialEq, Eq)]
@@ -26,8 +26,7 @@ pub struct ErrorFlow {
 #[derive(Clone, Copy, Debug, PartialEq, Eq)]
 pub struct ErrorPacket {
     pub flow: ErrorFlow,
-    /// The IPv4 total length: the bytes of header and message, without padding.
-    pub length: usize,
+    pub size: Size,
 }
 
 impl ErrorPacket {
@@ -44,7 +43,7 @@ impl ErrorPacket {
         let error = ErrorView::parse(view.payload())?;
         Ok(ErrorPacket {
             flow: ErrorFlow::carrying(view, &error),
-            length: view.total_length(),
+            size: Size::of(view),
         })
     }
 

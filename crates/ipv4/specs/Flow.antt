@@ -2,10 +2,11 @@
 use Rattle.std.specs.Prelude.{ℕ, ◌==◌, if◌then◌else◌, List}
 use Rattle.addresses.specs.declared.transport.Protocol.{Protocol}
 use Rattle.addresses.specs.declared.transport.Protocol.TheVariants.{Icmp, Tcp, Udp}
-use Rattle.ipv4.specs.Header.{word_at, header_of, payload_of}
+use Rattle.ipv4.specs.Header.{word_at, header_of, is_unbroken, payload_of}
 use Rattle.ipv4.specs.Segment.{segment_of}
 use Rattle.ipv4.specs.declared.flows.Flow.{Flow}
 use Rattle.ipv4.specs.declared.packets.Packet.{Packet}
+use Rattle.ipv4.specs.declared.packets.Size.{Size}
 
 -- which of the three translated protocols a packet carries
 abbrev pub protocol_of : List ℕ → Protocol
@@ -39,10 +40,17 @@ flow_of packet =
       destination_port = record { 0 = word_at (destination_place protocol) (payload_of packet) };
     }
 
+-- how many bytes a packet has, without padding, and whether it has the flag Don't Fragment
+abbrev pub size_of : List ℕ → Size
+size_of packet = record {
+  length = (header_of packet).total_length;
+  unbroken = is_unbroken packet;
+}
+
 -- what the first reading of such a packet finds out; the flags are byte 13 of the payload, whatever the protocol is
 abbrev pub packet_of : List ℕ → Packet
 packet_of packet = record {
   flow = flow_of packet;
   flags = (segment_of (payload_of packet)).flags;
-  length = (header_of packet).total_length;
+  size = size_of packet;
 }

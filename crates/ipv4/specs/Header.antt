@@ -3,7 +3,7 @@ use Rattle.std.specs.Prelude.{◌≡◌, ◌≤◌, ℕ, ◌-◌, ◌*◌, ◌/�
 use Rattle.byteorder.specs.Endian.{big_number}
 use Rattle.sums.specs.Sum.{word_sum, IsRight}
 use Rattle.ipv4.specs.Order.{first_fault}
-use Rattle.ipv4.specs.declared.header.TheConstants.{MORE_FRAGMENTS}
+use Rattle.ipv4.specs.declared.header.TheConstants.{DONT_FRAGMENT, MORE_FRAGMENTS}
 use Rattle.ipv4.specs.declared.header.field.TheConstants.{FIXED}
 use Rattle.ipv4.specs.declared.faults.Ipv4Fault.{Ipv4Fault}
 use Rattle.ipv4.specs.declared.faults.Ipv4Fault.TheVariants.{TooShort, BadVersion, BadLength, BadHeaderSum, Fragment}
@@ -66,6 +66,10 @@ pub record IsIpv4 (bytes : List ℕ) : Type 0 where
   pub sum : IsRight (take (header_of bytes).header_length bytes)
   pub last : (header_of bytes).more_fragments ≡ 0
   pub first : (header_of bytes).fragment_offset ≡ 0
+
+-- the packet has the flag Don't Fragment
+unfoldable pub is_unbroken : List ℕ → Bool
+is_unbroken bytes = (header_of bytes).flags_word / DONT_FRAGMENT % 2 == 1
 
 -- the checksum of a header is wrong
 abbrev pub has_wrong_sum : List ℕ → Bool

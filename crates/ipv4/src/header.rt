@@ -23,8 +23,8 @@ ghost use Rattle.std.specs.Result.{result_err};
 ghost use Rattle.byteorder.specs.Endian.{big_bytes};
 ghost use Rattle.addresses.specs.Transport.{protocol_numbered};
 ghost use Rattle.frames.specs.Bytes.{Puts};
-ghost use Rattle.ipv4.specs.Header.{header_of, options_of, payload_of, IsIpv4, is_fragment, ipv4_refusal};
-ghost use Rattle.ipv4.specs.declared.header.TheConstants.{MORE_FRAGMENTS};
+ghost use Rattle.ipv4.specs.Header.{header_of, options_of, payload_of, IsIpv4, is_fragment, is_unbroken, ipv4_refusal};
+ghost use Rattle.ipv4.specs.declared.header.TheConstants.{DONT_FRAGMENT, MORE_FRAGMENTS};
 ghost use Rattle.ipv4.specs.declared.header.field.TheConstants.{FIXED};
 
 use crate::Ipv4Fault;
@@ -60,6 +60,9 @@ mod field {
     /// The bytes of a header without options.
     pub const FIXED: usize = 20;
 }
+
+/// The flag Don't Fragment.
+const DONT_FRAGMENT: u16 = 0x4000;
 
 /// The flag More Fragments. The bits below it are a fragment's offset.
 const MORE_FRAGMENTS: u16 = 0x2000;
@@ -135,6 +138,15 @@ impl<'a> Ipv4View<'a> {
         ensures { result ≡ (header_of self.now.bytes.now).flags_word }
     {
         flags_word(self.bytes)
+    }
+
+    /// Whether the packet has the flag Don't Fragment.
+    #[tactic(auto, unfolding(crate::specs::Header::is_unbroken))]
+    #[inline(always)]
+    pub fn is_unbroken(&self) -> bool
+        ensures { result ≡ is_unbroken self.now.bytes.now }
+    {
+        flags_word(self.bytes) / DONT_FRAGMENT % 2 == 1
     }
 
     pub fn ttl(&self) -> u8
@@ -279,6 +291,7 @@ fn fragment(bytes: &[u8]) -> bool
 pub fn ipv4_grammar()
     ensures grammar { (bytes : List ℕ) → (ipv4_refusal bytes ≡ None) ↔ IsIpv4 bytes }
     ensures fixed { FIXED ≡ 20 }
+    ensures dont_fragment { DONT_FRAGMENT ≡ 16384 }
     ensures more_fragments { MORE_FRAGMENTS ≡ 8192 }
 {}
 

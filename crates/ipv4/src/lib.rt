@@ -12,7 +12,7 @@ mod udp;
 pub use faults::Ipv4Fault;
 pub use flows::Flow;
 pub use header::{Ipv4View, Ipv4ViewMut, ipv4_grammar};
-pub use packets::Packet;
+pub use packets::{Packet, Size};
 pub use tcp::{TcpView, TcpViewMut, tcp_grammar};
 pub use transports::{Transport, transport_grammar};
 pub use udp::{UdpView, UdpViewMut, udp_grammar};

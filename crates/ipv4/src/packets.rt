@@ -2,7 +2,7 @@
 ghost use Rattle.std.specs.Prelude.{◌≡◌, ◌↔◌, IsOk, IfOk};
 ghost use Rattle.std.specs.Result.{result_err};
 ghost use Rattle.ipv4.specs.Carried.{IsTransport, transport_refusal};
-ghost use Rattle.ipv4.specs.Flow.{flow_of, packet_of};
+ghost use Rattle.ipv4.specs.Flow.{flow_of, packet_of, size_of};
 
 use crate::tcp::flags;
 use crate::{Flow, Ipv4Fault, Ipv4View, Transport};
@@ -15,8 +15,29 @@ pub struct Packet {
     /// The flags of a TCP segment. For other protocols the field has no meaning: it is read from the same byte of the
     /// payload.
     pub flags: TcpFlags,
+    pub size: Size,
+}
+
+/// How long a packet is, and whether it may be cut into fragments.
+#[derive(Clone, Copy, Debug, PartialEq, Eq)]
+pub struct Size {
     /// The IPv4 total length: the bytes of header and payload, without padding.
     pub length: usize,
+    /// Whether the packet has the flag Don't Fragment.
+    pub unbroken: bool,
+}
+
+impl Size {
+    /// Returns the size of a packet.
+    #[inline(always)]
+    pub fn of(view: &Ipv4View<'_>) -> Size
+        ensures { result ≡ size_of view.now.bytes.now }
+    {
+        Size {
+            length: view.total_length(),
+            unbroken: view.is_unbroken(),
+        }
+    }
 }
 
 impl Packet {
@@ -40,7 +61,7 @@ impl Packet {
         Packet {
             flow,
             flags: flags(view.payload()),
-            length: view.total_length(),
+            size: Size::of(view),
         }
     }
 }

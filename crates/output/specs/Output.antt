@@ -1,5 +1,5 @@
 -- The output of steps: frames to send, datagrams for the other gateway, and notes.
-use Rattle.std.specs.Prelude.{ℕ, ◌≤◌, ◌*◌, List, [], ◌∷◌, ◌++◌}
+use Rattle.std.specs.Prelude.{ℕ, ◌≤◌, ◌+◌, ◌*◌, List, [], ◌∷◌, ◌++◌}
 use Rattle.nat_types.specs.declared.gateways.Side.{Side}
 use Rattle.nat_types.specs.declared.notes.Note.{Note}
 use Rattle.output.specs.declared.pages.Room.{Room}
@@ -39,11 +39,12 @@ sent (side ∷ sides) (bytes ∷ strings) =
     record { side = side; bytes = bytes } ∷ sent sides strings
 
 abbrev pub no_room : Room
-no_room = record { frames = 0; datagrams = 0; notes = 0 }
+no_room = record { frames = 0; octets = 0; datagrams = 0; notes = 0 }
 
--- one capacity is within another: no more frames, datagrams or notes
+-- one capacity is within another: no more frames, octets, datagrams or notes
 pub record IsWithin (room more : Room) : Type 0 where
   pub frames : room.frames ≤ more.frames
+  pub octets : room.octets ≤ more.octets
   pub datagrams : room.datagrams ≤ more.datagrams
   pub notes : room.notes ≤ more.notes
 
@@ -57,7 +58,7 @@ abbrev pub without_notes : Paged → Paged
 without_notes page =
     record { told = record page.told { notes = [] }; room = record page.room { notes = 0 } }
 
--- there is capacity for count strings of up to longest bytes
-pub record HasRoom (count longest places octets : ℕ) : Type 0 where
+-- there is capacity for count strings of up to longest bytes, and for so many bytes more
+pub record HasRoom (count longest more places octets : ℕ) : Type 0 where
   pub each : count ≤ places
-  pub whole : longest * count ≤ octets
+  pub whole : longest * count + more ≤ octets

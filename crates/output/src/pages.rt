@@ -13,17 +13,19 @@ use std::alloc::{AllocError, Global};
 use std::marker::Model;
 use std::{mem, slice};
 
-/// The most bytes of a frame that is sent.
+/// The most bytes of a frame for which the number of frames in a [`Room`] has capacity.
 const LONGEST_FRAME: usize = 1514;
 
 /// The most bytes of a datagram: a header of 38 and 64 records of at most 34.
 const LONGEST_DATAGRAM: usize = 2214;
 
 /// A capacity: numbers of frames of up to 1,514 bytes each, of datagrams of up to 2,214 bytes each,
-/// and of notes.
+/// and of notes; and for frames that are longer the number of bytes beyond these.
 #[derive(Clone, Copy, Debug, PartialEq, Eq, Default)]
 pub struct Room {
     pub frames: usize,
+    /// The bytes of frames beyond 1,514 each, of all frames together.
+    pub octets: usize,
     pub datagrams: usize,
     pub notes: usize,
 }
@@ -56,8 +58,8 @@ impl Model for OutputBuffer {
 
     ghost invariant = { λ p. (length p.sides.items ≡ length p.frames.strings)
         × (vec_len p.sides + p.room.frames ≤ vec_capacity p.sides)
-        × HasRoom p.room.frames 1514 p.frames.places p.frames.octets
-        × HasRoom p.room.datagrams 2214 p.datagrams.places p.datagrams.octets
+        × HasRoom p.room.frames 1514 p.room.octets p.frames.places p.frames.octets
+        × HasRoom p.room.datagrams 2214 0 p.datagrams.places p.datagrams.octets
         × (vec_len p.notes + p.room.notes ≤ vec_capacity p.notes) };
 }
 
@@ -86,6 +88,7 @@ impl OutputBuffer {
             notes: Vec::new(alloc),
             room: Room {
                 frames: 0,
+                octets: 0,
                 datagrams: 0,
                 notes: 0,
             },
@@ -97,6 +100,7 @@ impl OutputBuffer {
     #[inline(always)]
     pub fn ready(&mut self, room: Room) -> Result<(), AllocError>
         requires few_frames { room.frames ≤ 4096 }
+        requires few_octets { room.octets ≤ 16777216 }
         requires few_datagrams { room.datagrams ≤ 4096 }
         ensures ok { OnOk result (self.new ≡ record self.old { room = room }) }
         ensures err { OnErr result (self.new ≡ self.old) }
@@ -104,7 +108,8 @@ impl OutputBuffer {
         ensures refused { OnErr result (LacksPage room) }
     {
         memory::reserve_exact(&mut self.sides, room.frames)?;
-        self.frames.ready(room.frames, LONGEST_FRAME * room.frames)?;
+        self.frames
+            .ready(room.frames, LONGEST_FRAME * room.frames + room.octets)?;
         self.datagrams
             .ready(room.datagrams, LONGEST_DATAGRAM * room.datagrams)?;
         memory::reserve_exact(&mut self.notes, room.notes)?;
@@ -123,7 +128,8 @@ impl OutputBuffer {
         self.notes.clear();
     }
 
-    /// Appends a frame for this side. The frame writes its bytes directly into the buffer.
+    /// Appends a frame of up to 1,514 bytes for this side. The frame writes its bytes directly into
+    /// the buffer.
     #[inline(always)]
     pub fn make_frame<W: WriteBytes>(&mut self, side: Side, frame: &W)
         requires ready { W.can_write frame.now }
@@ -136,6 +142,28 @@ impl OutputBuffer {
         self.sides.push_reserved(side);
         self.frames.write(frame);
         self.room.frames -= 1;
+    }
+
+    /// Appends a frame for this side that may have more than 1,514 bytes. The frame writes its bytes
+    /// directly into the buffer.
+    #[inline(always)]
+    pub fn make_whole_frame<W: WriteBytes>(&mut self, side: Side, frame: &W)
+        requires ready { W.can_write frame.now }
+        requires room { 0 < self.old.room.frames }
+        requires octets { W.room frame.now ≤ 1514 + self.old.room.octets }
+        ensures told { self.new.told ≡ with_frame self.old.told side (W.bytes frame.now) }
+        ensures room { self.old.room ≡ record self.new.room {
+          frames = self.new.room.frames + 1;
+          octets = self.old.room.octets;
+        } }
+        // What the frame has beyond 1,514 bytes is taken of the octets.
+        ensures octets { self.old.room.octets
+            ≤ self.new.room.octets + (W.room frame.now - 1514) }
+    {
+        self.sides.push_reserved(side);
+        let size = self.frames.write(frame);
+        self.room.frames -= 1;
+        self.room.octets -= size.saturating_sub(LONGEST_FRAME);
     }
 
     /// Appends a datagram, which writes its bytes directly into the buffer.

@@ -65,19 +65,22 @@ impl Pile {
         self.bytes.clear();
     }
 
-    /// Appends the string that a source writes.
+    /// Appends the string that a source writes, and returns its length in bytes.
     #[inline(always)]
-    pub(crate) fn write<W: WriteBytes>(&mut self, source: &W)
+    pub(crate) fn write<W: WriteBytes>(&mut self, source: &W) -> usize
         requires ready { W.can_write source.now }
         requires place { 0 < self.old.places }
         requires octets { W.room source.now ≤ self.old.octets }
         ensures strings { self.new.strings ≡ self.old.strings ++ W.bytes source.now ∷ [] }
         ensures places { self.old.places ≤ self.new.places + 1 }
-        ensures octets { self.old.octets ≤ self.new.octets + W.room source.now }
+        ensures octets { self.old.octets ≤ self.new.octets + result }
+        ensures few { result ≤ W.room source.now }
     {
         let start = self.bytes.len();
         source.write_to(&mut self.bytes);
-        self.sizes.push_reserved(self.bytes.len() - start);
+        let size = self.bytes.len() - start;
+        self.sizes.push_reserved(size);
+        size
     }
 
     /// Returns how many strings there are.

@@ -1,4 +1,3 @@
-mod Appended
 mod Cut
 mod ErrorSorts
 mod Exchange

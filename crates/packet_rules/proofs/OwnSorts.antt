@@ -14,7 +14,7 @@ use Rattle.frames.specs.Frame.{frame_of}
 use Rattle.icmp.specs.Error.{is_error}
 use Rattle.icmp.specs.Packet.{error_flow}
 use Rattle.icmp.specs.Query.{kind_number, query_data}
-use Rattle.icmp.specs.Own.{IsOwnPacket, exceeded_message, own_packet, quoted, reply_message, reply_packet, too_long_message}
+use Rattle.icmp.specs.Own.{IsOwnPacket, exceeded_message, own_packet, quoted, reply_message, too_long_message}
 use Rattle.icmp.specs.declared.errors.TheConstants.{PROTOCOL}
 use Rattle.ipv4.specs.Flow.{flow_of}
 use Rattle.ipv4.specs.Header.{header_of, payload_of}
@@ -376,9 +376,10 @@ ask-short bytes f =
     let ask = payload_of packet in
     let h = (header_of packet).header_length in
     let size : length (reply_message ask) ≡ 8 + length (query_data ask) = omega arith in
-    omega (arith, size, length-drop 8 ask, length-take ((header_of packet).total_length - h) (drop h packet), length-drop h packet, length-drop 14 bytes, f.frame.short)
+    omega (arith, size, length-drop 8 ask, length-take ((header_of packet).total_length - h) (drop h packet), length-drop h packet, length-drop 14 bytes, f.frame.short, f.frame.ipv4.holds_fields)
 
-pub ask-fits : (bytes : List ℕ) → IsAskable bytes → 20 + length (payload_of (frame_of bytes).body) ≤ 1500
+-- so does what it answers, without its options
+pub ask-fits : (bytes : List ℕ) → IsAskable bytes → 20 + length (payload_of (frame_of bytes).body) < 65536
 ask-fits bytes f =
     let packet = (frame_of bytes).body in
     let h = (header_of packet).header_length in
@@ -389,12 +390,6 @@ ask-room bytes f =
     let packet = (frame_of bytes).body in
     let h = (header_of packet).header_length in
     omega (arith, length-take ((header_of packet).total_length - h) (drop h packet), length-drop h packet, length-drop 14 bytes, f.frame.whole, f.frame.ipv4.long, f.frame.ipv4.holds_fields, f.frame.ipv4.holds_header, f.frame.ipv4.there)
-
-pub answer-size : (bytes : List ℕ) (from to : ℕ) → IsAskable bytes → (let ask = payload_of (frame_of bytes).body in length (reply_packet ask from to) ≡ 20 + length ask)
-answer-size bytes from to f =
-    let ask = payload_of (frame_of bytes).body in
-    let size : length (reply_packet ask from to) ≡ 28 + length (query_data ask) = omega arith in
-    omega (arith, size, length-drop 8 ask, f.ask.long)
 
 pub answer-said : OwnPackets → (bytes : List ℕ) → IsAskable bytes → AreBytes bytes
     → (let packet = (frame_of bytes).body in IsOwnPacket 0 (header_of packet).destination (header_of packet).source (reply_message (payload_of packet)) (answer_packet packet))

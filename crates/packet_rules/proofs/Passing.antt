@@ -29,7 +29,7 @@ use Rattle.packet_rules.specs.declared.readings.Reading.TheVariants.{Arp, Advert
 use Rattle.packet_rules.specs.declared.readings.Asked.{Asked as AskedValue}
 use Rattle.packet_rules.specs.declared.reasons.Reason.{Reason}
 use Rattle.packet_rules.specs.declared.reasons.Reason.TheVariants.{ShortFrame, NotMine, NotUp, TtlOver, BadArp, BadAdvert}
-use Rattle.frames.specs.declared.ethernet.TheConstants.{LONGEST}
+use Rattle.frames.specs.declared.ethernet.TheConstants.{LONGEST_WHOLE}
 use Rattle.packet_rules.specs.Asked.{IsAskable, IsWhole, asked_of, is_asked, is_echo, is_to_box}
 use Rattle.packet_rules.specs.Flows.{error_flow_in, flow_in}
 use Rattle.packet_rules.specs.Steps.{reason_of, reason_of_icmp, size_refusal, up_refusal, destination_refusal, header_refusal, virtual_refusal, transport_refusal, query_refusal, error_refusal, about_refusal, ttl_refusal, is_vrrp, is_from_peer, arp_reading, advert_reading, transport_reading, query_reading, error_reading, icmp_reading, packet_reading, other_reading, ipv4_reading, body_reading, reading_of, unless, IsForwardable, IsPassable, Carries}
@@ -72,11 +72,11 @@ pub both-true : (a b : Bool) → (a && b) ≡ true → (a ≡ true) × (b ≡ tr
 both-true true b is = (refl, is)
 both-true false b is = cc
 
-size-passes : (bytes : List ℕ) → size_refusal bytes ≡ None → (14 ≤ length bytes) × (length bytes ≤ LONGEST)
+size-passes : (bytes : List ℕ) → size_refusal bytes ≡ None → (14 ≤ length bytes) × (length bytes ≤ LONGEST_WHOLE)
 unfolding size_refusal
 size-passes bytes is =
     let both = both-true _ _ (none-passes _ ShortFrame is) in
-    (leb-true 14 (length bytes) both.0, leb-true (length bytes) LONGEST both.1)
+    (leb-true 14 (length bytes) both.0, leb-true (length bytes) LONGEST_WHOLE both.1)
 
 arp-passes : (g : Grammars) (side : Side) (bytes : List ℕ) (r : Reading) → arp_reading (frame_of bytes).body ≡ Ok r → Carries side bytes r
 unfolding arp_reading
@@ -241,12 +241,12 @@ tested : (b : Bool) (reason : Reason) (step : Result Reading Reason) → reason 
 tested true reason step other is = (refl, is)
 tested false reason step other is = absurd (other cc)
 
-size-over : (bytes : List ℕ) (step : Result Reading Reason) → unless (size_refusal bytes) step ≡ Err TtlOver → (14 ≤ length bytes) × ((length bytes ≤ LONGEST) × (step ≡ Err TtlOver))
+size-over : (bytes : List ℕ) (step : Result Reading Reason) → unless (size_refusal bytes) step ≡ Err TtlOver → (14 ≤ length bytes) × ((length bytes ≤ LONGEST_WHOLE) × (step ≡ Err TtlOver))
 unfolding size_refusal
 size-over bytes step is =
-    let t = tested (nat_le 14 (length bytes) && nat_le (length bytes) LONGEST) ShortFrame step (λ e. cc) is in
-    let both = both-true (nat_le 14 (length bytes)) (nat_le (length bytes) LONGEST) t.0 in
-    (leb-true 14 (length bytes) both.0, (leb-true (length bytes) LONGEST both.1, t.1))
+    let t = tested (nat_le 14 (length bytes) && nat_le (length bytes) LONGEST_WHOLE) ShortFrame step (λ e. cc) is in
+    let both = both-true (nat_le 14 (length bytes)) (nat_le (length bytes) LONGEST_WHOLE) t.0 in
+    (leb-true 14 (length bytes) both.0, (leb-true (length bytes) LONGEST_WHOLE both.1, t.1))
 
 up-over : (up : Bool) (step : Result Reading Reason) → unless (up_refusal up) step ≡ Err TtlOver → step ≡ Err TtlOver
 unfolding up_refusal

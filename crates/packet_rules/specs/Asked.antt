@@ -2,8 +2,8 @@
 use Rattle.std.specs.Prelude.{◌≡◌, ◌≤◌, ℕ, ◌+◌, Bool, ◌==◌, ◌&&◌, ◌||◌, is_none, List, length}
 use Rattle.std.specs.Str.{bytes_eq}
 use Rattle.frames.specs.Frame.{Frame, frame_of}
-use Rattle.frames.specs.declared.ethernet.TheConstants.{LONGEST}
-use Rattle.ipv4.specs.Header.{IsIpv4, header_of, payload_of}
+use Rattle.frames.specs.declared.ethernet.TheConstants.{LONGEST_WHOLE}
+use Rattle.ipv4.specs.Header.{IsIpv4, header_of, is_unbroken, payload_of}
 use Rattle.icmp.specs.Ask.{IsAsk, ask_refusal}
 use Rattle.icmp.specs.declared.errors.TheConstants.{PROTOCOL}
 use Rattle.packet_rules.specs.declared.networks.Network.{Network}
@@ -29,18 +29,19 @@ unfoldable pub is_asked : Network → Bool → Frame → Bool
 is_asked network active frame =
     network.icmp.echo && (is_to_box network active frame && is_echo frame.body)
 
--- what is read of an Echo to the box; its Reply is as long as its message after a header without options
+-- what is read of an Echo to the box: its Reply is as long as its message after a header without options, and may be cut
+-- where the Echo may
 abbrev pub asked_of : List ℕ → Asked
 asked_of packet = record {
   source = record { 0 = (header_of packet).source };
   destination = record { 0 = (header_of packet).destination };
-  length = 20 + length (payload_of packet);
+  size = record { length = 20 + length (payload_of packet); unbroken = is_unbroken packet };
 }
 
 -- what is known of a frame whose packet the box may complain of: the packet is whole, and no fragment
 pub record IsWhole (bytes : List ℕ) : Type 0 where
   pub whole : 14 ≤ length bytes
-  pub short : length bytes ≤ LONGEST
+  pub short : length bytes ≤ LONGEST_WHOLE
   pub ipv4 : IsIpv4 (frame_of bytes).body
 
 -- what is known of a frame whose Echo is answered, and what its answer requires

@@ -5,8 +5,8 @@ use Rattle.nat_types.specs.declared.pairs.Key.{Key}
 use Rattle.frames.specs.Frame.{frame_of}
 use Rattle.ipv4.specs.declared.flows.Flow.{Flow}
 use Rattle.ipv4.specs.declared.packets.Packet.{Packet}
-use Rattle.ipv4.specs.Flow.{flow_of}
-use Rattle.ipv4.specs.Header.{header_of, payload_of}
+use Rattle.ipv4.specs.Flow.{flow_of, size_of}
+use Rattle.ipv4.specs.Header.{payload_of}
 use Rattle.ipv4.specs.Segment.{segment_of}
 use Rattle.icmp.specs.Packet.{error_flow}
 use Rattle.icmp.specs.declared.packets.ErrorFlow.{ErrorFlow}
@@ -21,7 +21,7 @@ abbrev pub packet_in : List ℕ → Packet
 packet_in bytes = let packet = (frame_of bytes).body in record {
   flow = flow_in bytes;
   flags = (segment_of (payload_of packet)).flags;
-  length = (header_of packet).total_length;
+  size = size_of packet;
 }
 
 -- the endpoint that a packet comes from
@@ -40,5 +40,5 @@ error_flow_in bytes = error_flow (frame_of bytes).body
 abbrev pub error_in : List ℕ → ErrorPacket
 error_in bytes = record {
   flow = error_flow_in bytes;
-  length = (header_of (frame_of bytes).body).total_length;
+  size = size_of (frame_of bytes).body;
 }

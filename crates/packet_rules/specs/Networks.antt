@@ -47,6 +47,7 @@ networks_of settings id = record {
     icmp = settings.icmp;
   };
   router = settings.router;
+  pass = false;
 }
 
 -- both own hardware addresses have six bytes

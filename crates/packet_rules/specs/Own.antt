@@ -1,9 +1,9 @@
 -- What the box sends of its own: the frame that answers an Echo to it, and the frame that complains of a packet that it
 -- drops (RFC 792; RFC 1812, section 4.3.2).
-use Rattle.std.specs.Prelude.{◌≡◌, ◌<◌, ℕ, Bool, false, not, ◌/◌, ◌%◌, ◌==◌, ◌&&◌, ◌||◌, Option, Some, None, List, ◌++◌, slice_index, Result, Ok, Err, if◌then◌else◌}
+use Rattle.std.specs.Prelude.{◌≡◌, ◌<◌, ℕ, Bool, false, not, ◌==◌, ◌&&◌, ◌||◌, Option, Some, None, List, ◌++◌, slice_index, Result, Ok, Err, if◌then◌else◌}
 use Rattle.addresses.specs.declared.ethernet.Mac.{Mac}
 use Rattle.frames.specs.Frame.{frame_of, header_bytes}
-use Rattle.ipv4.specs.Header.{header_of, payload_of}
+use Rattle.ipv4.specs.Header.{header_of, is_unbroken, payload_of}
 use Rattle.icmp.specs.Own.{reply_packet, exceeded_packet, too_long_packet}
 use Rattle.icmp.specs.declared.errors.TheConstants.{PROTOCOL}
 use Rattle.nat_types.specs.declared.gateways.Side.{Side}
@@ -60,10 +60,6 @@ is_told networks side packet =
     && (not (is_any_error packet)
     && (may_answer networks side (header_of packet).source
     && is_to_host networks (header_of packet).destination))
-
--- the flag Don't Fragment (RFC 791, section 3.1)
-unfoldable pub is_unbroken : List ℕ → Bool
-is_unbroken packet = (header_of packet).flags_word / 0x4000 % 2 == 1
 
 -- the side at which a packet of this way would leave; nothing tests the length of a packet without a way, so any side
 -- would do

@@ -21,7 +21,7 @@ use Rattle.packet_rules.specs.declared.reasons.Reason.TheVariants.{ShortFrame, N
 use Rattle.packet_rules.specs.declared.readings.Reading.{Reading}
 use Rattle.packet_rules.specs.declared.readings.Reading.TheVariants.{Arp, Advert, Packet, Error, Asked}
 use Rattle.packet_rules.specs.declared.networks.Network.{Network}
-use Rattle.frames.specs.declared.ethernet.TheConstants.{LONGEST}
+use Rattle.frames.specs.declared.ethernet.TheConstants.{LONGEST, LONGEST_WHOLE}
 use Rattle.packet_rules.specs.Asked.{IsAskable, asked_of, is_asked}
 use Rattle.packet_rules.specs.Flows.{error_in, packet_in}
 use Rattle.packet_rules.specs.Networks.{is_addressed, is_virtual}
@@ -47,10 +47,14 @@ reason_of_icmp NotQuery = NotUdpTcp
 reason_of_icmp BadQuery = BadTransport
 reason_of_icmp NotAsked = NotUdpTcp
 
--- 1. a frame has 14 to 1,514 bytes
+-- 1. a frame that comes in has at most 1,514 bytes
+unfoldable pub length_refusal : List ℕ → Option Reason
+length_refusal bytes = (if nat_le (length bytes) LONGEST then None else Some ShortFrame)
+
+-- a whole frame has 14 to 65,549 bytes
 unfoldable pub size_refusal : List ℕ → Option Reason
 size_refusal bytes =
-    (if nat_le 14 (length bytes) && nat_le (length bytes) LONGEST then None
+    (if nat_le 14 (length bytes) && nat_le (length bytes) LONGEST_WHOLE then None
     else Some ShortFrame)
 
 -- 1. the gateway is up
@@ -181,8 +185,8 @@ body_reading side network active frame =
     (if frame.ethertype == 2054 then arp_reading frame.body
     else ipv4_reading side network active frame)
 
--- what a frame is read as that came in at this side, by a gateway that is up or not, at an interface
--- that is Active or not; or the reason of the first step that refuses it
+-- what a whole frame is read as that is of this side, by a gateway that is up or not, at an interface that is Active or
+-- not; or the reason of the first step that refuses it
 abbrev pub reading_of : Side → Network → Bool → Bool → List ℕ → Result Reading Reason
 reading_of side network active up bytes =
     let frame = frame_of bytes in
@@ -190,6 +194,11 @@ reading_of side network active up bytes =
     unless (up_refusal up) (
     unless (destination_refusal network active frame) (
     body_reading side network active frame)))
+
+-- the same of a frame that comes in
+abbrev pub arrival_of : Side → Network → Bool → Bool → List ℕ → Result Reading Reason
+arrival_of side network active up bytes =
+    unless (length_refusal bytes) (reading_of side network active up bytes)
 
 -- where the packet of a frame that came in at this side is a query, the query is of the side's kind
 abbrev pub IsOfSide : Side → List ℕ → Type 0
@@ -201,7 +210,7 @@ IsOfSide side bytes =
 -- what is known of a frame whose packet passes, and what a translation requires
 pub record IsForwardable (bytes : List ℕ) : Type 0 where
   pub whole : 14 ≤ length bytes
-  pub short : length bytes ≤ LONGEST
+  pub short : length bytes ≤ LONGEST_WHOLE
   pub ipv4 : IsIpv4 (frame_of bytes).body
   pub translatable : IsTranslatable (frame_of bytes).body
   pub ttl : 2 ≤ (header_of (frame_of bytes).body).ttl
@@ -209,7 +218,7 @@ pub record IsForwardable (bytes : List ℕ) : Type 0 where
 -- what is known of a frame whose error passes, and what its passing on requires
 pub record IsPassable (bytes : List ℕ) : Type 0 where
   pub whole : 14 ≤ length bytes
-  pub short : length bytes ≤ LONGEST
+  pub short : length bytes ≤ LONGEST_WHOLE
   pub ipv4 : IsIpv4 (frame_of bytes).body
   pub error : IsErrorPacket (frame_of bytes).body
   pub ttl : 2 ≤ (header_of (frame_of bytes).body).ttl

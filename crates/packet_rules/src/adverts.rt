@@ -9,11 +9,10 @@ ghost use Rattle.packet_rules.specs.Networks.{vrrp_mac};
 ghost use Rattle.packet_rules.specs.Arping.{virtual_of, gratuitous_frame};
 ghost use Rattle.packet_rules.specs.Adverts.{own_advert, advert_header as header_of, advert_frame};
 
-use crate::appending::append_reserved;
 use crate::networks::Network;
 use addresses::{Ip, Mac};
 use arp::ARP_FRAME;
-use frames::{EtherType, write_header};
+use frames::{EtherType, append_reserved, write_header};
 use vrrp_packet::{Advert, PROTOCOL};
 
 /// Returns an advertisement's IPv4 header with this checksum.

@@ -3,10 +3,10 @@ ghost use Rattle.std.specs.Prelude.{◌≡◌, ◌≤◌, ◌+◌, ◌++◌, vec
 ghost use Rattle.arp.specs.declared.packets.TheConstants.{ARP_FRAME};
 ghost use Rattle.packet_rules.specs.Arping.{is_learnable, mac_here, answer_to, answer_frame, request_frame};
 
-use crate::appending::append_reserved;
 use crate::networks::Network;
 use addresses::{Ip, Mac};
 use arp::{ARP_FRAME, ArpPacket, Interface, Neighbour, Operation};
+use frames::append_reserved;
 
 /// Whether an interface learns the sender of an ARP packet as a neighbour.
 pub fn is_learnt(network: &Network, packet: &ArpPacket) -> bool

@@ -1,6 +1,6 @@
 //! Echos to the gateway itself (RFC 1122, section 3.2.2.6): which packets they are, and the frame that
 //! answers one.
-ghost use Rattle.std.specs.Prelude.{◌≡◌, ◌≤◌, ◌+◌, ◌++◌, length, take, drop, vec_len, vec_capacity};
+ghost use Rattle.std.specs.Prelude.{◌≡◌, ◌≤◌, ◌+◌, ◌++◌, length, drop, vec_len, vec_capacity};
 ghost use Rattle.frames.specs.Frame.{frame_of, header_bytes};
 ghost use Rattle.ipv4.specs.Header.{payload_of};
 ghost use Rattle.icmp.specs.Ask.{IsAsk};
@@ -8,12 +8,11 @@ ghost use Rattle.packet_rules.specs.Asked.{IsAskable, IsWhole, asked_of, is_aske
 ghost use Rattle.packet_rules.specs.Own.{answer_frame, answer_packet, own_frame};
 
 use crate::Asked;
-use crate::appending::append_reserved;
 use crate::networks::{Network, is_to_virtual};
 use addresses::Mac;
-use frames::{EthView, EtherType, write_header};
+use frames::{EthView, EtherType, append_reserved, write_header};
 use icmp::AskView;
-use ipv4::Ipv4View;
+use ipv4::{Ipv4View, Size};
 
 /// Whether a packet is for the gateway itself, by the address and the hardware address that it goes to.
 #[tactic(auto, unfolding(crate::specs::Asked::is_to_box))]
@@ -63,7 +62,10 @@ pub(crate) fn asked(packet: &Ipv4View<'_>) -> Asked
     Asked {
         source: packet.source(),
         destination: packet.destination(),
-        length: 20 + packet.payload().len(),
+        size: Size {
+            length: 20 + packet.payload().len(),
+            unbroken: packet.is_unbroken(),
+        },
     }
 }
 
@@ -105,17 +107,19 @@ pub(crate) fn own_header(network: &Network, next_mac: Mac) -> [u8; 14]
     header
 }
 
-/// Writes the packet that answers the Echo of a frame, and returns its length in bytes.
+/// Appends the packet that answers the Echo of a frame to a list with capacity for as many bytes as the frame has after
+/// its Ethernet header.
 #[tactic(auto, unfolding(crate::specs::Own::answer_packet))]
-fn write_answer(bytes: &[u8], out: &mut [u8; 1500]) -> usize
-    requires { IsAskable bytes.now }
-    ensures bytes { take result out.new ≡ answer_packet (frame_of bytes.now).body }
-    ensures fits { 14 + result ≤ length bytes.now }
-    ensures room { result ≤ 1500 }
+fn append_reply_to(list: &mut Vec<u8>, bytes: &[u8])
+    requires room { vec_len list.old + length bytes.now ≤ vec_capacity list.old + 14 }
+    requires askable { IsAskable bytes.now }
+    ensures items { list.new.items ≡ list.old.items ++ answer_packet (frame_of bytes.now).body }
+    ensures len { vec_len list.new + 14 ≤ vec_len list.old + length bytes.now }
+    ensures capacity { vec_capacity list.old ≤ vec_capacity list.new }
 {
     let packet = packet_of(bytes);
     let ask = ask_of(&packet);
-    icmp::reply(&ask, packet.destination(), packet.source(), out)
+    icmp::append_reply(list, &ask, packet.destination(), packet.source());
 }
 
 /// Appends the frame that answers the Echo of the received frame `bytes` to a list with capacity for as many bytes as
@@ -129,8 +133,6 @@ pub fn append_echo_reply(list: &mut Vec<u8>, network: &Network, next_mac: Mac, b
     ensures len { vec_len list.new ≤ vec_len list.old + length bytes.now }
     ensures capacity { vec_capacity list.old ≤ vec_capacity list.new }
 {
-    let mut packet = [0; 1500];
-    let count = write_answer(bytes, &mut packet);
     append_reserved(list, &own_header(network, next_mac));
-    append_reserved(list, &packet[..count]);
+    append_reply_to(list, bytes);
 }

@@ -1,18 +1,16 @@
 //! The ICMP errors that the gateway sends about packets that it drops: Time Exceeded and Fragmentation Needed (RFC
 //! 1812, sections 4.3.2 and 5.3.1; RFC 1191).
-ghost use Rattle.std.specs.Prelude.{◌≡◌, ◌≤◌, ◌+◌, ◌++◌, slice_index, take, vec_len, vec_capacity};
+ghost use Rattle.std.specs.Prelude.{◌≡◌, ◌≤◌, ◌+◌, ◌++◌, slice_index, vec_len, vec_capacity};
 ghost use Rattle.frames.specs.Frame.{frame_of};
-ghost use Rattle.icmp.specs.Own.{exceeded_packet, too_long_packet};
-ghost use Rattle.ipv4.specs.Header.{header_of};
 ghost use Rattle.packet_rules.specs.Asked.{IsWhole};
-ghost use Rattle.packet_rules.specs.Own.{complaint_about, complaint_frame, complaint_of, complaint_packet, exit_for, is_any_error, is_told, is_to_host, is_unbroken, own_frame};
+ghost use Rattle.packet_rules.specs.Own.{complaint_about, complaint_frame, complaint_of, complaint_packet, exit_for, is_any_error, is_told, is_to_host, own_frame};
 
 use crate::Reason;
 use crate::answering::{is_broadcast, may_answer, mtu_at};
-use crate::appending::append_reserved;
 use crate::asking::{own_header, packet_of};
 use crate::networks::{Direction, Network, Networks, is_martian};
 use addresses::{Ip, Mac};
+use frames::append_reserved;
 use ipv4::Ipv4View;
 use nat_types::Side;
 
@@ -69,14 +67,6 @@ fn is_told(networks: &Networks, side: Side, packet: &Ipv4View<'_>) -> bool
         && is_to_host(networks, packet.destination())
 }
 
-/// Whether a packet has the flag Don't Fragment.
-#[tactic(auto, unfolding(crate::specs::Own::is_unbroken))]
-fn is_unbroken(packet: &Ipv4View<'_>) -> bool
-    ensures { result ≡ is_unbroken packet.now.bytes.now }
-{
-    packet.flags_word() / 0x4000 % 2 == 1
-}
-
 #[tactic(auto, unfolding(crate::specs::Own::complaint_about))]
 fn complaint_about(mtu: u16, reason: Reason, packet: &Ipv4View<'_>) -> Option<Complaint>
     ensures { result ≡ complaint_about mtu reason packet.now.bytes.now }
@@ -84,7 +74,7 @@ fn complaint_about(mtu: u16, reason: Reason, packet: &Ipv4View<'_>) -> Option<Co
     match reason {
         Reason::TtlOver => Some(Complaint::Exceeded),
         Reason::TooLong => {
-            if is_unbroken(packet) {
+            if packet.is_unbroken() {
                 Some(Complaint::TooBig(mtu))
             } else {
                 None
@@ -126,39 +116,23 @@ pub fn complaint_of(
     }
 }
 
-/// Writes a Time Exceeded about a packet, and returns its length in bytes.
-fn write_exceeded(network: &Network, packet: &Ipv4View<'_>, out: &mut [u8; 576]) -> usize
-    ensures bytes { take result out.new ≡ exceeded_packet packet.now.bytes.now
-        network.now.own_ip.0 (header_of packet.now.bytes.now).source }
-    ensures room { result ≤ 576 }
-{
-    icmp::exceeded(packet, network.own_ip, packet.source(), out)
-}
-
-/// Writes a Fragmentation Needed about a packet, and returns its length in bytes.
-fn write_too_big(network: &Network, mtu: u16, packet: &Ipv4View<'_>, out: &mut [u8; 576]) -> usize
-    ensures bytes { take result out.new ≡ too_long_packet packet.now.bytes.now mtu
-        network.now.own_ip.0 (header_of packet.now.bytes.now).source }
-    ensures room { result ≤ 576 }
-{
-    icmp::too_long(packet, mtu, network.own_ip, packet.source(), out)
-}
-
-/// Writes the ICMP error about a packet that `complaint` names, and returns its length in bytes.
-#[tactic(auto, unfolding(crate::specs::Own::complaint_packet))]
-fn write_complaint(
+/// Appends the ICMP error about a packet that `complaint` names to a list with capacity for 576 bytes.
+fn append_complaint_about(
+    list: &mut Vec<u8>,
     network: &Network,
     complaint: Complaint,
     packet: &Ipv4View<'_>,
-    out: &mut [u8; 576],
-) -> usize
-    ensures bytes { take result out.new
-        ≡ complaint_packet network.now complaint packet.now.bytes.now }
-    ensures room { result ≤ 576 }
+)
+    requires room { vec_len list.old + 576 ≤ vec_capacity list.old }
+    ensures items { list.new.items
+        ≡ list.old.items ++ complaint_packet network.now complaint packet.now.bytes.now }
+    ensures len { vec_len list.new ≤ vec_len list.old + 576 }
+    ensures capacity { vec_capacity list.old ≤ vec_capacity list.new }
 {
+    let (from, to) = (network.own_ip, packet.source());
     match complaint {
-        Complaint::Exceeded => write_exceeded(network, packet, out),
-        Complaint::TooBig(mtu) => write_too_big(network, mtu, packet, out),
+        Complaint::Exceeded => icmp::append_exceeded(list, packet, from, to),
+        Complaint::TooBig(mtu) => icmp::append_too_long(list, packet, mtu, from, to),
     }
 }
 
@@ -178,8 +152,7 @@ pub fn append_complaint(
     ensures len { vec_len list.new ≤ vec_len list.old + 590 }
     ensures capacity { vec_capacity list.old ≤ vec_capacity list.new }
 {
-    let mut packet = [0; 576];
-    let count = write_complaint(network, complaint, &packet_of(bytes), &mut packet);
+    let packet = packet_of(bytes);
     append_reserved(list, &own_header(network, next_mac));
-    append_reserved(list, &packet[..count]);
+    append_complaint_about(list, network, complaint, &packet);
 }

@@ -11,10 +11,10 @@ ghost use Rattle.packet_rules.specs.Steps.{IsPassable};
 ghost use Rattle.rewrite.specs.PassedOn.{error_from, error_to};
 
 use crate::Reason;
-use crate::appending::append_reserved;
 use crate::networks::{Direction, Networks, direction_taken};
 use crate::translations::{Translation, inside_address, inside_port, outside_port, readdress};
 use addresses::{Ip, Mac, Port};
+use frames::append_reserved;
 use icmp::{ErrorFlow, ErrorPacket};
 use ipv4::Flow;
 use nat_types::{Endpoint, Key, Side};
@@ -214,5 +214,5 @@ pub fn append_passed(
     let start = list.len();
     append_reserved(list, bytes);
     pass_tail(list, start, packet.flow, networks, translation, next_mac);
-    list.truncate(start + (14 + packet.length));
+    list.truncate(start + (14 + packet.size.length));
 }

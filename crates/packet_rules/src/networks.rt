@@ -31,12 +31,14 @@ impl Network {
     }
 }
 
-/// A gateway's two networks, and the router on the outside one.
+/// A gateway's two networks, the router on the outside one, and whether packets are cut.
 #[derive(Clone, Copy, Debug, PartialEq, Eq)]
 pub struct Networks {
     pub inside: Network,
     pub outside: Network,
     pub router: Ip,
+    /// Whether the gateway cuts packets into fragments that are too long for the side at which they leave.
+    pub pass: bool,
 }
 
 /// The way of a packet through the gateway.
@@ -112,6 +114,7 @@ fn networks_at(settings: &Settings, id: GatewayId) -> Networks
             icmp: settings.icmp,
         },
         router: settings.router,
+        pass: false,
     }
 }
 

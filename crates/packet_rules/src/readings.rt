@@ -2,7 +2,7 @@
 use addresses::Ip;
 use arp::ArpPacket;
 use icmp::ErrorPacket;
-use ipv4::Packet;
+use ipv4::{Packet, Size};
 use vrrp_packet::Advert;
 
 /// The content of a frame that passes the first steps.
@@ -13,12 +13,11 @@ pub enum Reading {
     /// An advertisement of the interface's virtual router, and the primary address that it comes
     /// from (RFC 9568).
     Advert(Advert, Ip),
-    /// A UDP or TCP packet or an ICMP query to be translated: its flow, its TCP flags and its total
-    /// length.
+    /// A UDP or TCP packet or an ICMP query to be translated: its flow, its TCP flags and its size.
     Packet(Packet),
-    /// An ICMP error about such a packet (RFC 792): its flow and its total length.
+    /// An ICMP error about such a packet (RFC 792): its flow and its size.
     Error(ErrorPacket),
-    /// An Echo to the gateway itself (RFC 792): its addresses and the length of its answer.
+    /// An Echo to the gateway itself (RFC 792): its addresses and the size of its answer.
     Asked(Asked),
 }
 
@@ -29,6 +28,6 @@ pub struct Asked {
     pub source: Ip,
     /// The gateway's address to which the Echo goes.
     pub destination: Ip,
-    /// The length of the IPv4 packet that answers the Echo, in bytes.
-    pub length: usize,
+    /// The size of the IPv4 packet that answers the Echo. It may be cut into fragments where the Echo may.
+    pub size: Size,
 }

@@ -2,13 +2,13 @@
 ghost use Rattle.std.specs.Prelude.{◌≡◌, ◌≤◌, IfOk, IfErr, OnOk, length};
 ghost use Rattle.std.specs.Result.{result_err};
 ghost use Rattle.frames.specs.Frame.{frame_of};
-ghost use Rattle.frames.specs.declared.ethernet.TheConstants.{LONGEST};
+ghost use Rattle.frames.specs.declared.ethernet.TheConstants.{LONGEST_WHOLE};
 ghost use Rattle.ipv4.specs.Header.{IsIpv4, header_of};
 ghost use Rattle.ipv4.specs.Flow.{packet_of};
 ghost use Rattle.icmp.specs.Packet.{IsErrorPacket, error_packet_of};
 ghost use Rattle.packet_rules.specs.Asked.{IsWhole};
 ghost use Rattle.packet_rules.specs.declared.reasons.Reason.TheVariants.{TtlOver};
-ghost use Rattle.packet_rules.specs.Steps.{reason_of, reason_of_icmp, size_refusal, destination_refusal, header_refusal, virtual_refusal, transport_refusal, query_refusal, error_refusal, about_refusal, ttl_refusal, is_vrrp, is_from_peer, arp_reading, advert_reading, transport_reading, query_reading, error_reading, icmp_reading, packet_reading, other_reading, ipv4_reading, body_reading, reading_of, Carries};
+ghost use Rattle.packet_rules.specs.Steps.{reason_of, reason_of_icmp, size_refusal, length_refusal, destination_refusal, header_refusal, virtual_refusal, transport_refusal, query_refusal, error_refusal, about_refusal, ttl_refusal, is_vrrp, is_from_peer, arp_reading, advert_reading, transport_reading, query_reading, error_reading, icmp_reading, packet_reading, other_reading, ipv4_reading, body_reading, reading_of, arrival_of, Carries};
 
 use crate::asking::{asked, is_asked};
 use crate::laws::readings_law;
@@ -51,10 +51,10 @@ fn reason_for_icmp(fault: IcmpFault) -> Reason
 #[inline(always)]
 fn view_frame(bytes: &[u8]) -> Result<EthView<'_>, Reason>
     ensures refusal { result_err result ≡ size_refusal bytes.now }
-    ensures short { OnOk result (length bytes.now ≤ LONGEST) }
+    ensures short { OnOk result (length bytes.now ≤ LONGEST_WHOLE) }
     ensures bytes { IfOk result (λ v. v.bytes.now ≡ bytes.now) }
 {
-    if bytes.len() > frames::LONGEST {
+    if bytes.len() > frames::LONGEST_WHOLE {
         return Err(Reason::ShortFrame);
     }
     match EthView::parse(bytes) {
@@ -307,8 +307,29 @@ fn read_ipv4(
 
 /// Reads a frame that came in on a side's network, at an interface that is `active` or not, by a gateway that is `up`
 /// or not. An Err has the reason of the first step that refuses the frame.
+#[tactic(auto, unfolding(crate::specs::Steps::length_refusal))]
 #[inline(always)]
 pub fn read_frame(
+    side: Side,
+    network: &Network,
+    active: bool,
+    up: bool,
+    bytes: &[u8],
+) -> Result<Reading, Reason>
+    ensures reading { result ≡ arrival_of side network.now active up bytes.now }
+    ensures short { OnOk result (length bytes.now ≤ 1514) }
+    ensures carries { IfOk result (Carries side bytes.now) }
+    ensures over { IfErr result (λ reason. reason ≡ TtlOver → IsWhole bytes.now) }
+{
+    if bytes.len() > frames::LONGEST {
+        return Err(Reason::ShortFrame);
+    }
+    read_whole(side, network, active, up, bytes)
+}
+
+/// Reads a frame that is at hand, of up to 65,549 bytes, as [`read_frame`] does one that comes in.
+#[inline(always)]
+pub fn read_whole(
     side: Side,
     network: &Network,
     active: bool,

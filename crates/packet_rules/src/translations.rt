@@ -8,10 +8,9 @@ ghost use Rattle.packet_rules.specs.Steps.{IsForwardable};
 ghost use Rattle.packet_rules.specs.Flows.{packet_in};
 ghost use Rattle.packet_rules.specs.Frames.{way_of, new_flow, translated_by, hop_of, sent_header, sent_frame};
 
-use crate::appending::append_reserved;
 use crate::networks::{Direction, Networks, next_hop_outside};
 use addresses::{Ip, Mac, Port};
-use frames::{EtherType, write_header};
+use frames::{EtherType, append_reserved, write_header};
 use ipv4::{Flow, Packet};
 use nat_types::Pair;
 
@@ -219,5 +218,5 @@ pub fn append_sent(
     let start = list.len();
     append_reserved(list, bytes);
     translate_tail(list, start, packet.flow, networks, translation, next_mac);
-    list.truncate(start + (14 + packet.length));
+    list.truncate(start + (14 + packet.size.length));
 }

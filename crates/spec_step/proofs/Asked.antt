@@ -8,6 +8,7 @@ use Rattle.addresses.specs.declared.transport.Port.{Port}
 use Rattle.nat_types.specs.declared.gateways.Side.{Side}
 use Rattle.nat_types.specs.declared.pairs.Pair.{Pair}
 use Rattle.ipv4.specs.declared.flows.Flow.{Flow}
+use Rattle.ipv4.specs.declared.packets.Size.{Size}
 use Rattle.spec_binding.specs.declared.changes.Want.{Want}
 use Rattle.spec_binding.specs.declared.changes.Want.TheVariants as want
 use Rattle.spec_binding.specs.Rows.{new_pair}
@@ -79,10 +80,10 @@ module _ (g : Shown) (side : Side) (flow : Flow) where
       at (Ok p) target = from-says (λ own. Hairpin own p) (look_for g flow) refl (λ port is. (there, ((port, (is, refl)), target)))
       at (Err reason) target = tt
 
-  pub plan-says : (length : ℕ) → PlanSays g side flow (plan_of g side flow length)
-  plan-says length = at (direction_of g.networks side flow.protocol flow.source.0 flow.destination.0) refl
+  pub plan-says : (size : Size) → PlanSays g side flow (plan_of g side flow size)
+  plan-says size = at (direction_of g.networks side flow.protocol flow.source.0 flow.destination.0) refl
     where
       at : (r : Result Direction Reason) → direction_of g.networks side flow.protocol flow.source.0 flow.destination.0 ≡ r
-          → PlanSays g side flow (and_then r (λ way. and_then (plan_on g flow way) (if_fits (fits_at g (exit_of way) length))))
-      at (Ok w) there = fitted (PlanSays g side flow) tt (fits_at g (exit_of w) length) (plan_on g flow w) (on-says w there)
+          → PlanSays g side flow (and_then r (λ way. and_then (plan_on g flow way) (if_fits (fits_at g (exit_of way) size))))
+      at (Ok w) there = fitted (PlanSays g side flow) tt (fits_at g (exit_of w) size) (plan_on g flow w) (on-says w there)
       at (Err reason) there = tt

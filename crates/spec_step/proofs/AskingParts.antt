@@ -50,7 +50,7 @@ use Rattle.spec_step.specs.declared.plans.Plan.{Plan}
 use Rattle.spec_step.specs.declared.plans.Plan.TheVariants.{Send, Ask, AskAgain, Wait as WaitFor}
 use Rattle.spec_step.specs.Others.{Asking, Cause, Drops, IsBack, IsDue, IsEcho, IsHost, IsNew, IsNextHop, IsUnknown, MayGoBy, Sends, Waits, all_noted, firsts, hops_of, other_frames, packets_asked, requests, targets, waiting_by, within_limit, is_other}
 use Rattle.spec_step.specs.Machine.{AreBytes}
-use Rattle.spec_step.specs.Parts.{all_taken, asked_again, by_plan, by_verdict, carried_all, flags_in, flow_taken, framed, neighbour_asked, released, renewed_behind, request_by, retaken_by, taken_again, waiting, wanted_by, wanted_for, by_error_plan, by_error_verdict, error_taken, echo_taken, keeping, length_in, refused, sender_in}
+use Rattle.spec_step.specs.Parts.{all_taken, asked_again, by_plan, by_verdict, carried_all, flags_in, flow_taken, framed, neighbour_asked, released, renewed_behind, request_by, retaken_by, taken_again, waiting, wanted_by, wanted_for, by_error_plan, by_error_verdict, error_taken, echo_taken, keeping, size_in, refused, sender_in}
 use Rattle.spec_step.specs.Shown.{GatewayAndOutput, Shown, is_up, scene, station_on}
 use Rattle.spec_step.specs.Truly.{AreItsPairs, IsSetUp, AtHand, Known, known_of, near_on, packets_of}
 use Rattle.spec_step.specs.Verdict.{exit_by, hop_by, plan_of, reading_on, target_pair, error_hop, error_plan, hop_back, next_back}
@@ -271,7 +271,7 @@ sent-stations s bytes flow (Outward p) next = ((refl, refl), (refl, refl))
 sent-stations s bytes flow (Inward p) next = ((refl, refl), (refl, refl))
 sent-stations s bytes flow (Hairpin own other) next = ((refl, refl), (refl, refl))
 
-plan-asks : Frames → (s : GatewayAndOutput) (side : Side) (bytes : List ℕ) (flow : Flow) (plan : Plan) → IsRead s.shown side bytes flow → plan_of s.shown side flow (length_in bytes) ≡ Ok plan → PlanSays s.shown side flow (Ok plan)
+plan-asks : Frames → (s : GatewayAndOutput) (side : Side) (bytes : List ℕ) (flow : Flow) (plan : Plan) → IsRead s.shown side bytes flow → plan_of s.shown side flow (size_in bytes) ≡ Ok plan → PlanSays s.shown side flow (Ok plan)
     → Ask-on (at_hand side bytes ∷ []) nobody s (by_plan s side bytes flow plan)
 plan-asks frames s side bytes flow (Send by next) read plan says = λ w.
     let one = wanted_for s flow by in
@@ -282,7 +282,7 @@ plan-asks frames s side bytes flow (Send by next) read plan says = λ w.
     let x : Sent = record { side = exit_by by; bytes = frame } in
     let c = carried-leaves mid flow (flags_in bytes) by in
     let notes = q.notes ++ all_notes mid.shown by in
-    let planned = plan-sends s.shown side flow (length_in bytes) by next plan in
+    let planned = plan-sends s.shown side flow (size_in bytes) by next plan in
     let way = subst (λ (f : Flow). direction_of s.shown.networks side f.protocol f.source.0 f.destination.0 ≡ Ok (way_of by)) read.flow_is planned.way in
     let six = next-six s.shown flow by next w.0 planned.next_is in
     let is = sent-no_other s.shown.networks (exit_by by) frame (frames.own.sent s.shown.networks side by next bytes w.0.0.0 w.0.0.1.placed six read.passes read.of_side read.are way)
@@ -360,9 +360,9 @@ refused-asks frames s side exit bytes reason are =
     (λ r complaint next is there free. complaint-asks frames s side exit bytes r complaint next are is there) reason
 
 flow-asks : Frames → (s : GatewayAndOutput) (side : Side) (bytes : List ℕ) (flow : Flow) → IsRead s.shown side bytes flow → Ask-on (at_hand side bytes ∷ []) nobody s (flow_taken s side bytes flow)
-flow-asks frames s side bytes flow read = at (plan_of s.shown side flow (length_in bytes)) refl (plan-says s.shown side flow (length_in bytes))
+flow-asks frames s side bytes flow read = at (plan_of s.shown side flow (size_in bytes)) refl (plan-says s.shown side flow (size_in bytes))
   where
-    at : (r : Result Plan Reason) → plan_of s.shown side flow (length_in bytes) ≡ r → PlanSays s.shown side flow r → Ask-on (at_hand side bytes ∷ []) nobody s (by_verdict s side bytes flow r)
+    at : (r : Result Plan Reason) → plan_of s.shown side flow (size_in bytes) ≡ r → PlanSays s.shown side flow r → Ask-on (at_hand side bytes ∷ []) nobody s (by_verdict s side bytes flow r)
     at (Ok plan) is says = plan-asks frames s side bytes flow plan read is says
     at (Err reason) is says =
         refusal-leaves (λ x. Ask-on (at_hand side bytes ∷ []) nobody s x) s side bytes flow (nothing-asks (at_hand side bytes ∷ []) s)
@@ -449,7 +449,7 @@ error-plan-asks frames s side bytes flow (WaitFor e) read says = absurd says
 
 pub error-asks : Frames → (s : GatewayAndOutput) (side : Side) (bytes : List ℕ) (packet : ErrorPacket) → reading_on s.shown side bytes ≡ Ok (Error packet) → AreBytes bytes
     → Ask-on (at_hand side bytes ∷ []) nobody s (error_taken s side bytes packet.flow)
-error-asks frames s side bytes packet is are = by (error_plan s.shown side packet.flow (length_in bytes)) (error-says s.shown side packet.flow (length_in bytes))
+error-asks frames s side bytes packet is are = by (error_plan s.shown side packet.flow (size_in bytes)) (error-says s.shown side packet.flow (size_in bytes))
   where
     read : IsErrorRead s.shown bytes packet.flow
     read = let at = station_on s.shown side in

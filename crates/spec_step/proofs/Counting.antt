@@ -61,13 +61,13 @@ use Rattle.spec_step.specs.declared.events.Event.TheVariants.{Frame, Datagram as
 use Rattle.spec_step.specs.declared.plans.Plan.{Plan}
 use Rattle.spec_step.specs.declared.plans.Plan.TheVariants.{Send, Ask, AskAgain, Wait as WaitFor}
 use Rattle.spec_step.specs.Machine.{AreBytes, HasBytes}
-use Rattle.spec_step.specs.Parts.{all_framed, all_idle_done, all_taken, answered_by, arp_taken, asked_again, by_plan, by_row, by_verdict, carried_all, carried_by, datagram_in, datagram_read, flags_in, flow_taken, framed, frames_of, handed_in, has_synced, heard_by, heard_unless, idle_done, idle_taken, keeping, link_answered, link_ticked, neighbour_asked, old_dropped, record_done, record_shown, record_told, records_done, released, renewed_behind, request_by, reset, retaken_by, started, taken_again, wait_ended, waiting, wanted_by, wanted_for, with_link, word_taken, by_error_plan, by_error_verdict, error_taken, echo_taken, length_in, refused, all_sought_done, alone_taken, gone_alone, peer_told, sought_done}
+use Rattle.spec_step.specs.Parts.{all_framed, all_idle_done, all_taken, answered_by, arp_taken, asked_again, by_plan, by_row, by_verdict, carried_all, carried_by, datagram_in, datagram_read, flags_in, flow_taken, framed, frames_of, handed_in, has_synced, heard_by, heard_unless, idle_done, idle_taken, keeping, link_answered, link_ticked, neighbour_asked, old_dropped, record_done, record_shown, record_told, records_done, released, renewed_behind, request_by, reset, retaken_by, started, taken_again, wait_ended, waiting, wanted_by, wanted_for, with_link, word_taken, by_error_plan, by_error_verdict, error_taken, echo_taken, size_in, refused, all_sought_done, alone_taken, gone_alone, peer_told, sought_done}
 use Rattle.spec_step.specs.Rests.{most_notes}
 use Rattle.spec_step.specs.Shown.{GatewayAndOutput, Shown, id_of, is_apart, is_running, scene, station_on, with_notes, with_station}
 use Rattle.spec_step.specs.Routers.{BothAct, RouterActs}
 use Rattle.spec_step.specs.GivingWay.{GivingWay, left, turn_of}
 use Rattle.spec_step.specs.Steps.{Does, FrameDoes, IsStepOn, ended_on, ticked, word_by, word_refusal}
-use Rattle.spec_step.specs.Verdict.{exit_by, hop_by, plan_of, reading_on, error_hop, error_plan}
+use Rattle.spec_step.specs.Verdict.{arrival_on, exit_by, hop_by, plan_of, reading_on, error_hop, error_plan}
 use Rattle.spec_step.proofs.Turning.{back_as, turn-by}
 use Rattle.spec_step.proofs.WhileApart.{few-sought, idle-apart, idle-taken-few, tell-silent}
 use Rattle.spec_step.proofs.Own.{Said, echo-by, refusal-by, refused-by, said_scene}
@@ -215,7 +215,7 @@ verdict-adds s side bytes flow (Err reason) =
     (adds-fewer 1 0 3 1 s _ (omega arith) (omega arith) (wanted-adds s (source_of flow))) (said-adds s side) reason
 
 flow-adds : (s : GatewayAndOutput) (side : Side) (bytes : List ℕ) (flow : Flow) → Adds 3 1 s (flow_taken s side bytes flow)
-flow-adds s side bytes flow = verdict-adds s side bytes flow (plan_of s.shown side flow (length_in bytes))
+flow-adds s side bytes flow = verdict-adds s side bytes flow (plan_of s.shown side flow (size_in bytes))
 
 -- ---- an error
 
@@ -232,7 +232,7 @@ error-plan-adds s side bytes flow (WaitFor e) = adds-fewer 0 0 3 1 s s (omega ar
 
 -- an error notes nothing, and at most it itself is kept
 error-adds : (s : GatewayAndOutput) (side : Side) (bytes : List ℕ) (flow : ErrorFlow) → Adds 3 1 s (error_taken s side bytes flow)
-error-adds s side bytes flow = at (error_plan s.shown side flow (length_in bytes))
+error-adds s side bytes flow = at (error_plan s.shown side flow (size_in bytes))
   where
     at : (r : Result Plan Reason) → Adds 3 1 s (by_error_verdict s side bytes flow r)
     at (Ok plan) = error-plan-adds s side bytes flow plan
@@ -564,7 +564,7 @@ bounded s x done is same =
     omega (arith, few.0, ap (λ (z : GatewayAndOutput). length z.told.notes) same)
 
 does-few : (s : GatewayAndOutput) (event : Event) (done : GatewayAndOutput) → Does s event done → HasBytes event → length done.told.notes ≤ length s.told.notes + most_notes s.shown
-does-few s (Frame side bytes) done does has = at (reading_on s.shown side bytes.now) does
+does-few s (Frame side bytes) done does has = at (arrival_on s.shown side bytes.now) does
   where
     at : (r : Result Reading Reason) → FrameDoes s side bytes.now r done → length done.told.notes ≤ length s.told.notes + most_notes s.shown
     at (Ok (Arp p)) is =

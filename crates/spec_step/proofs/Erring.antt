@@ -13,6 +13,7 @@ use Rattle.nat_types.specs.declared.pairs.EntryState.TheVariants as state
 use Rattle.nat_types.specs.declared.pairs.Pair.{Pair}
 use Rattle.icmp.specs.declared.packets.ErrorFlow.{ErrorFlow}
 use Rattle.ipv4.specs.declared.flows.Flow.{Flow}
+use Rattle.ipv4.specs.declared.packets.Size.{Size}
 use Rattle.bindings.specs.declared.entries.Entry.{Entry}
 use Rattle.bindings.specs.Entries.{HasDistinctKeys, entry_of, slot_of, translates}
 use Rattle.bindings.proofs.Offered.{entry-serves, entry-slot}
@@ -90,11 +91,11 @@ module _ (g : Shown) (side : Side) (flow : ErrorFlow) where
       first (Ok other) out = second other out (pair_in_of g flow) refl
       first (Err reason) out = tt
 
-  pub error-says : (length : ℕ) → ErrorSays g side flow (error_plan g side flow length)
-  error-says length = at (error_direction g.networks side flow) refl
+  pub error-says : (size : Size) → ErrorSays g side flow (error_plan g side flow size)
+  error-says size = at (error_direction g.networks side flow) refl
     where
-      at : (r : Result Direction Reason) → error_direction g.networks side flow ≡ r → ErrorSays g side flow (and_then r (λ way. and_then (error_on g flow way) (if_fits (fits_at g (exit_of way) length))))
-      at (Ok w) there = fitted (ErrorSays g side flow) tt (fits_at g (exit_of w) length) (error_on g flow w) (on-says w there)
+      at : (r : Result Direction Reason) → error_direction g.networks side flow ≡ r → ErrorSays g side flow (and_then r (λ way. and_then (error_on g flow way) (if_fits (fits_at g (exit_of way) size))))
+      at (Ok w) there = fitted (ErrorSays g side flow) tt (fits_at g (exit_of w) size) (error_on g flow w) (on-says w there)
       at (Err reason) there = tt
 
 -- a plan for an error is none to wait for a pair
@@ -105,8 +106,8 @@ told-waits g side flow (Ok (AskAgain by hop)) says e is = absurd (cc)
 told-waits g side flow (Ok (WaitFor other)) says e is = says
 told-waits g side flow (Err reason) says e is = absurd (cc)
 
-pub no-error-waits : (g : Shown) (side : Side) (flow : ErrorFlow) (length : ℕ) (e : Endpoint) → error_plan g side flow length ≢ Ok (WaitFor e)
-no-error-waits g side flow length e = told-waits g side flow (error_plan g side flow length) (error-says g side flow length) e
+pub no-error-waits : (g : Shown) (side : Side) (flow : ErrorFlow) (size : Size) (e : Endpoint) → error_plan g side flow size ≢ Ok (WaitFor e)
+no-error-waits g side flow size e = told-waits g side flow (error_plan g side flow size) (error-says g side flow size) e
 
 -- ---- the pairs that were found are those that the rules name
 

@@ -14,6 +14,7 @@ use Rattle.nat_types.specs.declared.pairs.Pair.{Pair}
 use Rattle.icmp.specs.declared.packets.ErrorFlow.{ErrorFlow}
 use Rattle.ipv4.specs.declared.flows.Flow.{Flow}
 use Rattle.ipv4.specs.declared.packets.Packet.{Packet as Datagram}
+use Rattle.ipv4.specs.declared.packets.Size.{Size}
 use Rattle.bindings.specs.declared.entries.Entry.{Entry}
 use Rattle.bindings.specs.Entries.{entry_in, entry_of, held_entry_of, translates}
 use Rattle.bindings.proofs.Offered.{entry-serves, entry-slot}
@@ -55,10 +56,11 @@ use Rattle.spec_step.specs.declared.plans.Reply.{Reply}
 use Rattle.spec_step.specs.declared.plans.Reply.TheVariants as reply
 use Rattle.spec_step.specs.GoingOn.{BeginsBy, GoesByOwn, HasAllPairs, HasNoPort, HaveErrorPairs, HavePairs, IsOwnWhereTwo, MayBegin, MayGoOn, MayPassOn, NeedsPair, NeedsPort, Translates}
 use Rattle.spec_step.specs.Shown.{Shown, is_apart, is_up, station_on}
-use Rattle.spec_step.specs.Verdict.{error_by, error_on, error_plan, exit_by, fits_at, hop_back, hop_to, if_fits, if_reply_fits, look_for, next_back, next_by, next_to, outcome_by, outcome_read, outcome_reply, pair_at, pair_in, pair_in_of, pair_out, plan_by, plan_from, plan_of, plan_on, plan_to, plan_via, reading_on, reply_to, reply_via, target_pair, verdict}
+use Rattle.spec_step.specs.Verdict.{arrival_on, error_by, error_on, error_plan, exit_by, fits_at, hop_back, hop_to, if_fits, if_reply_fits, look_for, next_back, next_by, next_to, outcome_by, outcome_read, outcome_reply, pair_at, pair_in, pair_in_of, pair_out, plan_by, plan_from, plan_of, plan_on, plan_to, plan_via, reply_to, reply_via, target_pair, verdict}
+use Rattle.spec_step.proofs.Arriving.{read-on}
 use Rattle.spec_step.proofs.Sends.{AreFound, IsOwn, plan-sends}
 use Rattle.spec_step.proofs.Translating.{pair-is}
-use Rattle.spec_step.proofs.Reasons.{IsFine, direction-fine, error-direction-fine, is_of_choice, reading-fine, reads-up, then-fine}
+use Rattle.spec_step.proofs.Reasons.{IsFine, direction-fine, error-direction-fine, is_of_choice, arrival-fine, reads-up, then-fine}
 
 -- ---- pairs that are found
 
@@ -136,19 +138,19 @@ up-synced : (synced stopped : Bool) → (synced && not stopped) ≡ true → syn
 up-synced true stopped is = refl
 up-synced false stopped is = absurd (cc)
 
-synced-reads : (g : Shown) (side : Side) (bytes : List ℕ) (r : Reading) → reading_on g side bytes ≡ Ok r → is_synced g.ledger.book.stage ≡ true
+synced-reads : (g : Shown) (side : Side) (bytes : List ℕ) (r : Reading) → arrival_on g side bytes ≡ Ok r → is_synced g.ledger.book.stage ≡ true
 synced-reads g side bytes r reads =
     let s = station_on g side in
-    up-synced (is_synced g.ledger.book.stage) g.stopped (reads-up side s.network (is_active s) (is_up g) bytes r reads)
+    up-synced (is_synced g.ledger.book.stage) g.stopped (reads-up side s.network (is_active s) (is_up g) bytes r (read-on g side bytes r reads))
 
 pub packet-sent : (g : Shown) (side : Side) (bytes : List ℕ) (by : Translation) → MayGoOn g side bytes by → verdict g side bytes ≡ Sent
 packet-sent g side bytes by may =
     let flow = may.packet.flow in
-    let length = may.packet.length in
-    let fits = fits_at g (exit_by by) length in
+    let size = may.packet.size in
+    let fits = fits_at g (exit_by by) size in
     let p = planned g flow by (synced-reads g side bytes (Packet may.packet) may.reads) may.pairs in
     ap (λ (r : Result Reading Reason). outcome_read g side r) may.reads
-    ∙ ap (λ (r : Result Direction Reason). outcome_by (and_then r (λ x. and_then (plan_on g flow x) (if_fits (fits_at g (exit_of x) length))))) may.way
+    ∙ ap (λ (r : Result Direction Reason). outcome_by (and_then r (λ x. and_then (plan_on g flow x) (if_fits (fits_at g (exit_of x) size))))) may.way
     ∙ ap (λ (r : Result Plan Reason). outcome_by (and_then r (if_fits fits))) p.plan
     ∙ hop-sends g p.taken flow.destination may.hop fits (p.next ∙ may.next) may.fits
 
@@ -209,10 +211,10 @@ error-planned g flow (Hairpin own other) pairs =
 pub error-sent : (g : Shown) (side : Side) (bytes : List ℕ) (by : Translation) → MayPassOn g side bytes by → verdict g side bytes ≡ Sent
 error-sent g side bytes by may =
     let flow = may.packet.flow in
-    let length = may.packet.length in
-    let fits = fits_at g (exit_by by) length in
+    let size = may.packet.size in
+    let fits = fits_at g (exit_by by) size in
     ap (λ (r : Result Reading Reason). outcome_read g side r) may.reads
-    ∙ ap (λ (r : Result Direction Reason). outcome_by (and_then r (λ x. and_then (error_on g flow x) (if_fits (fits_at g (exit_of x) length))))) may.way
+    ∙ ap (λ (r : Result Direction Reason). outcome_by (and_then r (λ x. and_then (error_on g flow x) (if_fits (fits_at g (exit_of x) size))))) may.way
     ∙ ap (λ (r : Result Plan Reason). outcome_by (and_then r (if_fits fits))) (error-planned g flow by may.pairs)
     ∙ hop-sends g by flow.destination may.hop fits may.next may.fits
 
@@ -258,10 +260,10 @@ fits-fine fits (AskAgain by hop) = tt
 fits-fine true (Wait endpoint) = tt
 fits-fine false (Wait endpoint) = refl
 
-error-plan-fine : (g : Shown) (side : Side) (flow : ErrorFlow) (length : ℕ) → IsFine (error_plan g side flow length)
-error-plan-fine g side flow length =
+error-plan-fine : (g : Shown) (side : Side) (flow : ErrorFlow) (size : Size) → IsFine (error_plan g side flow size)
+error-plan-fine g side flow size =
     then-fine (error_direction g.networks side flow) _ (error-direction-fine g.networks side flow)
-    (λ x. then-fine (error_on g flow x) _ (on x) (λ plan. fits-fine (fits_at g (exit_of x) length) plan))
+    (λ x. then-fine (error_on g flow x) _ (on x) (λ plan. fits-fine (fits_at g (exit_of x) size) plan))
   where
     on : (x : Direction) → IsFine (error_on g flow x)
     on way.Outward = then-fine (pair_in_of g flow) _ (pair-fine _) (λ p. via-fine g (Outward p) flow.destination)
@@ -286,8 +288,8 @@ reply-fits-fine fits (reply.AskAgain hop) = tt
 reply-fine : (g : Shown) (side : Side) (echo : Echo) → IsFine (reply_to g side echo)
 reply-fine g side echo = at (may_answer g.networks side echo.source.0) (may_reply g.moment (station_on g side).said)
   where
-    at : (answers replies : Bool) → IsFine (let r : Result Reply Reason = cond answers (cond replies (and_then (reply_via g side (hop_back g side echo.source) (next_back g side echo.source)) (if_reply_fits (fits_at g side echo.length))) (Err why.TooMany)) (Err why.NoBinding) in r)
-    at true true = then-fine (reply_via g side (hop_back g side echo.source) (next_back g side echo.source)) _ (reply-via-fine g side (hop_back g side echo.source) (next_back g side echo.source)) (λ plan. reply-fits-fine (fits_at g side echo.length) plan)
+    at : (answers replies : Bool) → IsFine (let r : Result Reply Reason = cond answers (cond replies (and_then (reply_via g side (hop_back g side echo.source) (next_back g side echo.source)) (if_reply_fits (fits_at g side echo.size))) (Err why.TooMany)) (Err why.NoBinding) in r)
+    at true true = then-fine (reply_via g side (hop_back g side echo.source) (next_back g side echo.source)) _ (reply-via-fine g side (hop_back g side echo.source) (next_back g side echo.source)) (λ plan. reply-fits-fine (fits_at g side echo.size) plan)
     at true false = refl
     at false replies = refl
 
@@ -332,7 +334,7 @@ on-refused g flow way.Hairpin r choice is = at (target_pair g flow) refl is
 -- the packet of a frame is refused so
 record FrameRefused (g : Shown) (side : Side) (bytes : List ℕ) (r : Reason) : Type 0 where
   packet : Datagram
-  reads : reading_on g side bytes ≡ Ok (Packet packet)
+  reads : arrival_on g side bytes ≡ Ok (Packet packet)
   path : Direction
   goes : direction_of g.networks side packet.flow.protocol packet.flow.source.0 packet.flow.destination.0 ≡ Ok path
   refused : Refused g packet.flow path r
@@ -344,15 +346,15 @@ fitted-refused g flow x fits r choice is = at (plan_on g flow x) refl is
     at (Ok plan) there fitted = absurd (clash (if_fits fits plan) r (fits-fine fits plan) fitted choice)
     at (Err reason) there fitted = on-refused g flow x r choice (there ∙ fitted)
 
-packet-refused : (g : Shown) (side : Side) (bytes : List ℕ) (packet : Datagram) (r : Reason) → is_of_choice r ≡ true → reading_on g side bytes ≡ Ok (Packet packet) → plan_of g side packet.flow packet.length ≡ Err r → FrameRefused g side bytes r
+packet-refused : (g : Shown) (side : Side) (bytes : List ℕ) (packet : Datagram) (r : Reason) → is_of_choice r ≡ true → arrival_on g side bytes ≡ Ok (Packet packet) → plan_of g side packet.flow packet.size ≡ Err r → FrameRefused g side bytes r
 packet-refused g side bytes packet r choice reads is = at (direction_of g.networks side flow.protocol flow.source.0 flow.destination.0) refl (direction-fine g.networks side flow.protocol flow.source.0 flow.destination.0) is
   where
     flow : Flow
     flow = packet.flow
 
     at : (o : Result Direction Reason) → direction_of g.networks side packet.flow.protocol packet.flow.source.0 packet.flow.destination.0 ≡ o → IsFine o
-        → and_then o (λ x. and_then (plan_on g packet.flow x) (if_fits (fits_at g (exit_of x) packet.length))) ≡ Err r → FrameRefused g side bytes r
-    at (Ok x) goes fine plan = record { packet = packet; reads = reads; path = x; goes = goes; refused = fitted-refused g packet.flow x (fits_at g (exit_of x) packet.length) r choice plan }
+        → and_then o (λ x. and_then (plan_on g packet.flow x) (if_fits (fits_at g (exit_of x) packet.size))) ≡ Err r → FrameRefused g side bytes r
+    at (Ok x) goes fine plan = record { packet = packet; reads = reads; path = x; goes = goes; refused = fitted-refused g packet.flow x (fits_at g (exit_of x) packet.size) r choice plan }
     at (Err reason) goes fine plan = absurd (clash (let y : Result Plan Reason = Err reason in y) r fine plan choice)
 
 outcome-refused : (p : Result Plan Reason) (r : Reason) → is_of_choice r ≡ true → outcome_by p ≡ Dropped r → p ≡ Err r
@@ -373,16 +375,16 @@ reply-refused (Ok (reply.AskAgain hop)) r choice is =
 reply-refused (Err reason) r choice is = let same : reason ≡ r = cc in ap Err same
 
 frame-refused : (g : Shown) (side : Side) (bytes : List ℕ) (r : Reason) → is_of_choice r ≡ true → verdict g side bytes ≡ Dropped r → FrameRefused g side bytes r
-frame-refused g side bytes r choice is = at (reading_on g side bytes) refl is
+frame-refused g side bytes r choice is = at (arrival_on g side bytes) refl is
   where
-    fine : IsFine (reading_on g side bytes)
-    fine = reading-fine side (station_on g side).network (is_active (station_on g side)) (is_up g) bytes
+    fine : IsFine (arrival_on g side bytes)
+    fine = arrival-fine side (station_on g side).network (is_active (station_on g side)) (is_up g) bytes
 
-    at : (o : Result Reading Reason) → reading_on g side bytes ≡ o → outcome_read g side o ≡ Dropped r → FrameRefused g side bytes r
+    at : (o : Result Reading Reason) → arrival_on g side bytes ≡ o → outcome_read g side o ≡ Dropped r → FrameRefused g side bytes r
     at (Ok (Arp p)) reads out = absurd (cc)
     at (Ok (Advert a from)) reads out = absurd (cc)
-    at (Ok (Packet packet)) reads out = packet-refused g side bytes packet r choice reads (outcome-refused (plan_of g side packet.flow packet.length) r choice out)
-    at (Ok (Error packet)) reads out = absurd (clash _ r (error-plan-fine g side packet.flow packet.length) (outcome-refused (error_plan g side packet.flow packet.length) r choice out) choice)
+    at (Ok (Packet packet)) reads out = packet-refused g side bytes packet r choice reads (outcome-refused (plan_of g side packet.flow packet.size) r choice out)
+    at (Ok (Error packet)) reads out = absurd (clash _ r (error-plan-fine g side packet.flow packet.size) (outcome-refused (error_plan g side packet.flow packet.size) r choice out) choice)
     at (Ok (Asked echo)) reads out = absurd (clash _ r (reply-fine g side echo) (reply-refused (reply_to g side echo) r choice out) choice)
     at (Err reason) reads out =
         let same : reason ≡ r = cc in
@@ -533,10 +535,10 @@ needs-refuses g flow way.Hairpin w r needs look refuses =
 
 chooses-refuses : (g : Shown) (side : Side) (bytes : List ℕ) (is : NeedsPort g side bytes) (w : Want) (r : Reason) → look_for g is.packet.flow ≡ w → ((by : Pair → Translation) → plan_from g is.packet.flow by w ≡ Err r) → verdict g side bytes ≡ Dropped r
 chooses-refuses g side bytes is w r look refuses =
-    let flow = is.packet.flow in let length = is.packet.length in
+    let flow = is.packet.flow in let size = is.packet.size in
     ap (λ (o : Result Reading Reason). outcome_read g side o) is.reads
-    ∙ ap (λ (o : Result Direction Reason). outcome_by (and_then o (λ x. and_then (plan_on g flow x) (if_fits (fits_at g (exit_of x) length))))) is.goes
-    ∙ ap (λ (o : Result Plan Reason). outcome_by (and_then o (if_fits (fits_at g (exit_of is.way) length)))) (needs-refuses g flow is.way w r is.needs look refuses)
+    ∙ ap (λ (o : Result Direction Reason). outcome_by (and_then o (λ x. and_then (plan_on g flow x) (if_fits (fits_at g (exit_of x) size))))) is.goes
+    ∙ ap (λ (o : Result Plan Reason). outcome_by (and_then o (if_fits (fits_at g (exit_of is.way) size)))) (needs-refuses g flow is.way w r is.needs look refuses)
 
 -- a synced gateway answers the wish of an endpoint without a pair as unknown_wish says
 look-none : (g : Shown) (side : Side) (bytes : List ℕ) (is : NeedsPort g side bytes) → look_for g is.packet.flow ≡ (unknown_wish g.ledger.book (is_apart g) (is_full g.link) (source_of is.packet.flow)).answer
@@ -598,8 +600,8 @@ own-first g flow p book own = λ x is.
     pair-is x.pair e own.0 serving (ap (λ (q : Endpoint). q.protocol) (sym serving) ∙ formed.protocol) at ∙ sym own.1.1
 
 -- of two pairs of its source a packet that is sent goes out by the own one
-pub sent-by-own : (g : Shown) (side : Side) (flow : Flow) (length : ℕ) (by : Translation) (next : Mac) → IsBook g.ledger.book → plan_of g side flow length ≡ Ok (Send by next) → GoesByOwn g flow by
-sent-by-own g side flow length by next book is = at by (plan-sends g side flow length by next is).pairs
+pub sent-by-own : (g : Shown) (side : Side) (flow : Flow) (size : Size) (by : Translation) (next : Mac) → IsBook g.ledger.book → plan_of g side flow size ≡ Ok (Send by next) → GoesByOwn g flow by
+sent-by-own g side flow size by next book is = at by (plan-sends g side flow size by next is).pairs
   where
     at : (by : Translation) → AreFound g flow by → GoesByOwn g flow by
     at (Outward p) found = own-first g flow p book found

@@ -16,7 +16,7 @@ use Rattle.interfaces.specs.declared.tallies.Tally.{Tally}
 use Rattle.packet_rules.specs.Errors.{passed_frame}
 use Rattle.spec_step.specs.declared.plans.Plan.{Plan}
 use Rattle.spec_step.specs.declared.plans.Plan.TheVariants.{Send, Ask, AskAgain, Wait as WaitFor}
-use Rattle.spec_step.specs.Parts.{asked_again, by_error_plan, by_error_verdict, by_verdict, echo_taken, error_taken, flow_taken, framed, length_in, neighbour_asked, refused, renewed_behind, request_by}
+use Rattle.spec_step.specs.Parts.{asked_again, by_error_plan, by_error_verdict, by_verdict, echo_taken, error_taken, flow_taken, framed, size_in, neighbour_asked, refused, renewed_behind, request_by}
 use Rattle.spec_step.specs.PassedOn.{ChangesLittle, LeavesPairs}
 use Rattle.spec_step.specs.Truly.{Known, known_of}
 use Rattle.spec_step.specs.Shown.{GatewayAndOutput, scene, station_on}
@@ -53,7 +53,7 @@ plan-leaves s side bytes flow (AskAgain by hop) = again-leaves s (exit_by by) ho
 plan-leaves s side bytes flow (WaitFor e) = here s
 
 pub error-leaves : (s : GatewayAndOutput) (side : Side) (bytes : List ℕ) (flow : ErrorFlow) → LeavesPairs s (error_taken s side bytes flow)
-error-leaves s side bytes flow = at (error_plan s.shown side flow (length_in bytes))
+error-leaves s side bytes flow = at (error_plan s.shown side flow (size_in bytes))
   where
     at : (r : Result Plan Reason) → LeavesPairs s (by_error_verdict s side bytes flow r)
     at (Ok plan) = plan-leaves s side bytes flow plan
@@ -112,5 +112,5 @@ said-changes s side = λ frame tally hop. at side frame tally hop (asks_at hop.0
 pub refused-changes : (s : GatewayAndOutput) (side exit : Side) (bytes : List ℕ) (reason : Reason) → ChangesLittle s.shown (refused s side exit bytes reason).shown
 refused-changes s side exit bytes reason = refused-by (λ x. ChangesLittle s.shown x.shown) s side exit bytes (changed-here s) (said-changes s side) reason
 
-pub long-refused : (s : GatewayAndOutput) (side : Side) (bytes : List ℕ) (flow : Flow) → plan_of s.shown side flow (length_in bytes) ≡ Err TooLong → flow_taken s side bytes flow ≡ refused s side (exit_in s side flow) bytes TooLong
+pub long-refused : (s : GatewayAndOutput) (side : Side) (bytes : List ℕ) (flow : Flow) → plan_of s.shown side flow (size_in bytes) ≡ Err TooLong → flow_taken s side bytes flow ≡ refused s side (exit_in s side flow) bytes TooLong
 long-refused s side bytes flow is = ap (by_verdict s side bytes flow) is

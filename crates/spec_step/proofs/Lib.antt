@@ -1,5 +1,6 @@
 mod Accounting
 mod Apart
+mod Arriving
 mod Asked
 mod Asking
 mod AskingParts

@@ -18,6 +18,7 @@ use Rattle.bindings.specs.Entries.{HasDistinctKeys, entry_in, entry_of, is_pair,
 use Rattle.bindings.specs.Lists.{put_in}
 use Rattle.bindings.proofs.Offered.{entry-slot, slot-put}
 use Rattle.ipv4.specs.declared.flows.Flow.{Flow}
+use Rattle.ipv4.specs.declared.packets.Size.{Size}
 use Rattle.link.specs.Link.{Link, is_due_on_tick, sent_on_tick}
 use Rattle.output.specs.Output.{with_datagram}
 use Rattle.spec_binding.specs.declared.changes.Change.TheVariants.{Add}
@@ -48,7 +49,7 @@ use Rattle.spec_step.specs.declared.plans.Plan.{Plan}
 use Rattle.spec_step.specs.declared.plans.Plan.TheVariants.{Ask, AskAgain, Wait as WaitFor}
 use Rattle.spec_step.specs.Apart.{WaitsForNobody}
 use Rattle.spec_step.specs.Machine.{AreBytes, KeepsBytes}
-use Rattle.spec_step.specs.Parts.{all_sought_done, alone_taken, by_plan, carried_by, datagram_in, gone_alone, handed_in, idle_taken, length_in, link_ticked, old_dropped, peer_told, wanted_by}
+use Rattle.spec_step.specs.Parts.{all_sought_done, alone_taken, by_plan, carried_by, datagram_in, gone_alone, handed_in, idle_taken, size_in, link_ticked, old_dropped, peer_told, wanted_by}
 use Rattle.spec_step.specs.Shown.{GatewayAndOutput, Shown, is_apart, scene}
 use Rattle.spec_step.specs.Steps.{IsStepOn}
 use Rattle.spec_step.specs.Verdict.{exit_by, fits_at, hop_by, if_fits, look_for, next_by, plan_by, plan_from, plan_of, plan_on, plan_to, target_pair}
@@ -149,12 +150,12 @@ on-waits g flow way.Hairpin e is = at (target_pair g flow) is
     at (Ok p) is = from-waits g flow (λ own. Hairpin own p) (look_for g flow) e is
     at (Err reason) is = absurd (cc)
 
-plan-waits : (g : Shown) (side : Side) (flow : Flow) (length : ℕ) (e : Endpoint) → plan_of g side flow length ≡ Ok (WaitFor e) → look_for g flow ≡ want.Wait
-plan-waits g side flow length e is = at (direction_of g.networks side flow.protocol flow.source.0 flow.destination.0) is
+plan-waits : (g : Shown) (side : Side) (flow : Flow) (size : Size) (e : Endpoint) → plan_of g side flow size ≡ Ok (WaitFor e) → look_for g flow ≡ want.Wait
+plan-waits g side flow size e is = at (direction_of g.networks side flow.protocol flow.source.0 flow.destination.0) is
   where
-    at : (r : Result Direction Reason) → and_then r (λ way. and_then (plan_on g flow way) (if_fits (fits_at g (exit_of way) length))) ≡ Ok (WaitFor e) → look_for g flow ≡ want.Wait
+    at : (r : Result Direction Reason) → and_then r (λ way. and_then (plan_on g flow way) (if_fits (fits_at g (exit_of way) size))) ≡ Ok (WaitFor e) → look_for g flow ≡ want.Wait
     at (Ok w) is =
-        fitted (λ (r : Result Plan Reason). r ≡ Ok (WaitFor e) → look_for g flow ≡ want.Wait) (λ no. absurd (cc)) (fits_at g (exit_of w) length) (plan_on g flow w)
+        fitted (λ (r : Result Plan Reason). r ≡ Ok (WaitFor e) → look_for g flow ≡ want.Wait) (λ no. absurd (cc)) (fits_at g (exit_of w) size) (plan_on g flow w)
         (λ on. on-waits g flow w e on) is
     at (Err reason) is = absurd (cc)
 
@@ -224,10 +225,10 @@ wanted-still s e formed = λ n.
 carried-still : (s : GatewayAndOutput) (k : Key) (p : Carried) → Still s (carried_by s k p)
 carried-still s k p = λ n. record { sound = record { book = n.sound.book; kept = n.sound.kept }; apart = n.apart; none = n.none; settled = n.settled }
 
-waits-still : (s : GatewayAndOutput) (side : Side) (bytes : List ℕ) (flow : Flow) (e : Endpoint) → AreBytes bytes → IsWellFormedEndpoint (source_of flow) → plan_of s.shown side flow (length_in bytes) ≡ Ok (WaitFor e) → Still s (by_plan s side bytes flow (WaitFor e))
+waits-still : (s : GatewayAndOutput) (side : Side) (bytes : List ℕ) (flow : Flow) (e : Endpoint) → AreBytes bytes → IsWellFormedEndpoint (source_of flow) → plan_of s.shown side flow (size_in bytes) ≡ Ok (WaitFor e) → Still s (by_plan s side bytes flow (WaitFor e))
 waits-still s side bytes flow e are formed is = λ n.
     let g = s.shown in
-    let look = plan-waits g side flow (length_in bytes) e is in
+    let look = plan-waits g side flow (size_in bytes) e is in
     absurd (wish-waits g.ledger.book (is_full g.link) (source_of flow) n.sound.book.keys n.settled
     (subst (λ (t : Bool). (wish_of g.ledger.book t (is_full g.link) (source_of flow)).answer ≡ want.Wait) n.apart look))
 
@@ -321,7 +322,7 @@ apart-waits reads s now s2 step book kept apart =
         let no : false ≡ true = sym is ∙ sym (all-sought-apart false idle (sought_keys false idle.shown.ledger.book.entries)) ∙ there in absurd (cc)
 
 -- while nobody waits at a gateway that is apart, no packet comes to wait for a pair
-pub apart-takes : (g : Shown) (side : Side) (flow : Flow) (length : ℕ) (e : Endpoint) → IsBook g.ledger.book → is_apart g ≡ true → WaitsForNobody g → plan_of g side flow length ≢ Ok (WaitFor e)
-apart-takes g side flow length e book apart none is =
+pub apart-takes : (g : Shown) (side : Side) (flow : Flow) (size : Size) (e : Endpoint) → IsBook g.ledger.book → is_apart g ≡ true → WaitsForNobody g → plan_of g side flow size ≢ Ok (WaitFor e)
+apart-takes g side flow size e book apart none is =
     wish-waits g.ledger.book (is_full g.link) (source_of flow) book.keys (λ k x there. state-settled x.state (λ pair. none.translate k x there pair))
-    (subst (λ (t : Bool). (wish_of g.ledger.book t (is_full g.link) (source_of flow)).answer ≡ want.Wait) apart (plan-waits g side flow length e is))
+    (subst (λ (t : Bool). (wish_of g.ledger.book t (is_full g.link) (source_of flow)).answer ≡ want.Wait) apart (plan-waits g side flow size e is))

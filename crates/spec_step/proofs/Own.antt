@@ -180,7 +180,7 @@ module _ (P : GatewayAndOutput → Type 0) (s : GatewayAndOutput) (side : Side) 
   echo-leaves = answers (may_answer s.shown.networks side echo.source.0) refl
     where
       fits : Bool
-      fits = fits_at s.shown side echo.length
+      fits = fits_at s.shown side echo.size
 
       via : Result Reply Reason
       via = reply_via s.shown side (hop_back s.shown side echo.source) (next_back s.shown side echo.source)

@@ -38,7 +38,7 @@ use Rattle.spec_step.specs.declared.plans.Reply.{Reply}
 use Rattle.spec_step.specs.declared.plans.Reply.TheVariants as reply
 use Rattle.spec_step.specs.Machine.{AreBytes}
 use Rattle.spec_step.specs.OwnAnswers.{SaysJust, all_own_of, own_frames, own_of, own_plan, own_read, own_refused, own_reply, saying_to}
-use Rattle.spec_step.specs.Parts.{all_taken, asked_again, by_error_plan, by_error_verdict, by_plan, by_refusal, by_reply_verdict, by_verdict, carried_all, complained, complained_to, flags_in, framed, keeping, length_in, neighbour_asked, refused, renewed_behind, request_by, retaken_by, sender_in, taken_again, wanted_by, wanted_for}
+use Rattle.spec_step.specs.Parts.{all_taken, asked_again, by_error_plan, by_error_verdict, by_plan, by_refusal, by_reply_verdict, by_verdict, carried_all, complained, complained_to, flags_in, framed, keeping, size_in, neighbour_asked, refused, renewed_behind, request_by, retaken_by, sender_in, taken_again, wanted_by, wanted_for}
 use Rattle.spec_step.specs.Shown.{GatewayAndOutput, Shown, is_up, scene, station_on}
 use Rattle.spec_step.specs.Truly.{IsSetUp, Known, is_own}
 use Rattle.spec_step.specs.Verdict.{error_hop, error_plan, exit_by, fits_at, hop_back, hop_by, if_reply_fits, next_back, plan_of, reading_on, reply_to, reply_via}
@@ -130,7 +130,7 @@ reply-sends g side echo next is = answers (may_answer g.networks side echo.sourc
     hop = hop_back g side echo.source
 
     fits : Bool
-    fits = fits_at g side echo.length
+    fits = fits_at g side echo.size
 
     via : (o : Option Mac) → reply_via g side hop o ≡ Ok (reply.Send next) → o ≡ Some next
     via (Some m) same = cc
@@ -182,7 +182,7 @@ module _ (frames : Frames) (s : GatewayAndOutput) (side : Side) (bytes : List �
   complained-just (Some complaint) = to-just complaint (next_back s.shown side (sender_in bytes)) refl
   complained-just None = nothing-just s
 
-  refused-just : (exit : Side) (reason : Reason) → Just s (refused s side exit bytes reason) (own_refused s.shown side exit bytes reason)
+  pub refused-just : (exit : Side) (reason : Reason) → Just s (refused s side exit bytes reason) (own_refused s.shown side exit bytes reason)
   refused-just exit TtlOver = complained-just (complaint_of s.shown.networks side exit TtlOver bytes)
   refused-just exit TooLong = complained-just (complaint_of s.shown.networks side exit TooLong bytes)
   refused-just exit ShortFrame = nothing-just s
@@ -228,12 +228,12 @@ module _ (frames : Frames) (s : GatewayAndOutput) (side : Side) (bytes : List �
 
   -- ---- a packet
 
-  plan-just : (packet : PacketRead) (plan : Plan) → reading_on s.shown side bytes ≡ Ok (Packet packet) → plan_of s.shown side packet.flow (length_in bytes) ≡ Ok plan → Just s (by_plan s side bytes packet.flow plan) []
+  plan-just : (packet : PacketRead) (plan : Plan) → reading_on s.shown side bytes ≡ Ok (Packet packet) → plan_of s.shown side packet.flow (size_in bytes) ≡ Ok plan → Just s (by_plan s side bytes packet.flow plan) []
   plan-just packet (Send by next) read is =
       let flow = packet.flow in
       let at = station_on s.shown side in
       let carries = frames.reads side at.network (is_active at) (is_up s.shown) bytes (Packet packet) read in
-      let planned = plan-sends s.shown side flow (length_in bytes) by next is in
+      let planned = plan-sends s.shown side flow (size_in bytes) by next is in
       let one = wanted_for s flow by in
       let frame = sent_frame s.shown.networks by next bytes in
       let two = framed one (exit_by by) frame in
@@ -261,7 +261,7 @@ module _ (frames : Frames) (s : GatewayAndOutput) (side : Side) (bytes : List �
   plan-just packet (AskAgain by hop) read is = again-just frames s (exit_by by) hop w
   plan-just packet (WaitFor e) read is = quiet-just s (by_plan s side bytes packet.flow (WaitFor e)) refl refl
 
-  verdict-just : (packet : PacketRead) (r : Result Plan Reason) → reading_on s.shown side bytes ≡ Ok (Packet packet) → plan_of s.shown side packet.flow (length_in bytes) ≡ r
+  verdict-just : (packet : PacketRead) (r : Result Plan Reason) → reading_on s.shown side bytes ≡ Ok (Packet packet) → plan_of s.shown side packet.flow (size_in bytes) ≡ r
       → Just s (by_verdict s side bytes packet.flow r) (own_plan s.shown side bytes packet.flow r)
   verdict-just packet (Ok plan) read is = plan-just packet plan read is
   verdict-just packet (Err reason) read is = refusal-just packet.flow reason
@@ -305,8 +305,8 @@ module _ (frames : Frames) (s : GatewayAndOutput) (side : Side) (bytes : List �
   -- ---- a frame as it is read
 
   pub read-just : (r : Result Reading Reason) → reading_on s.shown side bytes ≡ r → Just s (retaken_by s side bytes r) (own_read s.shown side bytes r)
-  read-just (Ok (Packet packet)) is = verdict-just packet (plan_of s.shown side packet.flow (length_in bytes)) is refl
-  read-just (Ok (Error packet)) is = error-verdict-just packet (error_plan s.shown side packet.flow (length_in bytes)) is (error-says s.shown side packet.flow (length_in bytes))
+  read-just (Ok (Packet packet)) is = verdict-just packet (plan_of s.shown side packet.flow (size_in bytes)) is refl
+  read-just (Ok (Error packet)) is = error-verdict-just packet (error_plan s.shown side packet.flow (size_in bytes)) is (error-says s.shown side packet.flow (size_in bytes))
   read-just (Ok (Asked echo)) is = reply-just echo (reply_to s.shown side echo) is (λ next. reply-sends s.shown side echo next)
   read-just (Ok (Arp p)) is = nothing-just s
   read-just (Ok (Advert a from)) is = nothing-just s

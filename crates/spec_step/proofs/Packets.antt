@@ -21,6 +21,7 @@ use Rattle.icmp.specs.Query.{IsTranslatable}
 use Rattle.ipv4.specs.Flow.{protocol_of, source_place}
 use Rattle.ipv4.specs.Header.{header_of, payload_of, word_at}
 use Rattle.ipv4.specs.declared.packets.Packet.{Packet as PacketRead}
+use Rattle.ipv4.specs.declared.packets.Size.{Size}
 use Rattle.activity.specs.declared.packets.Packet.{Packet as Carried}
 use Rattle.activity.specs.declared.packets.Way.TheVariants as goes
 use Rattle.link.specs.Link.{Link}
@@ -57,7 +58,7 @@ use Rattle.interfaces.specs.Stations.{is_active}
 use Rattle.spec_step.specs.declared.plans.Plan.{Plan}
 use Rattle.spec_step.specs.declared.plans.Plan.TheVariants.{Send, Ask, AskAgain, Wait as WaitFor}
 use Rattle.spec_step.specs.Machine.{AreBytes}
-use Rattle.spec_step.specs.Parts.{all_taken, asked_again, by_plan, by_refusal, by_verdict, carried, carried_all, carried_by, flags_in, flow_taken, framed, keeping, neighbour_asked, released, remote, renewed_behind, request_by, retaken_by, taken_again, wanted_by, wanted_for, by_error_plan, by_error_verdict, error_taken, echo_taken, length_in, refused}
+use Rattle.spec_step.specs.Parts.{all_taken, asked_again, by_plan, by_refusal, by_verdict, carried, carried_all, carried_by, flags_in, flow_taken, framed, keeping, neighbour_asked, released, remote, renewed_behind, request_by, retaken_by, taken_again, wanted_by, wanted_for, by_error_plan, by_error_verdict, error_taken, echo_taken, size_in, refused}
 use Rattle.spec_step.specs.Shown.{GatewayAndOutput, Shown, is_apart, is_up, scene, station_on}
 use Rattle.spec_step.specs.Verdict.{exit_by, hop_by, look_for, plan_by, plan_from, plan_of, plan_on, plan_to, reading_on, target_pair, error_hop, error_plan, fits_at, if_fits}
 use Rattle.spec_step.proofs.Fitting.{fitted}
@@ -128,11 +129,11 @@ on-fits g flow way.Hairpin formed = at (target_pair g flow)
     at (Ok p) = from-fits g flow (λ own. Hairpin own p) (look_for g flow) formed
     at (Err reason) = tt
 
-pub plan-fits : (g : Shown) (side : Side) (flow : Flow) (length : ℕ) → IsWellFormedEndpoint (source_of flow) → PlanFits (plan_of g side flow length)
-plan-fits g side flow length formed = at (direction_of g.networks side flow.protocol flow.source.0 flow.destination.0)
+pub plan-fits : (g : Shown) (side : Side) (flow : Flow) (size : Size) → IsWellFormedEndpoint (source_of flow) → PlanFits (plan_of g side flow size)
+plan-fits g side flow size formed = at (direction_of g.networks side flow.protocol flow.source.0 flow.destination.0)
   where
-    at : (r : Result Direction Reason) → PlanFits (and_then r (λ way. and_then (plan_on g flow way) (if_fits (fits_at g (exit_of way) length))))
-    at (Ok w) = fitted PlanFits tt (fits_at g (exit_of w) length) (plan_on g flow w) (on-fits g flow w formed)
+    at : (r : Result Direction Reason) → PlanFits (and_then r (λ way. and_then (plan_on g flow way) (if_fits (fits_at g (exit_of way) size))))
+    at (Ok w) = fitted PlanFits tt (fits_at g (exit_of w) size) (plan_on g flow w) (on-fits g flow w formed)
     at (Err reason) = tt
 
 -- ---- a packet that a pair carries
@@ -291,7 +292,7 @@ module _ (letters : List Letter) (words : List ℕ) where
   verdict-goes s side bytes flow (Err reason) are formed fits = refusal-goes s side bytes flow reason formed
 
   pub flow-goes : (s : GatewayAndOutput) (side : Side) (bytes : List ℕ) (flow : Flow) → AreBytes bytes → IsWellFormedEndpoint (source_of flow) → Going letters words s (flow_taken s side bytes flow)
-  flow-goes s side bytes flow are formed = verdict-goes s side bytes flow (plan_of s.shown side flow (length_in bytes)) are formed (plan-fits s.shown side flow (length_in bytes) formed)
+  flow-goes s side bytes flow are formed = verdict-goes s side bytes flow (plan_of s.shown side flow (size_in bytes)) are formed (plan-fits s.shown side flow (size_in bytes) formed)
 
   -- ---- an error
 
@@ -307,7 +308,7 @@ module _ (letters : List Letter) (words : List ℕ) where
   error-plan-goes s side bytes flow (WaitFor e) are = here s
 
   pub error-goes : (s : GatewayAndOutput) (side : Side) (bytes : List ℕ) (flow : ErrorFlow) → AreBytes bytes → Going letters words s (error_taken s side bytes flow)
-  error-goes s side bytes flow are = at (error_plan s.shown side flow (length_in bytes))
+  error-goes s side bytes flow are = at (error_plan s.shown side flow (size_in bytes))
     where
       at : (r : Result Plan Reason) → Going letters words s (by_error_verdict s side bytes flow r)
       at (Ok plan) = error-plan-goes s side bytes flow plan are

@@ -41,7 +41,7 @@ use Rattle.spec_step.specs.declared.events.Event.TheVariants.{Tick}
 use Rattle.spec_step.specs.declared.plans.Plan.TheVariants.{Wait as WaitFor}
 use Rattle.spec_step.specs.LettingGo.{ReleasesAlone}
 use Rattle.spec_step.specs.Machine.{AreBytes, KeepsBytes}
-use Rattle.spec_step.specs.Parts.{all_idle_done, all_sought_done, alone_taken, by_plan, by_row, carried_by, datagram_in, gone_alone, handed_in, idle_done, idle_taken, length_in, link_ticked, old_dropped, peer_told, sought_done, wanted_by}
+use Rattle.spec_step.specs.Parts.{all_idle_done, all_sought_done, alone_taken, by_plan, by_row, carried_by, datagram_in, gone_alone, handed_in, idle_done, idle_taken, size_in, link_ticked, old_dropped, peer_told, sought_done, wanted_by}
 use Rattle.spec_step.specs.Shown.{GatewayAndOutput, id_of, is_apart, scene}
 use Rattle.spec_step.specs.Steps.{IsStepOn}
 use Rattle.spec_step.specs.Verdict.{plan_of}
@@ -182,7 +182,7 @@ carried-quiet s k p = record {
   none = carry-mute s.shown.ledger.book k (id_of s.shown) s.shown.moment;
 }
 
-waits-quiet : (s : GatewayAndOutput) (side : Side) (bytes : List ℕ) (flow : Flow) (e : Endpoint) → AreBytes bytes → IsWellFormedEndpoint (source_of flow) → plan_of s.shown side flow (length_in bytes) ≡ Ok (WaitFor e) → Quiet s (by_plan s side bytes flow (WaitFor e))
+waits-quiet : (s : GatewayAndOutput) (side : Side) (bytes : List ℕ) (flow : Flow) (e : Endpoint) → AreBytes bytes → IsWellFormedEndpoint (source_of flow) → plan_of s.shown side flow (size_in bytes) ≡ Ok (WaitFor e) → Quiet s (by_plan s side bytes flow (WaitFor e))
 waits-quiet s side bytes flow e are formed is = let q = wanted-quiet s e in record { notes = q.notes; notes_are = q.notes_are; none = q.none }
 
 all-marked-quiet : (s : GatewayAndOutput) (ks : List Key) → Quiet s (all_sought_done true s ks)

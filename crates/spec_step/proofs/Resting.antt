@@ -40,7 +40,7 @@ use Rattle.arp.specs.Neighbours.{asks_at}
 use Rattle.spec_step.specs.declared.plans.Plan.{Plan}
 use Rattle.spec_step.specs.declared.plans.Plan.TheVariants.{Send, Ask, AskAgain, Wait as WaitFor}
 use Rattle.spec_step.specs.Machine.{AreBytes, KeepsBytes}
-use Rattle.spec_step.specs.Parts.{all_taken, asked_again, by_plan, by_verdict, carried, carried_all, carried_by, flags_in, flow_taken, framed, keeping, neighbour_asked, released, remote, renewed_behind, request_by, retaken_by, taken_again, wanted_by, wanted_for, by_error_plan, by_error_verdict, error_taken, echo_taken, length_in, refused}
+use Rattle.spec_step.specs.Parts.{all_taken, asked_again, by_plan, by_verdict, carried, carried_all, carried_by, flags_in, flow_taken, framed, keeping, neighbour_asked, released, remote, renewed_behind, request_by, retaken_by, taken_again, wanted_by, wanted_for, by_error_plan, by_error_verdict, error_taken, echo_taken, size_in, refused}
 use Rattle.spec_step.specs.Rests.{AreBy}
 use Rattle.spec_step.specs.Shown.{GatewayAndOutput, id_of, is_apart, scene, station_on, with_notes}
 use Rattle.spec_step.specs.Verdict.{exit_by, hop_by, plan_of, reading_on, error_hop, error_plan}
@@ -229,7 +229,7 @@ verdict-rests s side bytes flow (Err reason) are formed fits =
     refusal-by (λ x. Resting s x) s side bytes flow (resting-nothing s) (wanted-rests s (source_of flow) formed) (said-rests s side) reason
 
 pub flow-rests : (s : GatewayAndOutput) (side : Side) (bytes : List ℕ) (flow : Flow) → AreBytes bytes → IsWellFormedEndpoint (source_of flow) → Resting s (flow_taken s side bytes flow)
-flow-rests s side bytes flow are formed = verdict-rests s side bytes flow (plan_of s.shown side flow (length_in bytes)) are formed (plan-fits s.shown side flow (length_in bytes) formed)
+flow-rests s side bytes flow are formed = verdict-rests s side bytes flow (plan_of s.shown side flow (size_in bytes)) are formed (plan-fits s.shown side flow (size_in bytes) formed)
 
 -- ---- an error
 
@@ -245,7 +245,7 @@ error-plan-rests s side bytes flow (AskAgain by hop) are = again-rests s (exit_b
 error-plan-rests s side bytes flow (WaitFor e) are = resting-nothing s
 
 pub error-rests : (s : GatewayAndOutput) (side : Side) (bytes : List ℕ) (flow : ErrorFlow) → AreBytes bytes → Resting s (error_taken s side bytes flow)
-error-rests s side bytes flow are = at (error_plan s.shown side flow (length_in bytes))
+error-rests s side bytes flow are = at (error_plan s.shown side flow (size_in bytes))
   where
     at : (r : Result Plan Reason) → Resting s (by_error_verdict s side bytes flow r)
     at (Ok plan) = error-plan-rests s side bytes flow plan are

@@ -44,7 +44,7 @@ use Rattle.spec_step.specs.declared.plans.Plan.TheVariants.{Send, Ask, AskAgain,
 use Rattle.spec_step.specs.Machine.{AreBytes}
 use Rattle.spec_step.specs.Others.{is_other}
 use Rattle.spec_step.specs.OwnAnswers.{Answers, Complains, IsOwnOf, OwnFrame, Purpose, counted_for}
-use Rattle.spec_step.specs.Parts.{all_taken, asked_again, by_plan, by_refusal, by_row, by_verdict, carried_all, flags_in, flow_taken, framed, keeping, neighbour_asked, released, renewed_behind, request_by, retaken_by, taken_again, wanted_by, wanted_for, by_error_plan, by_error_verdict, error_taken, echo_taken, length_in, refused, sender_in}
+use Rattle.spec_step.specs.Parts.{all_taken, asked_again, by_plan, by_refusal, by_row, by_verdict, carried_all, flags_in, flow_taken, framed, keeping, neighbour_asked, released, renewed_behind, request_by, retaken_by, taken_again, wanted_by, wanted_for, by_error_plan, by_error_verdict, error_taken, echo_taken, size_in, refused, sender_in}
 use Rattle.spec_step.specs.Shown.{GatewayAndOutput, Shown, id_of, is_apart, is_up, scene, station_on}
 use Rattle.spec_step.specs.Truly.{IsSetUp, AtHand, IsSentBy, Known, known_of, packets_of}
 use Rattle.spec_step.specs.Verdict.{error_hop, error_plan, exit_by, hop_back, hop_by, next_back, next_to, plan_of, reading_on}
@@ -232,12 +232,12 @@ again-says frames s exit hop = at (asks_again s.shown.moment (wait.Hop exit hop)
 -- ---- a packet that is sent on
 
 -- what is told of a packet that is sent on, from a scene where its pairs translate, is true
-sending-says : Frames → (s one : GatewayAndOutput) (side : Side) (bytes : List ℕ) (by : Translation) (next : Mac) → IsRead s side bytes (flow_in bytes) → plan_of s.shown side (flow_in bytes) (length_in bytes) ≡ Ok (Send by next)
+sending-says : Frames → (s one : GatewayAndOutput) (side : Side) (bytes : List ℕ) (by : Translation) (next : Mac) → IsRead s side bytes (flow_in bytes) → plan_of s.shown side (flow_in bytes) (size_in bytes) ≡ Ok (Send by next)
     → one ≡ wanted_for s (flow_in bytes) by → IsBook s.shown.ledger.book → IsSetUp s.shown
     → Saying (at_hand side bytes ∷ []) one (carried_all (framed one (exit_by by) (sent_frame s.shown.networks by next bytes)) (flow_in bytes) (flags_in bytes) by)
 sending-says frames s one side bytes by next read plan at book wired = λ is w.
     let flow = flow_in bytes in
-    let planned = plan-sends s.shown side flow (length_in bytes) by next plan in
+    let planned = plan-sends s.shown side flow (size_in bytes) by next plan in
     let found = found-translate s flow by book read.synced planned.pairs in
     let frame = sent_frame s.shown.networks by next bytes in
     let same : known_of one.shown ≡ known_of s.shown = ap (λ (x : GatewayAndOutput). known_of x.shown) at ∙ wanted-for-known s flow by in
@@ -259,7 +259,7 @@ sending-says frames s one side bytes by next read plan at book wired = λ is w.
       c.known,
     )
 
-sent-says : Frames → (s : GatewayAndOutput) (side : Side) (bytes : List ℕ) (by : Translation) (next : Mac) → IsRead s side bytes (flow_in bytes) → plan_of s.shown side (flow_in bytes) (length_in bytes) ≡ Ok (Send by next)
+sent-says : Frames → (s : GatewayAndOutput) (side : Side) (bytes : List ℕ) (by : Translation) (next : Mac) → IsRead s side bytes (flow_in bytes) → plan_of s.shown side (flow_in bytes) (size_in bytes) ≡ Ok (Send by next)
     → Saying (at_hand side bytes ∷ []) s (by_plan s side bytes (flow_in bytes) (Send by next))
 sent-says frames s side bytes by next read plan =
     let flow = flow_in bytes in
@@ -277,13 +277,13 @@ addressed flow = record flow.inside { source = flow.source; destination = flow.d
 
 -- ---- any plan, and none
 
-plan-says : Frames → (s : GatewayAndOutput) (side : Side) (bytes : List ℕ) (flow : Flow) (plan : Plan) → IsRead s side bytes flow → plan_of s.shown side flow (length_in bytes) ≡ Ok plan → PlanFits (Ok plan)
+plan-says : Frames → (s : GatewayAndOutput) (side : Side) (bytes : List ℕ) (flow : Flow) (plan : Plan) → IsRead s side bytes flow → plan_of s.shown side flow (size_in bytes) ≡ Ok plan → PlanFits (Ok plan)
     → Saying (at_hand side bytes ∷ []) s (by_plan s side bytes flow plan)
 plan-says frames s side bytes flow (Send by next) read plan fits =
     let same = read.flow_is in
     let read2 : IsRead s side bytes (flow_in bytes) = record { are = read.are; synced = read.synced; passes = read.passes; of_side = read.of_side; flow_is = refl } in
     subst (λ (f : Flow). Saying (at_hand side bytes ∷ []) s (by_plan s side bytes f (Send by next))) (sym same)
-    (sent-says frames s side bytes by next read2 (ap (λ (f : Flow). plan_of s.shown side f (length_in bytes)) (sym same) ∙ plan))
+    (sent-says frames s side bytes by next read2 (ap (λ (f : Flow). plan_of s.shown side f (size_in bytes)) (sym same) ∙ plan))
 plan-says frames s side bytes flow (Ask by hop) read plan fits =
     let hand = at_hand side bytes ∷ [] in
     let one = wanted_for s flow by in
@@ -342,9 +342,9 @@ refusal-says frames s side bytes flow reason are formed =
     (λ r complaint next is there free. complaint-says frames s side (exit_in s side flow) bytes r complaint next are is there free) reason
 
 flow-says : Frames → (s : GatewayAndOutput) (side : Side) (bytes : List ℕ) (flow : Flow) → IsRead s side bytes flow → Saying (at_hand side bytes ∷ []) s (flow_taken s side bytes flow)
-flow-says frames s side bytes flow read = at (plan_of s.shown side flow (length_in bytes)) refl (plan-fits s.shown side flow (length_in bytes) (read-from s side bytes flow read))
+flow-says frames s side bytes flow read = at (plan_of s.shown side flow (size_in bytes)) refl (plan-fits s.shown side flow (size_in bytes) (read-from s side bytes flow read))
   where
-    at : (r : Result Plan Reason) → plan_of s.shown side flow (length_in bytes) ≡ r → PlanFits r → Saying (at_hand side bytes ∷ []) s (by_verdict s side bytes flow r)
+    at : (r : Result Plan Reason) → plan_of s.shown side flow (size_in bytes) ≡ r → PlanFits r → Saying (at_hand side bytes ∷ []) s (by_verdict s side bytes flow r)
     at (Ok plan) is fits = plan-says frames s side bytes flow plan read is fits
     at (Err reason) is fits = refusal-says frames s side bytes flow reason read.are (read-from s side bytes flow read)
 
@@ -427,7 +427,7 @@ error-plan-says frames s side bytes (WaitFor e) read says = absurd says
 error-says-of : Frames → (s : GatewayAndOutput) (side : Side) (bytes : List ℕ) (flow : ErrorFlow) → IsErrorRead s bytes flow → Saying (at_hand side bytes ∷ []) s (error_taken s side bytes flow)
 error-says-of frames s side bytes flow read =
     subst (λ (f : ErrorFlow). Saying (at_hand side bytes ∷ []) s (error_taken s side bytes f)) (sym read.flow_is)
-    (at (error_plan s.shown side (error_flow_in bytes) (length_in bytes)) (error-says s.shown side (error_flow_in bytes) (length_in bytes)))
+    (at (error_plan s.shown side (error_flow_in bytes) (size_in bytes)) (error-says s.shown side (error_flow_in bytes) (size_in bytes)))
   where
     at : (r : Result Plan Reason) → ErrorSays s.shown side (error_flow_in bytes) r → Saying (at_hand side bytes ∷ []) s (by_error_verdict s side bytes (error_flow_in bytes) r)
     at (Ok plan) says = error-plan-says frames s side bytes plan (record { are = read.are; synced = read.synced; passes = read.passes; flow_is = refl }) says

@@ -6,6 +6,7 @@ use Rattle.addresses.specs.declared.transport.Port.{Port}
 use Rattle.nat_types.specs.declared.gateways.Side.{Side}
 use Rattle.nat_types.specs.declared.pairs.Pair.{Pair}
 use Rattle.ipv4.specs.declared.flows.Flow.{Flow}
+use Rattle.ipv4.specs.declared.packets.Size.{Size}
 use Rattle.spec_binding.specs.declared.changes.Want.{Want}
 use Rattle.spec_binding.specs.declared.changes.Want.TheVariants as want
 use Rattle.spec_binding.specs.Rows.{new_pair}
@@ -91,12 +92,12 @@ on-send g side flow way.Hairpin by next there is = at (target_pair g flow) refl 
     at (Err reason) target is = absurd (cc)
 
 -- a packet that is sent goes by its way, its pairs and its next hop
-pub plan-sends : (g : Shown) (side : Side) (flow : Flow) (length : ℕ) (by : Translation) (next : Mac) → plan_of g side flow length ≡ Ok (Send by next) → IsPlanned g side flow by next
-plan-sends g side flow length by next is = at (direction_of g.networks side flow.protocol flow.source.0 flow.destination.0) refl is
+pub plan-sends : (g : Shown) (side : Side) (flow : Flow) (size : Size) (by : Translation) (next : Mac) → plan_of g side flow size ≡ Ok (Send by next) → IsPlanned g side flow by next
+plan-sends g side flow size by next is = at (direction_of g.networks side flow.protocol flow.source.0 flow.destination.0) refl is
   where
     at : (r : Result Direction Reason) → direction_of g.networks side flow.protocol flow.source.0 flow.destination.0 ≡ r
-        → and_then r (λ way. and_then (plan_on g flow way) (if_fits (fits_at g (exit_of way) length))) ≡ Ok (Send by next) → IsPlanned g side flow by next
+        → and_then r (λ way. and_then (plan_on g flow way) (if_fits (fits_at g (exit_of way) size))) ≡ Ok (Send by next) → IsPlanned g side flow by next
     at (Ok w) there is =
-        fitted (λ (r : Result Plan Reason). r ≡ Ok (Send by next) → IsPlanned g side flow by next) (λ no. absurd (cc)) (fits_at g (exit_of w) length) (plan_on g flow w)
+        fitted (λ (r : Result Plan Reason). r ≡ Ok (Send by next) → IsPlanned g side flow by next) (λ no. absurd (cc)) (fits_at g (exit_of w) size) (plan_on g flow w)
         (λ on. on-send g side flow w by next there on) is
     at (Err reason) there is = absurd (cc)

@@ -55,12 +55,12 @@ use Rattle.spec_step.specs.declared.plans.Plan.{Plan}
 use Rattle.spec_step.specs.declared.plans.Plan.TheVariants.{Send, Ask, AskAgain, Wait as WaitFor}
 use Rattle.spec_step.specs.Founding.{begun, founded}
 use Rattle.spec_step.specs.GivingWay.{GivingWay, left, turn_of}
-use Rattle.spec_step.specs.Parts.{all_idle_done, all_taken, answered_by, arp_taken, asked_again, by_plan, by_row, by_verdict, carried_all, datagram_in, datagram_read, flags_in, flow_taken, framed, handed_in, has_synced, heard_by, heard_unless, idle_done, idle_taken, keeping, link_answered, link_ticked, neighbour_asked, old_dropped, record_done, record_shown, record_told, records_done, released, renewed_behind, request_by, reset, retaken_by, routers_started, side_plugged, taken_again, wait_ended, waiting, wanted_by, wanted_for, with_link, with_routers, by_error_plan, by_error_verdict, error_taken, echo_taken, length_in, refused, all_sought_done, alone_taken, gone_alone, peer_told, sought_done}
+use Rattle.spec_step.specs.Parts.{all_idle_done, all_taken, answered_by, arp_taken, asked_again, by_plan, by_row, by_verdict, carried_all, datagram_in, datagram_read, flags_in, flow_taken, framed, handed_in, has_synced, heard_by, heard_unless, idle_done, idle_taken, keeping, link_answered, link_ticked, neighbour_asked, old_dropped, record_done, record_shown, record_told, records_done, released, renewed_behind, request_by, reset, retaken_by, routers_started, side_plugged, taken_again, wait_ended, waiting, wanted_by, wanted_for, with_link, with_routers, by_error_plan, by_error_verdict, error_taken, echo_taken, size_in, refused, all_sought_done, alone_taken, gone_alone, peer_told, sought_done}
 use Rattle.spec_step.specs.Settled.{AreIdle, HaveBegun, IsSettled}
 use Rattle.spec_step.specs.Shown.{GatewayAndOutput, Shown, is_apart, is_running, is_up, scene, station_on, with_station}
 use Rattle.spec_step.specs.Routers.{BothAct, RouterActs}
 use Rattle.spec_step.specs.Steps.{Does, FrameDoes, IsStepOn, ended_on, stopped, ticked, word_by, word_refusal}
-use Rattle.spec_step.specs.Verdict.{exit_by, hop_by, plan_of, reading_on, error_hop, error_plan}
+use Rattle.spec_step.specs.Verdict.{arrival_on, exit_by, hop_by, plan_of, reading_on, error_hop, error_plan}
 use Rattle.spec_step.proofs.Lines.{acts-shown, both-shown, both-stopped, line-idles, line-stays, started-begun}
 use Rattle.spec_step.proofs.Own.{Said, echo-by, refusal-by, refused-by, said_scene}
 use Rattle.spec_step.proofs.Asked.{PlanSays, plan-says}
@@ -175,7 +175,7 @@ plan-calms s side bytes flow (WaitFor e) says =
     calming-then s one (by_plan s side bytes flow (WaitFor e)) (wanted-calms s e) (keeping-calms one side bytes (wait.Pair e) says.1)
 
 flow-calms : (s : GatewayAndOutput) (side : Side) (bytes : List ℕ) (flow : Flow) → Calming s (flow_taken s side bytes flow)
-flow-calms s side bytes flow = at (plan_of s.shown side flow (length_in bytes)) (plan-says s.shown side flow (length_in bytes))
+flow-calms s side bytes flow = at (plan_of s.shown side flow (size_in bytes)) (plan-says s.shown side flow (size_in bytes))
   where
     at : (r : Result Plan Reason) → PlanSays s.shown side flow r → Calming s (by_verdict s side bytes flow r)
     at (Ok plan) says = plan-calms s side bytes flow plan says
@@ -192,7 +192,7 @@ error-plan-calms s side bytes flow (AskAgain by hop) says = again-calms s (exit_
 error-plan-calms s side bytes flow (WaitFor e) says = nothing-calms s
 
 error-calms : (s : GatewayAndOutput) (side : Side) (bytes : List ℕ) (flow : ErrorFlow) → Calming s (error_taken s side bytes flow)
-error-calms s side bytes flow = at (error_plan s.shown side flow (length_in bytes)) (error-says s.shown side flow (length_in bytes))
+error-calms s side bytes flow = at (error_plan s.shown side flow (size_in bytes)) (error-says s.shown side flow (size_in bytes))
   where
     at : (r : Result Plan Reason) → ErrorSays s.shown side flow r → Calming s (by_error_verdict s side bytes flow r)
     at (Ok plan) says = error-plan-calms s side bytes flow plan says
@@ -482,7 +482,7 @@ frame-calms s side bytes (Ok (Asked echo)) s2 does = subst (λ (x : GatewayAndOu
 frame-calms s side bytes (Err reason) s2 does = subst (λ (x : GatewayAndOutput). Calming s x) (sym does) (refused-calms s side side bytes reason)
 
 does-calms : (s : GatewayAndOutput) (event : Event) (done : GatewayAndOutput) → Does s event done → Calming s done
-does-calms s (Frame side bytes) done does = frame-calms s side bytes.now (reading_on s.shown side bytes.now) done does
+does-calms s (Frame side bytes) done does = frame-calms s side bytes.now (arrival_on s.shown side bytes.now) done does
 does-calms s (Comes bytes) done does = subst (λ (x : GatewayAndOutput). Calming s x) (sym does) (datagram-calms s (reading bytes.now))
 does-calms s (Tick now) done does = subst (λ (x : GatewayAndOutput). Calming s x) (sym does.4) (tick-calms s now does.0 does.1 does.2 does.3)
 does-calms s Stop done does = subst (λ (x : GatewayAndOutput). Calming s x) (sym does.2) (stopped-calms s does.0 does.1)

@@ -42,7 +42,7 @@ use Rattle.vrrp_states.specs.declared.State.TheVariants.{Initialize, Backup, Act
 use Rattle.vrrp_states.specs.Table.{Router}
 use Rattle.spec_step.specs.declared.plans.Plan.{Plan}
 use Rattle.spec_step.specs.declared.plans.Plan.TheVariants.{Send, Ask, AskAgain, Wait as WaitFor}
-use Rattle.spec_step.specs.Parts.{all_taken, answered_by, arp_taken, asked_again, by_error_plan, by_error_verdict, by_plan, by_row, by_verdict, carried_all, datagram_in, datagram_read, echo_taken, error_taken, flags_in, flow_taken, framed, handed_in, has_synced, heard_by, heard_unless, keeping, length_in, link_ticked, neighbour_asked, record_done, record_shown, record_told, records_done, refused, released, renewed_behind, request_by, reset, retaken_by, routers_started, side_plugged, started_in, taken_again, wait_ended, wanted_by, wanted_for, with_link, with_routers, all_sought_done, alone_taken, gone_alone, peer_told, sought_done}
+use Rattle.spec_step.specs.Parts.{all_taken, answered_by, arp_taken, asked_again, by_error_plan, by_error_verdict, by_plan, by_row, by_verdict, carried_all, datagram_in, datagram_read, echo_taken, error_taken, flags_in, flow_taken, framed, handed_in, has_synced, heard_by, heard_unless, keeping, size_in, link_ticked, neighbour_asked, record_done, record_shown, record_told, records_done, refused, released, renewed_behind, request_by, reset, retaken_by, routers_started, side_plugged, started_in, taken_again, wait_ended, wanted_by, wanted_for, with_link, with_routers, all_sought_done, alone_taken, gone_alone, peer_told, sought_done}
 use Rattle.spec_step.specs.Shown.{GatewayAndOutput, Shown, id_of, is_apart, is_running, scene, station_on, with_notes, with_station}
 use Rattle.spec_step.specs.Steps.{word_by}
 use Rattle.spec_step.specs.Verdict.{error_hop, error_plan, exit_by, hop_by, plan_of, reading_on}
@@ -150,7 +150,7 @@ plan-stands s side bytes flow (WaitFor e) =
     stands-then s one (by_plan s side bytes flow (WaitFor e)) (wanted-stands s e) (keeping-stands one side bytes (wait.Pair e))
 
 pub flow-stands : (s : GatewayAndOutput) (side : Side) (bytes : List ℕ) (flow : Flow) → Stands s (flow_taken s side bytes flow)
-flow-stands s side bytes flow = at (plan_of s.shown side flow (length_in bytes))
+flow-stands s side bytes flow = at (plan_of s.shown side flow (size_in bytes))
   where
     at : (r : Result Plan Reason) → Stands s (by_verdict s side bytes flow r)
     at (Ok plan) = plan-stands s side bytes flow plan
@@ -167,7 +167,7 @@ error-plan-stands s side bytes flow (AskAgain by hop) = again-stands s (exit_by 
 error-plan-stands s side bytes flow (WaitFor e) = nothing-moves s
 
 pub error-stands : (s : GatewayAndOutput) (side : Side) (bytes : List ℕ) (flow : ErrorFlow) → Stands s (error_taken s side bytes flow)
-error-stands s side bytes flow = at (error_plan s.shown side flow (length_in bytes))
+error-stands s side bytes flow = at (error_plan s.shown side flow (size_in bytes))
   where
     at : (r : Result Plan Reason) → Stands s (by_error_verdict s side bytes flow r)
     at (Ok plan) = error-plan-stands s side bytes flow plan

@@ -31,7 +31,7 @@ use Rattle.packet_rules.specs.Flows.{source_of}
 use Rattle.spec_step.specs.declared.plans.Plan.{Plan}
 use Rattle.spec_step.specs.declared.plans.Plan.TheVariants.{Send, Ask, AskAgain, Wait as WaitFor}
 use Rattle.spec_step.specs.Machine.{AreBytes, KeepsBytes}
-use Rattle.spec_step.specs.Parts.{all_taken, asked_again, by_error_plan, by_error_verdict, by_plan, by_verdict, carried, carried_all, carried_by, echo_taken, error_taken, flags_in, flow_taken, framed, keeping, length_in, neighbour_asked, refused, released, remote, renewed_behind, request_by, retaken_by, taken_again, wanted_by, wanted_for}
+use Rattle.spec_step.specs.Parts.{all_taken, asked_again, by_error_plan, by_error_verdict, by_plan, by_verdict, carried, carried_all, carried_by, echo_taken, error_taken, flags_in, flow_taken, framed, keeping, size_in, neighbour_asked, refused, released, remote, renewed_behind, request_by, retaken_by, taken_again, wanted_by, wanted_for}
 use Rattle.spec_step.specs.Shown.{GatewayAndOutput, scene, station_on}
 use Rattle.spec_step.specs.Verdict.{error_hop, error_plan, exit_by, hop_by, plan_of, reading_on}
 use Rattle.spec_step.proofs.Own.{Said, echo-by, refusal-by, refused-by, said_scene}
@@ -113,7 +113,7 @@ module _ (P : GatewayAndOutput → GatewayAndOutput → Type 0)
     (unseen : (s s2 : GatewayAndOutput) → IsUnseen s s2 → P s s2)
     (wants : (s : GatewayAndOutput) (e : Endpoint) → IsWellFormedEndpoint e → P s (wanted_by s e))
     (carries : (s : GatewayAndOutput) (k : Key) (p : Carried) → P s (carried_by s k p))
-    (waits : (s : GatewayAndOutput) (side : Side) (bytes : List ℕ) (flow : Flow) (e : Endpoint) → AreBytes bytes → IsWellFormedEndpoint (source_of flow) → plan_of s.shown side flow (length_in bytes) ≡ Ok (WaitFor e) → P s (by_plan s side bytes flow (WaitFor e))) where
+    (waits : (s : GatewayAndOutput) (side : Side) (bytes : List ℕ) (flow : Flow) (e : Endpoint) → AreBytes bytes → IsWellFormedEndpoint (source_of flow) → plan_of s.shown side flow (size_in bytes) ≡ Ok (WaitFor e) → P s (by_plan s side bytes flow (WaitFor e))) where
   nothing : (s : GatewayAndOutput) → P s s
   nothing s = unseen s s (same-unseen s)
 
@@ -135,7 +135,7 @@ module _ (P : GatewayAndOutput → GatewayAndOutput → Type 0)
       let one = said_scene s side frame tally in
       join s one _ (unseen s one (said-unseen s side frame tally)) (unseen one _ (renewed-unseen one side hop))
 
-  plans : (s : GatewayAndOutput) (side : Side) (bytes : List ℕ) (flow : Flow) (plan : Plan) → AreBytes bytes → IsWellFormedEndpoint (source_of flow) → plan_of s.shown side flow (length_in bytes) ≡ Ok plan → P s (by_plan s side bytes flow plan)
+  plans : (s : GatewayAndOutput) (side : Side) (bytes : List ℕ) (flow : Flow) (plan : Plan) → AreBytes bytes → IsWellFormedEndpoint (source_of flow) → plan_of s.shown side flow (size_in bytes) ≡ Ok plan → P s (by_plan s side bytes flow plan)
   plans s side bytes flow (Send by next) are formed is =
       let one = wanted_for s flow by in
       let two = carried_all (framed one _ _) flow (flags_in bytes) by in
@@ -165,9 +165,9 @@ module _ (P : GatewayAndOutput → GatewayAndOutput → Type 0)
       (λ hop. unseen s _ (again-unseen s side hop))
 
   pub flows : (s : GatewayAndOutput) (side : Side) (bytes : List ℕ) (flow : Flow) → AreBytes bytes → IsWellFormedEndpoint (source_of flow) → P s (flow_taken s side bytes flow)
-  flows s side bytes flow are formed = at (plan_of s.shown side flow (length_in bytes)) refl
+  flows s side bytes flow are formed = at (plan_of s.shown side flow (size_in bytes)) refl
     where
-      at : (r : Result Plan Reason) → plan_of s.shown side flow (length_in bytes) ≡ r → P s (by_verdict s side bytes flow r)
+      at : (r : Result Plan Reason) → plan_of s.shown side flow (size_in bytes) ≡ r → P s (by_verdict s side bytes flow r)
       at (Ok plan) is = plans s side bytes flow plan are formed is
       at (Err reason) is = refusal-by (λ x. P s x) s side bytes flow (nothing s) (wants s (source_of flow) formed) (says s side) reason
 
@@ -182,7 +182,7 @@ module _ (P : GatewayAndOutput → GatewayAndOutput → Type 0)
   error-plans s side bytes flow (WaitFor e) are = nothing s
 
   pub errors : (s : GatewayAndOutput) (side : Side) (bytes : List ℕ) (flow : ErrorFlow) → AreBytes bytes → P s (error_taken s side bytes flow)
-  errors s side bytes flow are = at (error_plan s.shown side flow (length_in bytes))
+  errors s side bytes flow are = at (error_plan s.shown side flow (size_in bytes))
     where
       at : (r : Result Plan Reason) → P s (by_error_verdict s side bytes flow r)
       at (Ok plan) = error-plans s side bytes flow plan are

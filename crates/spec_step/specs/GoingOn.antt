@@ -25,7 +25,7 @@ use Rattle.packet_rules.specs.Flows.{source_of, target_of}
 use Rattle.packet_rules.specs.Frames.{way_of}
 use Rattle.packet_rules.specs.Networks.{direction_of}
 use Rattle.spec_step.specs.Shown.{Shown}
-use Rattle.spec_step.specs.Verdict.{exit_by, fits_at, next_by, next_to, reading_on, target_pair}
+use Rattle.spec_step.specs.Verdict.{arrival_on, exit_by, fits_at, next_by, next_to, target_pair}
 
 -- the entry that was found is of this pair, and translates
 pub record Translates (found : Option Entry) (p : Pair) : Type 0 where
@@ -49,13 +49,13 @@ HavePairs g flow (Hairpin own other) =
 -- pairs translate, its next hop's hardware address is known, and it is no longer than what is sent there.
 pub record MayGoOn (g : Shown) (side : Side) (bytes : List ℕ) (by : Translation) : Type 0 where
   pub packet : Datagram
-  pub reads : reading_on g side bytes ≡ Ok (Packet packet)
+  pub reads : arrival_on g side bytes ≡ Ok (Packet packet)
   pub way : let flow = packet.flow in
       direction_of g.networks side flow.protocol flow.source.0 flow.destination.0 ≡ Ok (way_of by)
   pub pairs : HavePairs g packet.flow by
   pub hop : Mac
   pub next : next_by g by packet.flow ≡ Some hop
-  pub fits : fits_at g (exit_by by) packet.length ≡ true
+  pub fits : fits_at g (exit_by by) packet.size ≡ true
 
 -- the pair is the one on a port that the gateway owns, where the endpoint has two
 abbrev pub IsOwnWhereTwo : Shown → Endpoint → Pair → Type 0
@@ -83,12 +83,12 @@ HaveErrorPairs g flow (Hairpin own other) =
 -- the frame that came in has an error that goes on, under the conditions of MayGoOn
 pub record MayPassOn (g : Shown) (side : Side) (bytes : List ℕ) (by : Translation) : Type 0 where
   pub packet : ErrorPacket
-  pub reads : reading_on g side bytes ≡ Ok (Error packet)
+  pub reads : arrival_on g side bytes ≡ Ok (Error packet)
   pub way : error_direction g.networks side packet.flow ≡ Ok (way_of by)
   pub pairs : HaveErrorPairs g packet.flow by
   pub hop : Mac
   pub next : next_to g by packet.flow.destination ≡ Some hop
-  pub fits : fits_at g (exit_by by) packet.length ≡ true
+  pub fits : fits_at g (exit_by by) packet.size ≡ true
 
 -- ---- a packet for which a port has to be chosen
 
@@ -102,7 +102,7 @@ NeedsPair g flow way.Hairpin = (p : Pair) × (target_pair g flow ≡ Ok p)
 -- proposal that was given up counts as none.
 pub record NeedsPort (g : Shown) (side : Side) (bytes : List ℕ) : Type 0 where
   pub packet : Datagram
-  pub reads : reading_on g side bytes ≡ Ok (Packet packet)
+  pub reads : arrival_on g side bytes ≡ Ok (Packet packet)
   pub way : Direction
   pub goes : let flow = packet.flow in
       direction_of g.networks side flow.protocol flow.source.0 flow.destination.0 ≡ Ok way

@@ -27,7 +27,7 @@ use Rattle.spec_step.specs.Machine.{AreBytes}
 use Rattle.spec_step.specs.declared.plans.Plan.{Plan}
 use Rattle.spec_step.specs.declared.plans.Reply.{Reply}
 use Rattle.spec_step.specs.declared.plans.Reply.TheVariants as reply
-use Rattle.spec_step.specs.Parts.{length_in, sender_in, taken_again}
+use Rattle.spec_step.specs.Parts.{size_in, sender_in, taken_again}
 use Rattle.spec_step.specs.Shown.{GatewayAndOutput, Shown, station_on}
 use Rattle.spec_step.specs.Verdict.{next_back, plan_of, reading_on, reply_to}
 use Rattle.spec_step.specs.Truly.{AtHand, Known, is_own, near_on}
@@ -107,7 +107,7 @@ own_plan g side bytes flow (Err reason) =
 abbrev pub own_read : Shown → Side → List ℕ → Result Reading Reason → List Sent
 own_read g side bytes (Ok (Arp p)) = []
 own_read g side bytes (Ok (Advert a from)) = []
-own_read g side bytes (Ok (Packet packet)) = own_plan g side bytes packet.flow (plan_of g side packet.flow (length_in bytes))
+own_read g side bytes (Ok (Packet packet)) = own_plan g side bytes packet.flow (plan_of g side packet.flow (size_in bytes))
 own_read g side bytes (Ok (Error packet)) = []
 own_read g side bytes (Ok (Asked echo)) = own_reply g side bytes (reply_to g side echo)
 own_read g side bytes (Err reason) = own_refused g side side bytes reason

@@ -15,6 +15,8 @@ use Rattle.arp.specs.Neighbours.{asked_at, asks_at}
 use Rattle.frames.specs.Frame.{frame_of}
 use Rattle.icmp.specs.declared.packets.ErrorFlow.{ErrorFlow}
 use Rattle.ipv4.specs.declared.flows.Flow.{Flow}
+use Rattle.ipv4.specs.declared.packets.Size.{Size}
+use Rattle.ipv4.specs.Flow.{size_of}
 use Rattle.ipv4.specs.Header.{header_of, payload_of}
 use Rattle.ipv4.specs.Segment.{segment_of}
 use Rattle.activity.specs.declared.packets.Packet.{Packet as Carried}
@@ -161,9 +163,9 @@ asked_again s exit hop = let g = s.shown in let what = wait.Hop exit hop in
 
 -- ---- plans
 
--- how many bytes a frame's packet has
-abbrev pub length_in : List ℕ → ℕ
-length_in bytes = (header_of (frame_of bytes).body).total_length
+-- the size of a frame's packet
+abbrev pub size_in : List ℕ → Size
+size_in bytes = size_of (frame_of bytes).body
 
 -- who sent a frame's packet
 abbrev pub sender_in : List ℕ → Ip
@@ -229,7 +231,7 @@ by_verdict s side bytes flow (Err reason) = by_refusal s side bytes flow reason
 
 -- the scene after a packet was taken
 abbrev pub flow_taken : GatewayAndOutput → Side → List ℕ → Flow → GatewayAndOutput
-flow_taken s side bytes flow = by_verdict s side bytes flow (plan_of s.shown side flow (length_in bytes))
+flow_taken s side bytes flow = by_verdict s side bytes flow (plan_of s.shown side flow (size_in bytes))
 
 -- The scene after an error's plan was carried out: the error is sent, or it waits and its next hop is asked for, or that
 -- hop is asked for again. No pair is made, used, renewed or ended, nothing is noted, and nothing is pushed.
@@ -253,7 +255,7 @@ by_error_verdict s side bytes flow (Err reason) = s
 
 -- the scene after an ICMP error was taken
 abbrev pub error_taken : GatewayAndOutput → Side → List ℕ → ErrorFlow → GatewayAndOutput
-error_taken s side bytes flow = by_error_verdict s side bytes flow (error_plan s.shown side flow (length_in bytes))
+error_taken s side bytes flow = by_error_verdict s side bytes flow (error_plan s.shown side flow (size_in bytes))
 
 -- The scene after the plan for an Echo to the gateway was carried out: the Echo is answered, or it waits and the next hop
 -- of its answer is asked for, or that hop is asked for again. An Echo is no use of a pair.

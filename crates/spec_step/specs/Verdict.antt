@@ -1,5 +1,5 @@
 -- The verdict on a packet: what a gateway is to do with it, as a function of the packet and the gateway.
-use Rattle.std.specs.Prelude.{ℕ, Bool, true, false, nat_le, Option, Some, None, Result, Ok, Err, List, if◌then◌else◌}
+use Rattle.std.specs.Prelude.{ℕ, Bool, true, false, not, ◌&&◌, ◌||◌, nat_le, Option, Some, None, Result, Ok, Err, List, if◌then◌else◌}
 use Rattle.addresses.specs.declared.ethernet.Mac.{Mac}
 use Rattle.addresses.specs.declared.internet.Ip.{Ip}
 use Rattle.nat_types.specs.declared.gateways.Side.{Side}
@@ -8,6 +8,7 @@ use Rattle.nat_types.specs.declared.pairs.EntryState.TheVariants.{Pending, Doome
 use Rattle.nat_types.specs.declared.pairs.Pair.{Pair}
 use Rattle.arp.specs.Neighbours.{mac_at}
 use Rattle.ipv4.specs.declared.flows.Flow.{Flow}
+use Rattle.ipv4.specs.declared.packets.Size.{Size}
 use Rattle.bindings.specs.declared.entries.Entry.{Entry}
 use Rattle.icmp.specs.declared.packets.ErrorFlow.{ErrorFlow}
 use Rattle.bindings.specs.Entries.{entry_of, slot_of}
@@ -29,7 +30,7 @@ use Rattle.packet_rules.specs.Errors.{endpoint_about, error_direction, key_about
 use Rattle.packet_rules.specs.Flows.{source_of, target_of}
 use Rattle.packet_rules.specs.Frames.{hop_of, way_of}
 use Rattle.packet_rules.specs.Networks.{back_hop, direction_of, exit_of, may_answer, mtu_of}
-use Rattle.packet_rules.specs.Steps.{reading_of, and_then}
+use Rattle.packet_rules.specs.Steps.{length_refusal, reading_of, and_then, unless}
 use Rattle.interfaces.specs.Stations.{is_active}
 use Rattle.interfaces.specs.Tallies.{may_reply}
 use Rattle.spec_step.specs.declared.events.Outcome.{Outcome}
@@ -115,9 +116,9 @@ plan_on g flow way.Inward = and_then (target_pair g flow) (λ p. plan_by g flow 
 plan_on g flow way.Hairpin =
     and_then (target_pair g flow) (λ p. plan_from g flow (λ own. Hairpin own p) (look_for g flow))
 
--- whether a packet of this many bytes may be sent at a side
-abbrev pub fits_at : Shown → Side → ℕ → Bool
-fits_at g exit length = nat_le length (mtu_of g.networks exit)
+-- whether a packet of this size may be sent at a side: it isn't longer than what is sent there, or it may be cut
+abbrev pub fits_at : Shown → Side → Size → Bool
+fits_at g exit size = nat_le size.length (mtu_of g.networks exit) || (g.networks.pass && not size.unbroken)
 
 -- a plan to send or to wait becomes a drop where the packet is too long, before anything else is done for it; a packet
 -- that is dropped anyway, because another waits for its next hop, is dropped for that
@@ -127,16 +128,20 @@ if_fits fits (Ask by hop) = (if fits then Ok (Ask by hop) else Err TooLong)
 if_fits fits (AskAgain by hop) = Ok (AskAgain by hop)
 if_fits fits (Wait endpoint) = (if fits then Ok (Wait endpoint) else Err TooLong)
 
--- the plan for a packet that came in on a side and has this many bytes, or the reason of its drop
-abbrev pub plan_of : Shown → Side → Flow → ℕ → Result Plan Reason
-plan_of g side flow length =
+-- the plan for a packet that came in on a side and has this size, or the reason of its drop
+abbrev pub plan_of : Shown → Side → Flow → Size → Result Plan Reason
+plan_of g side flow size =
     and_then (direction_of g.networks side flow.protocol flow.source.0 flow.destination.0)
-    (λ way. and_then (plan_on g flow way) (if_fits (fits_at g (exit_of way) length)))
+    (λ way. and_then (plan_on g flow way) (if_fits (fits_at g (exit_of way) size)))
 
--- what a frame on a side is read as, or the reason why it isn't taken
+-- what a whole frame of a side is read as, or the reason why it isn't taken
 abbrev pub reading_on : Shown → Side → List ℕ → Result Reading Reason
 reading_on g side bytes =
     let s = station_on g side in reading_of side s.network (is_active s) (is_up g) bytes
+
+-- the same of a frame that comes in on a side
+abbrev pub arrival_on : Shown → Side → List ℕ → Result Reading Reason
+arrival_on g side bytes = unless (length_refusal bytes) (reading_on g side bytes)
 
 -- ---- an ICMP error about a translated packet
 
@@ -166,11 +171,11 @@ error_on g flow way.Inward = and_then (pair_out g flow) (λ p. error_by g flow (
 error_on g flow way.Hairpin =
     and_then (pair_out g flow) (λ other. and_then (pair_in_of g flow) (λ own. error_by g flow (Hairpin own other)))
 
--- the plan for an error that came in on a side and has this many bytes, or the reason of its drop
-abbrev pub error_plan : Shown → Side → ErrorFlow → ℕ → Result Plan Reason
-error_plan g side flow length =
+-- the plan for an error that came in on a side and has this size, or the reason of its drop
+abbrev pub error_plan : Shown → Side → ErrorFlow → Size → Result Plan Reason
+error_plan g side flow size =
     and_then (error_direction g.networks side flow)
-    (λ way. and_then (error_on g flow way) (if_fits (fits_at g (exit_of way) length)))
+    (λ way. and_then (error_on g flow way) (if_fits (fits_at g (exit_of way) size)))
 
 -- ---- what a gateway says itself
 
@@ -198,7 +203,7 @@ abbrev pub reply_to : Shown → Side → Echo → Result Reply Reason
 reply_to g side echo =
     if may_answer g.networks side echo.source.0
     then (if may_reply g.moment (station_on g side).said
-    then and_then (reply_via g side (hop_back g side echo.source) (next_back g side echo.source)) (if_reply_fits (fits_at g side echo.length))
+    then and_then (reply_via g side (hop_back g side echo.source) (next_back g side echo.source)) (if_reply_fits (fits_at g side echo.size))
     else Err TooMany)
     else Err NoBinding
 
@@ -223,11 +228,11 @@ outcome_reply (Err reason) = Dropped reason
 abbrev pub outcome_read : Shown → Side → Result Reading Reason → Outcome
 outcome_read g side (Ok (Arp p)) = Done
 outcome_read g side (Ok (Advert a from)) = Done
-outcome_read g side (Ok (Packet packet)) = outcome_by (plan_of g side packet.flow packet.length)
-outcome_read g side (Ok (Error packet)) = outcome_by (error_plan g side packet.flow packet.length)
+outcome_read g side (Ok (Packet packet)) = outcome_by (plan_of g side packet.flow packet.size)
+outcome_read g side (Ok (Error packet)) = outcome_by (error_plan g side packet.flow packet.size)
 outcome_read g side (Ok (Asked echo)) = outcome_reply (reply_to g side echo)
 outcome_read g side (Err reason) = Dropped reason
 
--- the verdict on a frame: its outcome
+-- the verdict on a frame that comes in: its outcome
 abbrev pub verdict : Shown → Side → List ℕ → Outcome
-verdict g side bytes = outcome_read g side (reading_on g side bytes)
+verdict g side bytes = outcome_read g side (arrival_on g side bytes)

@@ -49,7 +49,7 @@ ghost use Rattle.spec_step.specs.LettingGo.{CanAskForAll, HasRested, IsLetGo, No
 ghost use Rattle.spec_step.specs.LettingGo.{ReleasesAlone};
 ghost use Rattle.spec_step.specs.Others.{AreOthers};
 ghost use Rattle.spec_step.specs.OwnAnswers.{AreWithin, SaysJust, ShowsNothing, all_own_of, own_of};
-ghost use Rattle.spec_step.specs.Parts.{all_idle_done, all_sought_done, all_taken, echo_taken, error_taken, flow_taken, length_in, refused, retaken_by};
+ghost use Rattle.spec_step.specs.Parts.{all_idle_done, all_sought_done, all_taken, echo_taken, error_taken, flow_taken, size_in, refused, retaken_by};
 ghost use Rattle.spec_step.specs.PassedOn.{ChangesLittle, HidesAllInside, LeavesPairs, TellsAll};
 ghost use Rattle.spec_step.specs.Rests.{AccountsOn, Rests, most_notes};
 ghost use Rattle.spec_step.specs.Settled.{AreIdle, HaveBegun, IsSettled};
@@ -252,7 +252,7 @@ pub fn own_leaves_pairs()
     ensures little { (s : GatewayAndOutput) (side exit : Side) (bytes : List ℕ)
         (reason : Reason) → ChangesLittle s.shown (refused s side exit bytes reason).shown }
     ensures too_long { (s : GatewayAndOutput) (side : Side) (bytes : List ℕ) (flow : Flow)
-        → plan_of s.shown side flow (length_in bytes) ≡ Err TooLong
+        → plan_of s.shown side flow (size_in bytes) ≡ Err TooLong
         → (let way = direction_of s.shown.networks side flow.protocol flow.source.0
         flow.destination.0 in flow_taken s side bytes flow
         ≡ refused s side (exit_for side way) bytes TooLong) }

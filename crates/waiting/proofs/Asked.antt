@@ -30,7 +30,7 @@ map-asked {X} f ignores now wait (w ∷ ws) =
     ap (λ (x : X). x ∷ map f (with_asked now wait ws)) (same-packet f ignores now wait w)
     ∙ ap (λ (xs : List X). f w ∷ xs) (map-asked f ignores now wait ws)
 
-sum-asked : (f : HeldPacket → ℕ) → Ignores f → (now : ℕ) (wait : WaitsFor) (ws : List HeldPacket) → sum_by f (with_asked now wait ws) ≡ sum_by f ws
+pub sum-asked : (f : HeldPacket → ℕ) → Ignores f → (now : ℕ) (wait : WaitsFor) (ws : List HeldPacket) → sum_by f (with_asked now wait ws) ≡ sum_by f ws
 sum-asked f ignores now wait [] = refl
 sum-asked f ignores now wait (w ∷ ws) =
     omega (

@@ -1,5 +1,6 @@
 mod Asked
 mod Moving
+mod Octets
 mod Places
 mod Singles
 pub mod Offered

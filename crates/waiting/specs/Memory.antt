@@ -6,6 +6,6 @@ use Rattle.memory.specs.Memory.{WasRefused}
 abbrev pub LacksPackets : Type 0
 LacksPackets = WasRefused 128 ⊎ WasRefused 64
 
--- no memory was obtained for a copy of so many bytes: for a buffer of 1,514 bytes, or for more than it has
+-- no memory was obtained for a copy of so many bytes: for a buffer of 1,514 bytes, or for one of so many
 abbrev pub LacksCopy : ℕ → Type 0
 LacksCopy count = WasRefused 1514 ⊎ WasRefused count

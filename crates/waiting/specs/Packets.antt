@@ -1,6 +1,6 @@
 -- The packets that wait.
-use Rattle.std.specs.Prelude.{◌≡◌, ℕ, ◌-◌, ◌≤◌, Bool, true, false, not, ◌&&◌, nat_lt, nat_le, Option, None, Some, List, [], ◌∷◌, map, if◌then◌else◌}
-use Rattle.std.specs.List.{filter, count_by, list_any, AllPairs}
+use Rattle.std.specs.Prelude.{◌≡◌, ℕ, ◌-◌, ◌≤◌, Bool, true, false, not, ◌&&◌, nat_lt, nat_le, Option, None, Some, List, [], ◌∷◌, length, map, if◌then◌else◌}
+use Rattle.std.specs.List.{filter, count_by, list_any, sum_by, AllPairs}
 use Rattle.nat_types.specs.declared.gateways.Side.{Side}
 use Rattle.waiting.specs.declared.waits.WaitsFor.{WaitsFor}
 use Rattle.waiting.specs.declared.waits.WaitsFor.TheVariants.{Pair, Hop}
@@ -19,6 +19,14 @@ pub record HeldPacket : Type 0 where
 -- whether a packet has waited for less than 300 centiseconds
 abbrev pub is_young : ℕ → HeldPacket → Bool
 is_young now packet = nat_lt (now - packet.since) 300
+
+-- how many bytes a frame of so many has beyond 1,514, which is the most of a frame that comes in
+abbrev pub beyond : ℕ → ℕ
+beyond count = count - 1514
+
+-- the octets of packets: how many bytes their frames have beyond 1,514 each
+abbrev pub octets_in : List HeldPacket → ℕ
+octets_in kept = sum_by (λ packet. beyond (length packet.bytes)) kept
 
 -- how many packets wait for pairs, and how many for next hops
 abbrev pub pair_count : List HeldPacket → ℕ

@@ -1,16 +1,17 @@
 //! Packets that wait, and the list of them.
-ghost use Rattle.std.specs.Prelude.{◌≡◌, ◌≤◌, ◌+◌, ◌++◌, ◌∷◌, [], ◌==◌, ◌-◌, ◌&&◌, length, IfOk, IsTrue, not, nat_le, if◌then◌else◌};
+ghost use Rattle.std.specs.Prelude.{◌≡◌, ◌≤◌, ◌+◌, ◌*◌, ◌++◌, ◌∷◌, [], ◌==◌, ◌-◌, ◌&&◌, length, IfOk, IsTrue, not, nat_le, if◌then◌else◌};
 ghost use Rattle.std.specs.Prelude.{vec_len, vec_capacity, position};
 ghost use Rattle.std.specs.List.{filter, list_any, AllPass};
 ghost use Rattle.waiting.specs.Waits.{is_for_pair, same_wait, ends};
 ghost use Rattle.waiting.specs.declared.waits.Ended.TheVariants.{One, AllPairs};
 ghost use Rattle.waiting.specs.Packets.{is_young, has_place, has_room, pair_count, hop_count, ended_by, left_by, IsKept};
+ghost use Rattle.waiting.specs.Packets.{beyond, octets_in};
 ghost use Rattle.waiting.specs.Packets.{without_first_hop, with_room, asks_again, with_asked};
 ghost use Rattle.waiting.specs.Packets.{AreApart, listed};
 ghost use Rattle.std.specs.Prelude.{OnErr};
 ghost use Rattle.waiting.specs.Memory.{LacksCopy, LacksPackets};
 
-use crate::buffers::SpareBuffers;
+use crate::buffers::{LONGEST_FRAME, SpareBuffers};
 use crate::{Ended, WaitsFor};
 use nat_types::Side;
 use std::alloc::{AllocError, Global};
@@ -30,7 +31,8 @@ const LONGEST_WAIT: u64 = 300;
 pub struct HeldPacket {
     /// The side on which the frame came in.
     pub side: Side,
-    /// The bytes of the frame, unchanged.
+    /// The bytes of the frame, unchanged: at most 65,549, an Ethernet header and the longest IPv4
+    /// packet.
     pub bytes: Vec<u8>,
     /// The time since which the packet waits, in centiseconds.
     pub since: u64,
@@ -41,6 +43,7 @@ pub struct HeldPacket {
 }
 
 impl Model for HeldPacket {
+    ghost use Rattle.std.specs.Prelude.{◌≤◌, length};
     ghost use Rattle.waiting.specs.Packets.{HeldPacket as Packet};
 
     ghost Value = { Packet };
@@ -52,6 +55,8 @@ impl Model for HeldPacket {
       wait = w.wait;
       asked = w.asked;
     } };
+
+    ghost invariant = { λ w. length w.bytes.items ≤ 65549 };
 }
 
 impl HeldPacket {
@@ -74,6 +79,14 @@ impl HeldPacket {
             wait,
             asked: since,
         }
+    }
+
+    /// Returns how many bytes the frame has beyond 1,514, the most of one that comes in.
+    fn octets(&self) -> usize
+        ensures count { result ≡ beyond (length self.now.bytes) }
+        ensures few { result ≤ 64035 }
+    {
+        self.bytes.len().saturating_sub(LONGEST_FRAME)
     }
 
     fn is_young(&self, now: u64) -> bool
@@ -130,6 +143,19 @@ fn hop_count(packets: &[HeldPacket]) -> usize
         .iter()
         .filter(|packet| !packet.wait.is_for_pair())
         .count()
+}
+
+/// Returns how many bytes the frames of packets have beyond 1,514 each.
+fn octets_of(packets: &[HeldPacket]) -> usize
+    requires few { length packets.now ≤ 128 }
+    ensures count { result ≡ octets_in packets.now }
+    ensures few { result ≤ 64035 * length packets.now }
+{
+    let mut total = 0;
+    for packet in packets {
+        total += packet.octets();
+    }
+    total
 }
 
 /// Whether one more packet may wait for this: for a pair where fewer than 64 do, for a next hop
@@ -272,6 +298,7 @@ impl WaitingPackets {
         since: u64,
         wait: WaitsFor,
     ) -> Result<HeldPacket, AllocError>
+        requires short { length bytes.now ≤ 65549 }
         ensures packet { IfOk result (λ w. w
             ≡ record {
               side = side;
@@ -322,6 +349,16 @@ impl WaitingPackets {
         self.packets.len()
     }
 
+    /// Returns how many bytes the frames of the packets have beyond 1,514 each. They are 0 unless a
+    /// packet waits whose frame was put together of fragments.
+    pub fn octets(&self) -> usize
+        ensures count { result ≡ octets_in self.now }
+        ensures few { result ≤ 8196480 }
+    {
+        let _few = self.len();
+        octets_of(&self.packets)
+    }
+
     /// Whether no packet waits.
     pub fn is_empty(&self) -> bool
         ensures { result ≡ (length self.now == 0) }
@@ -341,7 +378,8 @@ impl WaitingPackets {
     /// these is dropped.
     pub fn keep(&mut self, packet: HeldPacket)
         requires { IsTrue (has_place self.old packet.wait) }
-        ensures { self.new ≡ with_room packet.wait self.old ++ packet ∷ [] }
+        ensures kept { self.new ≡ with_room packet.wait self.old ++ packet ∷ [] }
+        ensures octets { octets_in self.new ≤ octets_in self.old + beyond (length packet.bytes) }
     {
         make_room(&mut self.packets, packet.wait);
         self.packets.push_reserved(packet);
@@ -352,6 +390,7 @@ impl WaitingPackets {
     pub fn ask_again(&mut self, wait: WaitsFor, now: u64) -> bool
         ensures asks { result ≡ asks_again now wait self.old }
         ensures after { self.new ≡ (if result then with_asked now wait self.old else self.old) }
+        ensures octets { octets_in self.new ≡ octets_in self.old }
     {
         let asks = asks_again(&self.packets, wait, now);
         if asks {
@@ -369,6 +408,8 @@ impl WaitingPackets {
         ensures gone { AllPass (λ packet. not (ends ended packet.wait)) self.new }
         ensures count { vec_len list.new + length self.new ≡ vec_len list.old + length self.old }
         ensures capacity { vec_capacity list.new ≡ vec_capacity list.old }
+        ensures octets { octets_in self.new + octets_in (ended_by ended self.old)
+            ≡ octets_in self.old }
         // At most 64 packets wait for pairs.
         ensures pairs { length (ended_by AllPairs self.old) ≤ 64 }
     {
@@ -379,6 +420,7 @@ impl WaitingPackets {
     pub fn take_one(&mut self, wait: WaitsFor) -> Option<HeldPacket>
         ensures left { self.new ≡ left_by (One wait) self.old }
         ensures taken { listed result ≡ ended_by (One wait) self.old }
+        ensures octets { octets_in self.new + octets_in (listed result) ≡ octets_in self.old }
     {
         remove_one(&mut self.packets, wait)
     }
@@ -386,6 +428,7 @@ impl WaitingPackets {
     /// Drops the packets that have waited for 300 centiseconds or more.
     pub fn drop_old(&mut self, now: u64)
         ensures young { self.new ≡ filter (is_young now) self.old }
+        ensures octets { octets_in self.new ≤ octets_in self.old }
     {
         retain_young(&mut self.packets, now);
     }

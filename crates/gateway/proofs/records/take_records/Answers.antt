@@ -16,6 +16,7 @@ loop-entry-init c = record {
   ready = c.requires.room.pairs;
   places = c.requires.places;
   frames = c.requires.room.frames;
+  octets = omega (arith, c.requires.room.octets);
   notes = c.requires.room.notes;
   datagrams = refl;
 }
@@ -44,6 +45,7 @@ take_record-requires-clause-room c =
     let ready = c.loop-entry.invariant.ready in
     record {
       frames = omega (arith, e, frames);
+      octets = omega (arith, c.loop-entry.invariant.octets);
       notes = omega (arith, e, notes);
       pairs = omega (arith, e, ready);
     }
@@ -77,6 +79,7 @@ loop-entry-preserved c =
       ready = omega (arith, size, ready, ready2);
       places = made.places (answers_count rest) (omega (arith, most, size, few)) (omega (arith, counted, more, places));
       frames = omega (arith, size, frames, frames2);
+      octets = omega (arith, inv.octets, made.spends.octets);
       notes = omega (arith, size, notes, notes2);
       datagrams = made.spends.datagrams ∙ inv.datagrams;
     }

@@ -2,6 +2,7 @@ use Rattle.std.proofs.Common.{◌≡◌, ◌≤◌, ◌*◌, length, drop}
 use Rattle.std.specs.List.{AllByRecursion}
 use Rattle.link.specs.Grammar.{IsWellFormedRecord}
 use Rattle.link.specs.Link.{answers_count, free_places}
+use Rattle.waiting.specs.Packets.{octets_in}
 use Rattle.spec_step.specs.Parts.{records_done}
 use Rattle.forwarder.specs.Forwarder.{scene_on}
 use Rattle.gateway.proofs.records.take_records.Given as goal
@@ -15,6 +16,7 @@ pub record SoFar (l : goal.Live-loop-entry) : Type 0 where
   pub ready : 2 * length (drop l.entry-index l.records) ≤ l.forwarder.core.table.ready
   pub places : answers_count (drop l.entry-index l.records) ≤ free_places l.forwarder.link
   pub frames : 2 * length (drop l.entry-index l.records) ≤ l.page.room.frames
+  pub octets : octets_in l.forwarder.kept ≤ l.page.room.octets
   pub notes : 4 * length (drop l.entry-index l.records) ≤ l.page.room.notes
   pub datagrams : l.page.room.datagrams ≡ l.fn.page.room.datagrams
 

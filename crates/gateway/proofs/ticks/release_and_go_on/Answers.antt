@@ -33,8 +33,11 @@ returns-clause-spends c = λ apart.
     let put = ap (λ (r : Room). r.notes) c.put_notes.ensures.room in
     let frames = ap (λ (r : Room). r.frames) c.put_notes.ensures.room in
     let taken = ap (λ (p : Paged). p.room.frames) c.take_notes-notes.ensures.rest in
+    let octets = ap (λ (r : Room). r.octets) c.put_notes.ensures.room in
+    let octets_taken = ap (λ (p : Paged). p.room.octets) c.take_notes-notes.ensures.rest in
     record {
       frames = omega (arith, frames, taken);
+      octets = omega (arith, octets, octets_taken);
       datagrams = search rules;
       notes = omega (arith, put, few, room, reserved, c.tick.ensures.capacity, c.mark_or_tell.ensures.len, c.mark_or_tell.ensures.capacity);
       pairs = omega (arith, c.tick.ensures.ready, c.mark_or_tell.ensures.ready);

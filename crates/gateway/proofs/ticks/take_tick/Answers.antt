@@ -41,6 +41,7 @@ returns-clause-spends c = λ apart.
     let size = ap (λ (x : Core). length x.table.entries) core in
     record {
       frames = omega (arith, turn.frames, both.frames, idle.frames);
+      octets = omega (arith, turn.octets, both.octets, c.drop_old.ensures.octets, idle.octets);
       datagrams = idle.datagrams ∙ both.datagrams ∙ turn.datagrams;
       notes = omega (arith, turn.notes, both.notes, idle.notes, size);
       pairs = omega (arith, turn.pairs, both.pairs, idle.pairs);

@@ -1,5 +1,5 @@
 use Rattle.std.proofs.Common.{◌++◌, ap, ◌∙◌}
-use Rattle.packet_rules.proofs.Appended.{three-appended}
+use Rattle.frames.proofs.Offered.{three-appended}
 use Rattle.packet_rules.proofs.adverts.append_advert.Goals as goal
 
 pub returns-clause-items : goal.returns-clause-items

@@ -1,4 +1,4 @@
-use Rattle.std.proofs.Common.{ap, ◌∙◌}
+use Rattle.std.proofs.Common.{length, ap, ◌∙◌}
 use Rattle.packet_rules.specs.Networks.{exit_of}
 use Rattle.forwarder.specs.declared.forwarders.Forwarder.{Forwarder}
 use Rattle.forwarder.proofs.Taking.{kept-places, sent-as, sent-spends}
@@ -11,8 +11,8 @@ returns-clause-scene c = λ side.
 
 pub returns-clause-spends : goal.returns-clause-spends
 returns-clause-spends c =
-    sent-spends c.args.self.now c.wish_for.new.self c.carry_all.new.self c.ask_behind.new.self c.args.page.now c.wish_for.new.page c.send_frame.new.page c.carry_all.new.page c.ask_behind.new.page
-    c.wish_for.ensures.spends c.send_frame.ensures.room c.carry_all.ensures.spends c.ask_behind.ensures.spends
+    sent-spends (length c.args.bytes.now) c.args.self.now c.wish_for.new.self c.carry_all.new.self c.ask_behind.new.self c.args.page.now c.wish_for.new.page c.send_frame.new.page c.carry_all.new.page c.ask_behind.new.page
+    c.wish_for.ensures.spends c.send_frame.ensures.room c.send_frame.ensures.octets c.carry_all.ensures.spends c.ask_behind.ensures.spends
 
 pub returns-clause-places : goal.returns-clause-places
 returns-clause-places c = kept-places c.args.self.now c.wish_for.new.self c.ask_behind.new.self (c.ask_behind.ensures.link ∙ ap (λ (f : Forwarder). f.link) c.carry_all.ensures.rest) c.wish_for.ensures.places

@@ -1,8 +1,8 @@
-use Rattle.std.proofs.Common.{ℕ, List, sym, ap, ◌∙◌}
+use Rattle.std.proofs.Common.{ℕ, List, length, sym, ap, ◌∙◌}
 use Rattle.nat_types.specs.declared.gateways.Side.{Side}
 use Rattle.spec_step.specs.Parts.{refused}
 use Rattle.forwarder.specs.Forwarder.{scene_on}
-use Rattle.forwarder.proofs.Taking.{carries-as, frames-spend, reading-made, retaken-as, same-places}
+use Rattle.forwarder.proofs.Taking.{carries-as, error-spends, frames-spend, reading-made, retaken-as, same-places}
 use Rattle.forwarder.proofs.forwarders.Forwarder.take_again.Goals as goal
 
 pub take_flow_again-requires-clause-forwardable : goal.take_flow_again-requires-clause-forwardable
@@ -17,7 +17,7 @@ take_flow_again-requires-clause-read c =
 
 pub returns-in-Ok-Packet-clause-scene : goal.returns-in-Ok-Packet-clause-scene
 returns-in-Ok-Packet-clause-scene c =
-    c.take_flow_again.ensures.scene ∙ retaken-as (scene_on c.args.self.now c.args.page.now) c.args.packet c.side_of.ensures c.bytes_of.ensures (reading-made c.in-Ok-Packet.is c.in-Ok-Packet.field-0-is c.read_frame.ensures.reading)
+    c.take_flow_again.ensures.scene ∙ retaken-as (scene_on c.args.self.now c.args.page.now) c.args.packet c.side_of.ensures c.bytes_of.ensures (reading-made c.in-Ok-Packet.is c.in-Ok-Packet.field-0-is c.read_whole.ensures.reading)
 
 pub take_error_again-requires-clause-passable : goal.take_error_again-requires-clause-passable
 take_error_again-requires-clause-passable c =
@@ -31,7 +31,7 @@ take_error_again-requires-clause-read c =
 
 pub returns-in-Ok-Error-clause-scene : goal.returns-in-Ok-Error-clause-scene
 returns-in-Ok-Error-clause-scene c =
-    c.take_error_again.ensures.scene ∙ retaken-as (scene_on c.args.self.now c.args.page.now) c.args.packet c.side_of.ensures c.bytes_of.ensures (reading-made c.in-Ok-Error.is c.in-Ok-Error.field-0-is c.read_frame.ensures.reading)
+    c.take_error_again.ensures.scene ∙ retaken-as (scene_on c.args.self.now c.args.page.now) c.args.packet c.side_of.ensures c.bytes_of.ensures (reading-made c.in-Ok-Error.is c.in-Ok-Error.field-0-is c.read_whole.ensures.reading)
 
 pub take_echo_again-requires-clause-askable : goal.take_echo_again-requires-clause-askable
 take_echo_again-requires-clause-askable c =
@@ -45,7 +45,7 @@ take_echo_again-requires-clause-read c =
 
 pub returns-in-Ok-Asked-clause-scene : goal.returns-in-Ok-Asked-clause-scene
 returns-in-Ok-Asked-clause-scene c =
-    c.take_echo_again.ensures.scene ∙ retaken-as (scene_on c.args.self.now c.args.page.now) c.args.packet c.side_of.ensures c.bytes_of.ensures (reading-made c.in-Ok-Asked.is c.in-Ok-Asked.field-0-is c.read_frame.ensures.reading)
+    c.take_echo_again.ensures.scene ∙ retaken-as (scene_on c.args.self.now c.args.page.now) c.args.packet c.side_of.ensures c.bytes_of.ensures (reading-made c.in-Ok-Asked.is c.in-Ok-Asked.field-0-is c.read_whole.ensures.reading)
 
 pub returns-in-Err-clause-scene : goal.returns-in-Err-clause-scene
 returns-in-Err-clause-scene c =
@@ -53,7 +53,7 @@ returns-in-Err-clause-scene c =
     c.refuse_unread.ensures.scene
     ∙ ap (λ (x : Side). refused s x x c.bytes_of-in-Err.result.now c.in-Err.reason) c.side_of-in-Err.ensures
     ∙ ap (λ (bs : List ℕ). refused s c.args.packet.side c.args.packet.side bs c.in-Err.reason) c.bytes_of-in-Err.ensures
-    ∙ retaken-as s c.args.packet c.side_of.ensures c.bytes_of.ensures (sym c.read_frame.ensures.reading ∙ c.in-Err.is)
+    ∙ retaken-as s c.args.packet c.side_of.ensures c.bytes_of.ensures (sym c.read_whole.ensures.reading ∙ c.in-Err.is)
 
 -- ---- what it takes
 
@@ -64,19 +64,19 @@ pub returns-in-Ok-Packet-clause-places : goal.returns-in-Ok-Packet-clause-places
 returns-in-Ok-Packet-clause-places c = c.take_flow_again.ensures.places
 
 pub returns-in-Ok-Error-clause-spends : goal.returns-in-Ok-Error-clause-spends
-returns-in-Ok-Error-clause-spends c = frames-spend c.args.self.now c.take_error_again.new.self c.args.page.now c.take_error_again.new.page c.take_error_again.ensures.spends
+returns-in-Ok-Error-clause-spends c = error-spends (length c.args.packet.bytes) c.args.self.now c.take_error_again.new.self c.args.page.now c.take_error_again.new.page c.take_error_again.ensures.spends
 
 pub returns-in-Ok-Error-clause-places : goal.returns-in-Ok-Error-clause-places
 returns-in-Ok-Error-clause-places c = same-places c.args.self.now c.take_error_again.new.self c.take_error_again.ensures.link
 
 pub returns-in-Ok-Asked-clause-spends : goal.returns-in-Ok-Asked-clause-spends
-returns-in-Ok-Asked-clause-spends c = frames-spend c.args.self.now c.take_echo_again.new.self c.args.page.now c.take_echo_again.new.page c.take_echo_again.ensures.spends
+returns-in-Ok-Asked-clause-spends c = error-spends (length c.args.packet.bytes) c.args.self.now c.take_echo_again.new.self c.args.page.now c.take_echo_again.new.page c.take_echo_again.ensures.spends
 
 pub returns-in-Ok-Asked-clause-places : goal.returns-in-Ok-Asked-clause-places
 returns-in-Ok-Asked-clause-places c = same-places c.args.self.now c.take_echo_again.new.self c.take_echo_again.ensures.link
 
 pub returns-in-Err-clause-spends : goal.returns-in-Err-clause-spends
-returns-in-Err-clause-spends c = frames-spend c.args.self.now c.refuse_unread.new.self c.args.page.now c.refuse_unread.new.page c.refuse_unread.ensures.spends
+returns-in-Err-clause-spends c = frames-spend (length c.args.packet.bytes) c.args.self.now c.refuse_unread.new.self c.args.page.now c.refuse_unread.new.page c.refuse_unread.ensures.spends
 
 pub returns-in-Err-clause-places : goal.returns-in-Err-clause-places
 returns-in-Err-clause-places c = same-places c.args.self.now c.refuse_unread.new.self c.refuse_unread.ensures.link

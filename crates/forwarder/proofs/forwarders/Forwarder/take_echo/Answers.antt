@@ -1,4 +1,4 @@
-use Rattle.std.proofs.Common.{List, Ok, Err, ap, sym, ◌∙◌}
+use Rattle.std.proofs.Common.{List, length, Ok, Err, ap, sym, ◌∙◌}
 use Rattle.waiting.specs.Packets.{HeldPacket, has_place}
 use Rattle.spec_step.specs.declared.plans.Reply.TheVariants.{Send, Ask, AskAgain}
 use Rattle.spec_step.specs.Parts.{by_reply}
@@ -6,7 +6,8 @@ use Rattle.spec_step.specs.Verdict.{outcome_reply}
 use Rattle.forwarder.specs.declared.forwarders.Forwarder.{Forwarder}
 use Rattle.forwarder.specs.Forwarder.{scene_on, shown_of}
 use Rattle.forwarder.proofs.Planning.{reply-plan-holds}
-use Rattle.forwarder.proofs.Taking.{again-spends, echo-taken-as, reply-made}
+use Rattle.forwarder.specs.Room.{frames_alone}
+use Rattle.forwarder.proofs.Taking.{again-spends, copy-spends, drop-spends, echo-taken-as, reply-made, reply-spends}
 use Rattle.forwarder.proofs.forwarders.Forwarder.take_echo.Goals as goal
 
 pub reply-requires-clause-may : goal.reply-requires-clause-may
@@ -67,16 +68,19 @@ pub returns-in-Ok-Send-clause-spends : goal.returns-in-Ok-Send-clause-spends
 returns-in-Ok-Send-clause-spends c = c.reply.ensures.spends
 
 pub returns-in_ok-copy-in-Ok-Ask-clause-spends : goal.returns-in_ok-copy-in-Ok-Ask-clause-spends
-returns-in_ok-copy-in-Ok-Ask-clause-spends c = again-spends c.args.self.now c.ask_for_reply.new.self c.args.page.now c.ask_for_reply.new.page c.ask_for_reply.ensures.spends
+returns-in_ok-copy-in-Ok-Ask-clause-spends c =
+    let copy = c.in_ok-copy-in-Ok-Ask in
+    reply-spends (length c.args.bytes.now) c.args.self.now c.ask_for_reply.new.self c.args.page.now c.ask_for_reply.new.page
+    (copy-spends (frames_alone 1) c.args.self.now c.ask_for_reply.new.self c.args.page.now c.ask_for_reply.new.page _ copy.copy.bytes c.args.bytes.now copy.ensures.same (ap (λ (w : HeldPacket). w.bytes) copy.ensures.packet) c.ask_for_reply.ensures.spends)
 
 pub returns-in-Ok-AskAgain-clause-link : goal.returns-in-Ok-AskAgain-clause-link
 returns-in-Ok-AskAgain-clause-link c = ap (λ (f : Forwarder). f.link) c.ask_again.ensures.rest
 
 pub returns-in-Ok-AskAgain-clause-spends : goal.returns-in-Ok-AskAgain-clause-spends
-returns-in-Ok-AskAgain-clause-spends c = again-spends c.args.self.now c.ask_again.new.self c.args.page.now c.ask_again.new.page c.ask_again.ensures.spends
+returns-in-Ok-AskAgain-clause-spends c = again-spends (length c.args.bytes.now) c.args.self.now c.ask_again.new.self c.args.page.now c.ask_again.new.page c.ask_again.ensures.spends
 
 pub returns-in-Err-clause-link : goal.returns-in-Err-clause-link
 returns-in-Err-clause-link c = c.refuse_whole.ensures.link
 
 pub returns-in-Err-clause-spends : goal.returns-in-Err-clause-spends
-returns-in-Err-clause-spends c = c.refuse_whole.ensures.spends
+returns-in-Err-clause-spends c = drop-spends (length c.args.bytes.now) c.args.self.now c.refuse_whole.new.self c.args.page.now c.refuse_whole.new.page c.refuse_whole.ensures.spends

@@ -1,11 +1,12 @@
-use Rattle.std.proofs.Common.{List, Ok, Err, ap, refl, sym, ◌∙◌}
+use Rattle.std.proofs.Common.{List, length, Ok, Err, ap, refl, sym, ◌∙◌}
 use Rattle.waiting.specs.Packets.{HeldPacket, has_place}
 use Rattle.spec_step.specs.declared.plans.Reply.TheVariants.{Send, Ask, AskAgain}
 use Rattle.spec_step.specs.Parts.{by_reply}
 use Rattle.forwarder.specs.declared.forwarders.Forwarder.{Forwarder}
 use Rattle.forwarder.specs.Forwarder.{scene_on, shown_of}
 use Rattle.forwarder.proofs.Planning.{reply-plan-holds}
-use Rattle.forwarder.proofs.Taking.{again-spends, echo-again-as, reply-made}
+use Rattle.forwarder.specs.Room.{frames_alone}
+use Rattle.forwarder.proofs.Taking.{again-spends, copied-spends, drop-spends, echo-again-as, reply-made, reply-spends, reused-spends}
 use Rattle.forwarder.proofs.forwarders.Forwarder.take_echo_again.Goals as goal
 
 pub reply-requires-clause-may : goal.reply-requires-clause-may
@@ -51,19 +52,22 @@ pub returns-in-Ok-Send-clause-link : goal.returns-in-Ok-Send-clause-link
 returns-in-Ok-Send-clause-link c = c.reply.ensures.link
 
 pub returns-in-Ok-Send-clause-spends : goal.returns-in-Ok-Send-clause-spends
-returns-in-Ok-Send-clause-spends c = c.reply.ensures.spends
+returns-in-Ok-Send-clause-spends c =
+    reused-spends (frames_alone 2) c.args.self.now c.reply.new.self c.args.page.now c.reply.new.page _ c.bytes_of-bytes.result.now c.args.packet.bytes c.reuse.ensures.same c.bytes_of-bytes.ensures c.reply.ensures.spends
 
 pub returns-in-Ok-Ask-clause-spends : goal.returns-in-Ok-Ask-clause-spends
-returns-in-Ok-Ask-clause-spends c = again-spends c.args.self.now c.ask_for_reply.new.self c.args.page.now c.ask_for_reply.new.page c.ask_for_reply.ensures.spends
+returns-in-Ok-Ask-clause-spends c =
+    reply-spends (length c.args.packet.bytes) c.args.self.now c.ask_for_reply.new.self c.args.page.now c.ask_for_reply.new.page
+    (copied-spends (frames_alone 1) c.args.self.now c.ask_for_reply.new.self c.args.page.now c.ask_for_reply.new.page c.again-copy.result.bytes c.args.packet.bytes (ap (λ (w : HeldPacket). w.bytes) c.again-copy.ensures) c.ask_for_reply.ensures.spends)
 
 pub returns-in-Ok-AskAgain-clause-link : goal.returns-in-Ok-AskAgain-clause-link
 returns-in-Ok-AskAgain-clause-link c = ap (λ (f : Forwarder). f.link) c.ask_again.ensures.rest
 
 pub returns-in-Ok-AskAgain-clause-spends : goal.returns-in-Ok-AskAgain-clause-spends
-returns-in-Ok-AskAgain-clause-spends c = again-spends c.args.self.now c.ask_again.new.self c.args.page.now c.ask_again.new.page c.ask_again.ensures.spends
+returns-in-Ok-AskAgain-clause-spends c = again-spends (length c.args.packet.bytes) c.args.self.now c.ask_again.new.self c.args.page.now c.ask_again.new.page c.ask_again.ensures.spends
 
 pub returns-in-Err-clause-link : goal.returns-in-Err-clause-link
 returns-in-Err-clause-link c = c.refuse_whole.ensures.link
 
 pub returns-in-Err-clause-spends : goal.returns-in-Err-clause-spends
-returns-in-Err-clause-spends c = c.refuse_whole.ensures.spends
+returns-in-Err-clause-spends c = drop-spends (length c.args.packet.bytes) c.args.self.now c.refuse_whole.new.self c.args.page.now c.refuse_whole.new.page c.refuse_whole.ensures.spends

@@ -1,4 +1,4 @@
-use Rattle.std.proofs.Common.{◌≡◌, List, Ok, Err, ap, sym, ◌∙◌}
+use Rattle.std.proofs.Common.{◌≡◌, List, length, Ok, Err, ap, sym, ◌∙◌}
 use Rattle.nat_types.specs.declared.gateways.Side.{Side}
 use Rattle.waiting.specs.declared.waits.WaitsFor.TheVariants.{Hop}
 use Rattle.waiting.specs.Packets.{HeldPacket, has_place}
@@ -9,13 +9,14 @@ use Rattle.spec_step.specs.Verdict.{exit_by, outcome_by}
 use Rattle.forwarder.specs.declared.forwarders.Forwarder.{Forwarder}
 use Rattle.forwarder.specs.Forwarder.{scene_on, shown_of}
 use Rattle.forwarder.proofs.Planning.{error-plan-holds}
-use Rattle.forwarder.proofs.Taking.{again-spends, error-taken-as, plan-made}
+use Rattle.forwarder.specs.Room.{frames_alone}
+use Rattle.forwarder.proofs.Taking.{again-spends, copy-spends, error-taken-as, plan-made}
 use Rattle.forwarder.proofs.forwarders.Forwarder.take_error.Goals as goal
 
 pub ask_for_error-requires-clause-place : goal.ask_for_error-requires-clause-place
 ask_for_error-requires-clause-place c =
     let made = plan-made c.in-Ok-Ask.is c.in-Ok-Ask.field-0-is c.plan_error.ensures in
-    let holds = error-plan-holds (shown_of c.args.self.now) c.args.side c.args.packet.flow c.args.packet.length (Ok (Ask c.in-Ok-Ask.by c.in-Ok-Ask.hop)) (sym made) in
+    let holds = error-plan-holds (shown_of c.args.self.now) c.args.side c.args.packet.flow c.args.packet.size (Ok (Ask c.in-Ok-Ask.by c.in-Ok-Ask.hop)) (sym made) in
     let exit : c.exit.result ≡ exit_by c.in-Ok-Ask.by = c.exit.ensures ∙ ap exit_of c.direction.ensures in
     ap (λ (k : List HeldPacket). has_place k c.in_ok-copy-in-Ok-Ask.copy.wait) c.in_ok-copy-in-Ok-Ask.ensures.same
     ∙ ap (λ (w : HeldPacket). has_place c.args.self.now.kept w.wait) c.in_ok-copy-in-Ok-Ask.ensures.packet
@@ -26,7 +27,7 @@ ask_for_error-requires-clause-place c =
 pub unreachable-requires : goal.unreachable-requires
 unreachable-requires c =
     let made = plan-made c.in-Ok-Wait.is c.in-Ok-Wait.field-0-is c.plan_error.ensures in
-    error-plan-holds (shown_of c.args.self.now) c.args.side c.args.packet.flow c.args.packet.length (Ok (WaitFor c.in-Ok-Wait.field-0-0)) (sym made)
+    error-plan-holds (shown_of c.args.self.now) c.args.side c.args.packet.flow c.args.packet.size (Ok (WaitFor c.in-Ok-Wait.field-0-0)) (sym made)
 
 pub returns-in-Ok-Send-clause-scene : goal.returns-in-Ok-Send-clause-scene
 returns-in-Ok-Send-clause-scene c =
@@ -78,10 +79,12 @@ pub returns-in-Ok-Send-clause-spends : goal.returns-in-Ok-Send-clause-spends
 returns-in-Ok-Send-clause-spends c = c.pass.ensures.spends
 
 pub returns-in_ok-copy-in-Ok-Ask-clause-spends : goal.returns-in_ok-copy-in-Ok-Ask-clause-spends
-returns-in_ok-copy-in-Ok-Ask-clause-spends c = c.ask_for_error.ensures.spends
+returns-in_ok-copy-in-Ok-Ask-clause-spends c =
+    let copy = c.in_ok-copy-in-Ok-Ask in
+    copy-spends (frames_alone 2) c.args.self.now c.ask_for_error.new.self c.args.page.now c.ask_for_error.new.page _ copy.copy.bytes c.args.bytes.now copy.ensures.same (ap (λ (w : HeldPacket). w.bytes) copy.ensures.packet) c.ask_for_error.ensures.spends
 
 pub returns-in-Ok-AskAgain-clause-link : goal.returns-in-Ok-AskAgain-clause-link
 returns-in-Ok-AskAgain-clause-link c = ap (λ (f : Forwarder). f.link) c.ask_again.ensures.rest
 
 pub returns-in-Ok-AskAgain-clause-spends : goal.returns-in-Ok-AskAgain-clause-spends
-returns-in-Ok-AskAgain-clause-spends c = again-spends c.args.self.now c.ask_again.new.self c.args.page.now c.ask_again.new.page c.ask_again.ensures.spends
+returns-in-Ok-AskAgain-clause-spends c = again-spends (length c.args.bytes.now) c.args.self.now c.ask_again.new.self c.args.page.now c.ask_again.new.page c.ask_again.ensures.spends

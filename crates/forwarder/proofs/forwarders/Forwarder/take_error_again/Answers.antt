@@ -1,4 +1,4 @@
-use Rattle.std.proofs.Common.{List, Ok, Err, ap, refl, sym, ◌∙◌}
+use Rattle.std.proofs.Common.{List, length, Ok, Err, ap, refl, sym, ◌∙◌}
 use Rattle.nat_types.specs.declared.gateways.Side.{Side}
 use Rattle.waiting.specs.declared.waits.WaitsFor.TheVariants.{Hop}
 use Rattle.waiting.specs.Packets.{HeldPacket, has_place}
@@ -8,13 +8,14 @@ use Rattle.spec_step.specs.Parts.{asked_again, by_error_plan}
 use Rattle.forwarder.specs.declared.forwarders.Forwarder.{Forwarder}
 use Rattle.forwarder.specs.Forwarder.{scene_on, shown_of}
 use Rattle.forwarder.proofs.Planning.{error-plan-holds}
-use Rattle.forwarder.proofs.Taking.{again-spends, error-again-as, plan-made}
+use Rattle.forwarder.specs.Room.{frames_alone}
+use Rattle.forwarder.proofs.Taking.{again-spends, copied-spends, error-again-as, plan-made, reused-spends}
 use Rattle.forwarder.proofs.forwarders.Forwarder.take_error_again.Goals as goal
 
 pub ask_for_error-requires-clause-place : goal.ask_for_error-requires-clause-place
 ask_for_error-requires-clause-place c =
     let made = plan-made c.in-Ok-Ask.is c.in-Ok-Ask.field-0-is c.plan_error.ensures in
-    let holds = error-plan-holds (shown_of c.args.self.now) c.side_of.result c.args.reading.flow c.args.reading.length (Ok (Ask c.in-Ok-Ask.by c.in-Ok-Ask.hop)) (sym made) in
+    let holds = error-plan-holds (shown_of c.args.self.now) c.side_of.result c.args.reading.flow c.args.reading.size (Ok (Ask c.in-Ok-Ask.by c.in-Ok-Ask.hop)) (sym made) in
     let exit = c.exit.ensures ∙ ap exit_of c.direction.ensures in
     ap (λ (w : HeldPacket). has_place c.args.self.now.kept w.wait) c.again-copy.ensures
     ∙ ap (λ (s : Side). has_place c.args.self.now.kept (Hop s c.in-Ok-Ask.hop)) exit
@@ -24,7 +25,7 @@ ask_for_error-requires-clause-place c =
 pub unreachable-requires : goal.unreachable-requires
 unreachable-requires c =
     let made = plan-made c.in-Ok-Wait.is c.in-Ok-Wait.field-0-is c.plan_error.ensures in
-    error-plan-holds (shown_of c.args.self.now) c.side_of.result c.args.reading.flow c.args.reading.length (Ok (WaitFor c.in-Ok-Wait.field-0-0)) (sym made)
+    error-plan-holds (shown_of c.args.self.now) c.side_of.result c.args.reading.flow c.args.reading.size (Ok (WaitFor c.in-Ok-Wait.field-0-0)) (sym made)
 
 pub returns-in-Ok-Send-clause-scene : goal.returns-in-Ok-Send-clause-scene
 returns-in-Ok-Send-clause-scene c =
@@ -62,13 +63,15 @@ pub returns-in-Ok-Send-clause-link : goal.returns-in-Ok-Send-clause-link
 returns-in-Ok-Send-clause-link c = c.pass.ensures.link
 
 pub returns-in-Ok-Send-clause-spends : goal.returns-in-Ok-Send-clause-spends
-returns-in-Ok-Send-clause-spends c = c.pass.ensures.spends
+returns-in-Ok-Send-clause-spends c =
+    reused-spends (frames_alone 2) c.args.self.now c.pass.new.self c.args.page.now c.pass.new.page _ c.bytes_of.result.now c.args.packet.bytes c.reuse.ensures.same c.bytes_of.ensures c.pass.ensures.spends
 
 pub returns-in-Ok-Ask-clause-spends : goal.returns-in-Ok-Ask-clause-spends
-returns-in-Ok-Ask-clause-spends c = c.ask_for_error.ensures.spends
+returns-in-Ok-Ask-clause-spends c =
+    copied-spends (frames_alone 2) c.args.self.now c.ask_for_error.new.self c.args.page.now c.ask_for_error.new.page c.again-copy.result.bytes c.args.packet.bytes (ap (λ (w : HeldPacket). w.bytes) c.again-copy.ensures) c.ask_for_error.ensures.spends
 
 pub returns-in-Ok-AskAgain-clause-link : goal.returns-in-Ok-AskAgain-clause-link
 returns-in-Ok-AskAgain-clause-link c = ap (λ (f : Forwarder). f.link) c.ask_again.ensures.rest
 
 pub returns-in-Ok-AskAgain-clause-spends : goal.returns-in-Ok-AskAgain-clause-spends
-returns-in-Ok-AskAgain-clause-spends c = again-spends c.args.self.now c.ask_again.new.self c.args.page.now c.ask_again.new.page c.ask_again.ensures.spends
+returns-in-Ok-AskAgain-clause-spends c = again-spends (length c.args.packet.bytes) c.args.self.now c.ask_again.new.self c.args.page.now c.ask_again.new.page c.ask_again.ensures.spends

@@ -1,4 +1,4 @@
-use Rattle.std.proofs.Common.{◌≡◌, List, Ok, Err, ap, sym, ◌∙◌}
+use Rattle.std.proofs.Common.{◌≡◌, List, length, Ok, Err, ap, sym, ◌∙◌}
 use Rattle.nat_types.specs.declared.gateways.Side.{Side}
 use Rattle.nat_types.specs.declared.pairs.Endpoint.{Endpoint}
 use Rattle.waiting.specs.declared.waits.WaitsFor.TheVariants.{Hop}
@@ -11,24 +11,25 @@ use Rattle.spec_step.specs.Verdict.{exit_by, outcome_by}
 use Rattle.forwarder.specs.declared.forwarders.Forwarder.{Forwarder}
 use Rattle.forwarder.specs.Forwarder.{scene_on, shown_of}
 use Rattle.forwarder.proofs.Planning.{plan-holds}
-use Rattle.forwarder.proofs.Taking.{ask-spends, plan-made, request-spends, same-places, taken-as, wish-spends}
+use Rattle.forwarder.specs.Room.{a_wish, an_ask}
+use Rattle.forwarder.proofs.Taking.{ask-spends, copy-spends, plan-made, refusal-spends, request-spends, same-places, taken-as, wait-spends}
 use Rattle.forwarder.proofs.forwarders.Forwarder.take_packet.Goals as goal
 
 pub send-requires-clause-own : goal.send-requires-clause-own
 send-requires-clause-own c =
     let made = plan-made c.in-Ok-Send.is c.in-Ok-Send.field-0-is c.plan.ensures in
-    plan-holds (shown_of c.args.self.now) c.args.side c.args.packet.flow c.args.packet.length (Ok (Send c.in-Ok-Send.by c.in-Ok-Send.next)) (sym made)
+    plan-holds (shown_of c.args.self.now) c.args.side c.args.packet.flow c.args.packet.size (Ok (Send c.in-Ok-Send.by c.in-Ok-Send.next)) (sym made)
 
 pub ask-requires-clause-own : goal.ask-requires-clause-own
 ask-requires-clause-own c =
     let made = plan-made c.in-Ok-Ask.is c.in-Ok-Ask.field-0-is c.plan.ensures in
-    let holds = plan-holds (shown_of c.args.self.now) c.args.side c.args.packet.flow c.args.packet.length (Ok (Ask c.in-Ok-Ask.by c.in-Ok-Ask.hop)) (sym made) in
+    let holds = plan-holds (shown_of c.args.self.now) c.args.side c.args.packet.flow c.args.packet.size (Ok (Ask c.in-Ok-Ask.by c.in-Ok-Ask.hop)) (sym made) in
     holds.0
 
 pub ask-requires-clause-place : goal.ask-requires-clause-place
 ask-requires-clause-place c =
     let made = plan-made c.in-Ok-Ask.is c.in-Ok-Ask.field-0-is c.plan.ensures in
-    let holds = plan-holds (shown_of c.args.self.now) c.args.side c.args.packet.flow c.args.packet.length (Ok (Ask c.in-Ok-Ask.by c.in-Ok-Ask.hop)) (sym made) in
+    let holds = plan-holds (shown_of c.args.self.now) c.args.side c.args.packet.flow c.args.packet.size (Ok (Ask c.in-Ok-Ask.by c.in-Ok-Ask.hop)) (sym made) in
     let exit : c.exit.result ≡ exit_by c.in-Ok-Ask.by = c.exit.ensures ∙ ap exit_of c.direction.ensures in
     ap (λ (k : List HeldPacket). has_place k c.in_ok-copy-in-Ok-Ask.copy.wait) c.in_ok-copy-in-Ok-Ask.ensures.same
     ∙ ap (λ (w : HeldPacket). has_place c.args.self.now.kept w.wait) c.in_ok-copy-in-Ok-Ask.ensures.packet
@@ -38,7 +39,7 @@ ask-requires-clause-place c =
 pub wait-requires-clause-place : goal.wait-requires-clause-place
 wait-requires-clause-place c =
     let made = plan-made c.in-Ok-Wait.is c.in-Ok-Wait.field-0-is c.plan.ensures in
-    let holds = plan-holds (shown_of c.args.self.now) c.args.side c.args.packet.flow c.args.packet.length (Ok (WaitFor c.in-Ok-Wait.endpoint)) (sym made) in
+    let holds = plan-holds (shown_of c.args.self.now) c.args.side c.args.packet.flow c.args.packet.size (Ok (WaitFor c.in-Ok-Wait.endpoint)) (sym made) in
     ap (λ (k : List HeldPacket). has_place k c.in_ok-copy-in-Ok-Wait.copy.wait) c.in_ok-copy-in-Ok-Wait.ensures.same
     ∙ ap (λ (w : HeldPacket). has_place c.args.self.now.kept w.wait) c.in_ok-copy-in-Ok-Wait.ensures.packet ∙ holds.0
 
@@ -52,7 +53,7 @@ returns-in_ok-copy-in-Ok-Wait-clause-scene c =
     let s = scene_on c.args.self.now c.args.page.now in
     let e = c.in-Ok-Wait.endpoint in
     let made = plan-made c.in-Ok-Wait.is c.in-Ok-Wait.field-0-is c.plan.ensures in
-    let holds = plan-holds (shown_of c.args.self.now) c.args.side c.args.packet.flow c.args.packet.length (Ok (WaitFor e)) (sym made) in
+    let holds = plan-holds (shown_of c.args.self.now) c.args.side c.args.packet.flow c.args.packet.size (Ok (WaitFor e)) (sym made) in
     c.wait.ensures.scene
     ∙ ap (λ (k : List HeldPacket). (let w = c.in_ok-copy-in-Ok-Wait.copy in by_plan (scene_on (record c.args.self.now { kept = k }) c.args.page.now) w.side w.bytes c.args.packet.flow (WaitFor (source_of c.args.packet.flow)))) c.in_ok-copy-in-Ok-Wait.ensures.same
     ∙ ap (λ (w : HeldPacket). by_plan s w.side w.bytes c.args.packet.flow (WaitFor (source_of c.args.packet.flow))) c.in_ok-copy-in-Ok-Wait.ensures.packet
@@ -108,25 +109,31 @@ pub returns-in-Ok-Send-clause-places : goal.returns-in-Ok-Send-clause-places
 returns-in-Ok-Send-clause-places c = c.send.ensures.places
 
 pub returns-in_ok-copy-in-Ok-Ask-clause-spends : goal.returns-in_ok-copy-in-Ok-Ask-clause-spends
-returns-in_ok-copy-in-Ok-Ask-clause-spends c = ask-spends c.args.self.now c.ask.new.self c.args.page.now c.ask.new.page c.ask.ensures.spends
+returns-in_ok-copy-in-Ok-Ask-clause-spends c =
+    let copy = c.in_ok-copy-in-Ok-Ask in
+    ask-spends (length c.args.bytes.now) c.args.self.now c.ask.new.self c.args.page.now c.ask.new.page
+    (copy-spends an_ask c.args.self.now c.ask.new.self c.args.page.now c.ask.new.page _ copy.copy.bytes c.args.bytes.now copy.ensures.same (ap (λ (w : HeldPacket). w.bytes) copy.ensures.packet) c.ask.ensures.spends)
 
 pub returns-in_ok-copy-in-Ok-Ask-clause-places : goal.returns-in_ok-copy-in-Ok-Ask-clause-places
 returns-in_ok-copy-in-Ok-Ask-clause-places c = c.ask.ensures.places
 
 pub returns-in-Ok-AskAgain-clause-spends : goal.returns-in-Ok-AskAgain-clause-spends
-returns-in-Ok-AskAgain-clause-spends c = request-spends c.args.self.now c.ask_again.new.self c.args.page.now c.ask_again.new.page c.ask_again.ensures.spends
+returns-in-Ok-AskAgain-clause-spends c = request-spends (length c.args.bytes.now) c.args.self.now c.ask_again.new.self c.args.page.now c.ask_again.new.page c.ask_again.ensures.spends
 
 pub returns-in-Ok-AskAgain-clause-places : goal.returns-in-Ok-AskAgain-clause-places
 returns-in-Ok-AskAgain-clause-places c = same-places c.args.self.now c.ask_again.new.self (ap (λ (f : Forwarder). f.link) c.ask_again.ensures.rest)
 
 pub returns-in_ok-copy-in-Ok-Wait-clause-spends : goal.returns-in_ok-copy-in-Ok-Wait-clause-spends
-returns-in_ok-copy-in-Ok-Wait-clause-spends c = wish-spends c.args.self.now c.wait.new.self c.args.page.now c.wait.new.page c.wait.ensures.spends
+returns-in_ok-copy-in-Ok-Wait-clause-spends c =
+    let copy = c.in_ok-copy-in-Ok-Wait in
+    wait-spends (length c.args.bytes.now) c.args.self.now c.wait.new.self c.args.page.now c.wait.new.page
+    (copy-spends a_wish c.args.self.now c.wait.new.self c.args.page.now c.wait.new.page _ copy.copy.bytes c.args.bytes.now copy.ensures.same (ap (λ (w : HeldPacket). w.bytes) copy.ensures.packet) c.wait.ensures.spends)
 
 pub returns-in_ok-copy-in-Ok-Wait-clause-places : goal.returns-in_ok-copy-in-Ok-Wait-clause-places
 returns-in_ok-copy-in-Ok-Wait-clause-places c = c.wait.ensures.places
 
 pub returns-in-Err-clause-spends : goal.returns-in-Err-clause-spends
-returns-in-Err-clause-spends c = c.refuse.ensures.spends
+returns-in-Err-clause-spends c = refusal-spends (length c.args.bytes.now) c.args.self.now c.refuse.new.self c.args.page.now c.refuse.new.page c.refuse.ensures.spends
 
 pub returns-in-Err-clause-places : goal.returns-in-Err-clause-places
 returns-in-Err-clause-places c = c.refuse.ensures.places

@@ -1,5 +1,6 @@
 use Rattle.std.proofs.Common.{◌≡◌, true, length, ap, arith}
 use Rattle.waiting.specs.Packets.{HeldPacket, has_place, with_room}
+use Rattle.waiting.proofs.Octets.{kept-octets}
 use Rattle.waiting.proofs.Places.{place-room, kept-push}
 use Rattle.waiting.proofs.list.WaitingPackets.keep.Goals as goal
 
@@ -16,3 +17,8 @@ invariant_of-self c =
     let place : has_place c.self.inside.packets.items c.args.packet.wait ≡ true = rw c.self.view_is c.requires in
     let same : c.packet.inside.wait ≡ c.args.packet.wait = ap (λ (w : HeldPacket). w.wait) c.packet.view_is in
     (rw (c.push_reserved.ensures.items, c.make_room.ensures.items, same) (kept-push c.self.inside.packets.items c.args.packet c.self.invariant.0 place), omega (arith, c.self.invariant.1, c.make_room.ensures.capacity, c.push_reserved.ensures.capacity))
+
+pub returns-clause-octets : goal.returns-clause-octets
+returns-clause-octets c =
+    let same : c.packet.inside.wait ≡ c.args.packet.wait = ap (λ (w : HeldPacket). w.wait) c.packet.view_is in
+    rw (c.push_reserved.ensures.items, c.make_room.ensures.items, same, ← c.self.view_is) (kept-octets c.self.inside.packets.items c.args.packet c.args.packet.wait)

@@ -5,6 +5,7 @@ use Rattle.waiting.specs.Packets.{HeldPacket, ended_by, left_by, pair_count}
 use Rattle.std.proofs.lemmas.List.Sums.{length-filter}
 use Rattle.std.proofs.lemmas.List.Elements.{filter_passes}
 use Rattle.std.proofs.lemmas.List.Filters.{length-filter_both}
+use Rattle.waiting.proofs.Octets.{split-octets}
 use Rattle.waiting.proofs.Places.{kept-filter}
 use Rattle.waiting.proofs.list.WaitingPackets.take_ended.Goals as goal
 
@@ -31,3 +32,6 @@ returns-clause-pairs c =
     let count : length (ended_by AllPairs all) ≡ pair_count all = length-filter (λ (w : HeldPacket). is_for_pair w.wait) all in
     let few : length (ended_by AllPairs all) ≤ 64 = omega (arith, count, c.self.invariant.0.pairs) in
     rw (← c.self.view_is) few
+
+pub returns-clause-octets : goal.returns-clause-octets
+returns-clause-octets c = rw (c.move_ended.ensures.left, ← c.self.view_is) (split-octets c.args.ended c.self.inside.packets.items)

@@ -1,0 +1,5 @@
+use Rattle.forwarder.proofs.Reading.{reading-is-short}
+use Rattle.forwarder.proofs.forwarders.Forwarder.read_whole.Goals as goal
+
+pub returns-clause-fits : goal.returns-clause-fits
+returns-clause-fits c = reading-is-short _ _ _ _ _ _ c.read_whole.ensures.reading
