@@ -83,6 +83,19 @@ pub fn read_padded(interfaces: &Interfaces, case: &mut Case) {
     tell_reading(case, read_at(interfaces, side, true, bytes.as_slice()));
 }
 
+/// Returns what a frame at hand is read as. The function has no clause either.
+fn whole_at(interfaces: &Interfaces, side: Side, bytes: &[u8]) -> Result<Reading, Reason> {
+    interfaces.at(side).read_whole(side, true, bytes)
+}
+
+pub fn read_whole(interfaces: &Interfaces, case: &mut Case) {
+    let side = case.side();
+    let length = case.number().min(70_000) as usize;
+    let mut bytes = case.bytes();
+    case.keep(bytes.resize(length, 0));
+    tell_reading(case, whole_at(interfaces, side, bytes.as_slice()));
+}
+
 pub fn hear_advert(interfaces: &mut Interfaces, case: &mut Case) {
     let side = case.side();
     let station = interfaces.at_mut(side);

@@ -189,13 +189,13 @@ begun-plan g flow port (Hairpin own other) begins look =
 pub begun-sent : (g : Shown) (side : Side) (bytes : List ℕ) → is_apart g ≡ true → MayBegin g side bytes → verdict g side bytes ≡ Sent
 begun-sent g side bytes apart may =
     let flow = may.packet.flow in
-    let length = may.packet.length in
+    let size = may.packet.size in
     let by = may.by in
-    let fits = fits_at g (exit_by by) length in
+    let fits = fits_at g (exit_by by) size in
     let synced = synced-reads g side bytes (Packet may.packet) may.reads in
     let look = look-begun g flow may.port synced apart may.none may.below may.free in
     ap (λ (r : Result Reading Reason). outcome_read g side r) may.reads
-    ∙ ap (λ (r : Result Direction Reason). outcome_by (and_then r (λ x. and_then (plan_on g flow x) (if_fits (fits_at g (exit_of x) length))))) may.way
+    ∙ ap (λ (r : Result Direction Reason). outcome_by (and_then r (λ x. and_then (plan_on g flow x) (if_fits (fits_at g (exit_of x) size))))) may.way
     ∙ ap (λ (r : Result Plan Reason). outcome_by (and_then r (if_fits fits))) (begun-plan g flow may.port by may.begins look)
     ∙ hop-sends g by flow.destination may.hop fits may.next may.fits
 

@@ -135,7 +135,7 @@ BeginsBy g flow port (Hairpin own other) =
 -- limit, a port is free, the next hop's hardware address is known, and the packet is no longer than what is sent there.
 pub record MayBegin (g : Shown) (side : Side) (bytes : List ℕ) : Type 0 where
   pub packet : Datagram
-  pub reads : reading_on g side bytes ≡ Ok (Packet packet)
+  pub reads : arrival_on g side bytes ≡ Ok (Packet packet)
   pub none : entry_of g.ledger.book.entries (source_of packet.flow) ≡ None
   pub below : is_at_limit g.ledger.book packet.flow.source ≡ false
   pub port : Port
@@ -146,4 +146,4 @@ pub record MayBegin (g : Shown) (side : Side) (bytes : List ℕ) : Type 0 where
       direction_of g.networks side flow.protocol flow.source.0 flow.destination.0 ≡ Ok (way_of by)
   pub hop : Mac
   pub next : next_by g by packet.flow ≡ Some hop
-  pub fits : fits_at g (exit_by by) packet.length ≡ true
+  pub fits : fits_at g (exit_by by) packet.size ≡ true

@@ -19,6 +19,7 @@ ghost use Rattle.link.specs.Hearing.{peer_serves};
 ghost use Rattle.output.specs.Output.{Sent};
 ghost use Rattle.packet_rules.specs.declared.readings.Asked.{Asked as Echo};
 ghost use Rattle.ipv4.specs.declared.flows.Flow.{Flow};
+ghost use Rattle.ipv4.specs.declared.packets.Size.{Size};
 ghost use Rattle.packet_rules.specs.declared.complaints.Complaint.TheVariants.{TooBig};
 ghost use Rattle.packet_rules.specs.declared.networks.Networks.{Networks};
 ghost use Rattle.packet_rules.specs.declared.reasons.Reason.{Reason};
@@ -236,9 +237,9 @@ pub fn few_in_one_second()
 pub fn errors_leave_pairs()
     ensures pairs { (s : GatewayAndOutput) (side : Side) (bytes : List ℕ) (flow : ErrorFlow)
         → LeavesPairs s (error_taken s side bytes flow) }
-    ensures no_wait { (g : Shown) (side : Side) (flow : ErrorFlow) (length : ℕ)
+    ensures no_wait { (g : Shown) (side : Side) (flow : ErrorFlow) (size : Size)
         (endpoint : Endpoint)
-        → error_plan g side flow length ≢ Ok (WaitForPair endpoint) }
+        → error_plan g side flow size ≢ Ok (WaitForPair endpoint) }
 {}
 
 /// A frame of the gateway's own is no use of a pair. A drop with a complaint counts the complaint,
@@ -438,9 +439,9 @@ pub fn alone_waits_for_nobody()
     ensures tick { (s : GatewayAndOutput) (now : ℕ) (s2 : GatewayAndOutput) → IsStepOn s (Tick now) s2
         → IsBook s.shown.ledger.book → KeepsBytes s.shown → is_apart s2.shown ≡ true
         → WaitsForNobody s2.shown }
-    ensures packet { (g : Shown) (side : Side) (flow : Flow) (length : ℕ) (e : Endpoint)
+    ensures packet { (g : Shown) (side : Side) (flow : Flow) (size : Size) (e : Endpoint)
         → IsBook g.ledger.book → is_apart g ≡ true → WaitsForNobody g
-        → plan_of g side flow length ≢ Ok (WaitForPair e) }
+        → plan_of g side flow size ≢ Ok (WaitForPair e) }
 {
     readings_law();
 }
@@ -471,8 +472,8 @@ pub fn goes_on_is_sent()
         → (verdict g side bytes ≡ outcome.Dropped NoPort) ↔ HasNoPort g side bytes }
     ensures host_limit { (g : Shown) (side : Side) (bytes : List ℕ)
         → (verdict g side bytes ≡ outcome.Dropped HostLimit) ↔ HasAllPairs g side bytes }
-    ensures own { (g : Shown) (side : Side) (flow : Flow) (length : ℕ) (by : Translation) (next : Mac)
-        → IsBook g.ledger.book → plan_of g side flow length ≡ Ok (SendBy by next)
+    ensures own { (g : Shown) (side : Side) (flow : Flow) (size : Size) (by : Translation) (next : Mac)
+        → IsBook g.ledger.book → plan_of g side flow size ≡ Ok (SendBy by next)
         → GoesByOwn g flow by }
     ensures alone { (g : Shown) (side : Side) (bytes : List ℕ) → is_apart g ≡ true
         → MayBegin g side bytes → verdict g side bytes ≡ outcome.Sent }
