@@ -3,8 +3,8 @@ ghost use Rattle.std.specs.Prelude.{◌≡◌, ◌≤◌, OnErr, OnOk, IfOk, len
 ghost use Rattle.link.specs.declared.datagrams.TheConstants.{RECORDS_IN_A_DATAGRAM};
 ghost use Rattle.output.specs.Output.{IsWithin};
 ghost use Rattle.forwarder.specs.Forwarder.{scene_on};
-ghost use Rattle.forwarder.specs.Room.{and_kept};
-ghost use Rattle.gateway.specs.Lacks.{WasUnlisted, WasUnready};
+ghost use Rattle.forwarder.specs.Room.{HasRoomFor, an_arp_packet, and_kept};
+ghost use Rattle.gateway.specs.Lacks.{LacksRoom, WasUnlisted, WasUnready};
 ghost use Rattle.gateway.specs.Rooms.{apart_needs, reading_needs, records_need, restart_needs};
 ghost use Rattle.gateway.specs.Rooms.{room_for, tick_needs, waiting_needs};
 ghost use Rattle.gateway.specs.Rooms.{most_entries, most_octets, most_on_a_page, most_pairs};
@@ -70,7 +70,7 @@ pub(crate) const END_ROOM: Room = Room {
 };
 
 /// The capacity for a frame that is taken: an answer, and a packet of up to 1,514 bytes.
-pub(crate) const FRAME_ROOM: Room = Room {
+const FRAME_ROOM: Room = Room {
     frames: 1 + PACKET_FRAMES,
     octets: 0,
     datagrams: 1,
@@ -93,21 +93,17 @@ pub(crate) const STOP_ROOM: Room = Room {
     notes: 0,
 };
 
-/// Returns the capacity for a frame that was read. An ARP packet may end the wait of a packet,
-/// which then takes its octets.
-#[inline(always)]
-pub(crate) fn reading_room(forwarder: &Forwarder, reading: &Reading) -> Room
-    ensures room { result ≡ room_for (reading_needs reading.now forwarder.now) }
+/// Returns the capacity for an ARP packet: an answer, and the packet whose wait it may end, with the
+/// octets of all that wait.
+fn arp_room(forwarder: &Forwarder) -> Room
+    ensures room { result ≡ room_for (and_kept an_arp_packet forwarder.now) }
     ensures few { result.octets ≤ most_octets }
 {
-    match reading {
-        Reading::Arp(_) => Room {
-            frames: 1 + PACKET_FRAMES,
-            octets: forwarder.kept.octets(),
-            datagrams: 1,
-            notes: PACKET_NOTES,
-        },
-        _ => FRAME_ROOM,
+    Room {
+        frames: 1 + PACKET_FRAMES,
+        octets: forwarder.kept.octets(),
+        datagrams: 1,
+        notes: PACKET_NOTES,
     }
 }
 
@@ -222,6 +218,32 @@ pub(crate) fn make_ready(
     page.ready(room)?;
     forwarder.core.ready(&ENDPOINTS[..pairs])?;
     Ok(())
+}
+
+/// Makes a page and a core ready for a frame that was read. Fails where there isn't enough memory;
+/// nothing that contracts see has changed then.
+#[inline(always)]
+pub(crate) fn make_ready_for(
+    forwarder: &mut Forwarder,
+    page: &mut OutputBuffer,
+    reading: &Reading,
+) -> Result<(), NoMemory>
+    ensures scene { scene_on forwarder.new page.new ≡ scene_on forwarder.old page.old }
+    ensures room { OnOk result (HasRoomFor (reading_needs reading.now forwarder.new)
+        forwarder.new page.new) }
+    ensures datagrams { OnOk result (1 ≤ page.new.room.datagrams) }
+    ensures lacks { OnErr result
+        (LacksRoom (reading_needs reading.now forwarder.old) forwarder.old page.old) }
+{
+    match reading {
+        Reading::Arp(_) => {
+            let room = arp_room(forwarder);
+            make_ready(forwarder, page, room, 1)
+        }
+        Reading::Advert(..) | Reading::Packet(_) | Reading::Error(_) | Reading::Asked(_) => {
+            make_ready(forwarder, page, FRAME_ROOM, 1)
+        }
+    }
 }
 
 /// Returns how many entries the table has.

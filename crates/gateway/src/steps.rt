@@ -30,7 +30,7 @@ use crate::datagrams::{take_first, take_further};
 use crate::ends::{end_other, end_tick};
 use crate::rooms::{
     END_ROOM, MOST_PAIRS, OVER_ROOM, RECORD_PAIRS, STOP_ROOM, WAITING, apart_room, list_for,
-    make_ready, reading_room, records_room, restart_room, tick_room, word_room,
+    make_ready, make_ready_for, records_room, restart_room, tick_room, word_room,
 };
 use crate::ticks::{is_apart_at, take_stop, take_tick};
 use crate::turns::plug;
@@ -62,8 +62,7 @@ fn frame_came(
 {
     match forwarder.read_frame(side, bytes) {
         Ok(reading) => {
-            let room = reading_room(forwarder, &reading);
-            make_ready(forwarder, page, room, 1)?;
+            make_ready_for(forwarder, page, &reading)?;
             take_reading(alloc, forwarder, page, side, bytes, reading)
         }
         Err(Reason::TtlOver) => {

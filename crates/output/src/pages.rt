@@ -163,7 +163,9 @@ impl OutputBuffer {
         self.sides.push_reserved(side);
         let size = self.frames.write(frame);
         self.room.frames -= 1;
-        self.room.octets -= size.saturating_sub(LONGEST_FRAME);
+        if size > LONGEST_FRAME {
+            self.room.octets -= size - LONGEST_FRAME;
+        }
     }
 
     /// Appends a datagram, which writes its bytes directly into the buffer.
