@@ -2,7 +2,9 @@
 
 use addresses::Ip;
 use cases_words::Case;
-use settings::{GatewaySettings, IcmpSettings, InterfaceSettings, Neighbour, PortRange, Settings};
+use settings::{
+    FragmentSettings, GatewaySettings, IcmpSettings, InterfaceSettings, Neighbour, PortRange, Settings,
+};
 
 /// Prints the built-in settings as a settings file spells them.
 pub(crate) fn print(case: &mut Case, settings: &Settings) {
@@ -14,6 +16,7 @@ pub(crate) fn print(case: &mut Case, settings: &Settings) {
     interface(case, "\n[inside", &settings.inside, None);
     interface(case, "\n[outside", &settings.outside, Some(settings.router));
     icmp(case, settings.icmp);
+    fragments(case, settings.fragments);
     gateway(case, 0, &settings.zero);
     gateway(case, 1, &settings.one);
     for host in &settings.neighbours {
@@ -45,6 +48,11 @@ fn interface(case: &mut Case, text: &str, it: &InterfaceSettings, router: Option
 fn icmp(case: &mut Case, it: IcmpSettings) {
     case.say("\n[icmp]\necho = ", it.echo);
     case.say("\nerrors = ", it.errors);
+    case.end();
+}
+
+fn fragments(case: &mut Case, it: FragmentSettings) {
+    case.say("\n[fragments]\npass = ", it.pass);
     case.end();
 }
 

@@ -49,12 +49,10 @@ fn ports_and_inside_rows(one: &Settings, other: &Settings) -> [(Key, bool); 9] {
     ]
 }
 
-/// Returns the keys of `[outside]` and `[icmp]`, each with whether its values are the same.
-fn outside_and_icmp_rows(one: &Settings, other: &Settings) -> [(Key, bool); 8] {
-    let (outside, icmp) = (Section::Outside, Section::Icmp);
+/// Returns the keys of `[outside]`, each with whether its values are the same.
+fn outside_rows(one: &Settings, other: &Settings) -> [(Key, bool); 6] {
+    let outside = Section::Outside;
     let same_router = one.router == other.router;
-    let same_echo = one.icmp.echo == other.icmp.echo;
-    let same_errors = one.icmp.errors == other.icmp.errors;
     let (one, other) = (&one.outside, &other.outside);
     let same_virtual = one.virtual_ip == other.virtual_ip;
     let same_prefix = one.prefix_length == other.prefix_length;
@@ -66,8 +64,19 @@ fn outside_and_icmp_rows(one: &Settings, other: &Settings) -> [(Key, bool); 8] {
         (Key::new(outside, Name::Wire), one.wire == other.wire),
         (Key::new(outside, Name::Router), same_router),
         (Key::new(outside, Name::Mtu), one.mtu == other.mtu),
+    ]
+}
+
+/// Returns the keys of `[icmp]` and `[fragments]`, each with whether its values are the same.
+fn icmp_and_fragment_rows(one: &Settings, other: &Settings) -> [(Key, bool); 3] {
+    let (icmp, fragments) = (Section::Icmp, Section::Fragments);
+    let same_echo = one.icmp.echo == other.icmp.echo;
+    let same_errors = one.icmp.errors == other.icmp.errors;
+    let same_pass = one.fragments.pass == other.fragments.pass;
+    [
         (Key::new(icmp, Name::Echo), same_echo),
         (Key::new(icmp, Name::Errors), same_errors),
+        (Key::new(fragments, Name::Pass), same_pass),
     ]
 }
 
@@ -114,7 +123,8 @@ pub fn differing_keys(
 ) -> Result<Vec<Key>, AllocError> {
     let mut found = Vec::new(alloc);
     add_failing(&ports_and_inside_rows(one, other), &mut found)?;
-    add_failing(&outside_and_icmp_rows(one, other), &mut found)?;
+    add_failing(&outside_rows(one, other), &mut found)?;
+    add_failing(&icmp_and_fragment_rows(one, other), &mut found)?;
     let rows = gateway_rows(Section::GatewayZero, &one.zero, &other.zero);
     add_failing(&rows, &mut found)?;
     let rows = gateway_rows(Section::GatewayOne, &one.one, &other.one);
@@ -139,6 +149,7 @@ pub fn may_differ(key: Key) -> bool {
             | Name::Mtu
             | Name::Echo
             | Name::Errors
+            | Name::Pass
             | Name::InsideIp
             | Name::InsideMac
             | Name::OutsideIp

@@ -13,6 +13,8 @@ pub enum WarningKind {
     LateAlone,
     /// The network has addresses that no host has.
     Martian,
+    /// The network takes less than the longest packets, and the gateways don't cut them.
+    Uncut,
     /// Both sides have this virtual router's number.
     SameNumber,
     /// The address is that of the network itself.
@@ -52,6 +54,8 @@ impl WarningKind {
                 "above 300: a connection's first packet is kept for 300 centiseconds, and then lost",
             WarningKind::Martian =>
                 "in 0/8, 127/8, 224/4 and 240/4 no host has an address; nothing is translated",
+            WarningKind::Uncut =>
+                "below 1500, and fragments.pass isn't true: what is longer and may be cut is lost",
             WarningKind::SameNumber =>
                 "as on the inside: right only where the two networks are apart",
             WarningKind::NetworkAddress => "this is the address of the network itself",

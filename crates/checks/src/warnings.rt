@@ -2,7 +2,7 @@
 
 use crate::{Warning, WarningKind};
 use addresses::Ip;
-use settings::{GatewaySettings, Neighbour, PortRange, Settings};
+use settings::{GatewaySettings, InterfaceSettings, Neighbour, PortRange, Settings};
 use settings_file::{Key, Name, Section, add_left_out_ports, add_port_clashes, is_network_address};
 use std::alloc::{AllocError, Global};
 
@@ -20,7 +20,8 @@ pub fn warnings_of(alloc: Global, settings: &Settings) -> Result<Vec<Warning>, A
     let Settings { zero, one, .. } = settings;
     let mut found = Vec::new(alloc);
     add_warnings(&port_warnings(settings), &mut found)?;
-    add_warnings(&network_warnings(settings), &mut found)?;
+    add_warnings(&inside_warnings(settings), &mut found)?;
+    add_warnings(&outside_warnings(settings), &mut found)?;
     add_warnings(&gateway_warnings(Section::GatewayZero, zero), &mut found)?;
     add_warnings(&gateway_warnings(Section::GatewayOne, one), &mut found)?;
     add_warnings(&pair_warnings(zero, one), &mut found)?;
@@ -82,42 +83,40 @@ fn port_warnings(settings: &Settings) -> [Option<Warning>; 4] {
     ]
 }
 
-fn network_warnings(settings: &Settings) -> [Option<Warning>; 4] {
-    let Settings {
-        inside,
-        outside,
-        router,
-        ..
-    } = settings;
-    let martian_inside = is_martian(inside.virtual_ip);
-    let martian_outside = is_martian(outside.virtual_ip);
-    let same_number = inside.virtual_router == outside.virtual_router;
-    let is_network = is_network_address(*router, outside.prefix_length);
+/// The most bytes that a network's longest packet may have.
+const LONGEST: u16 = 1500;
+
+/// Whether packets that are too long for a network are lost, though they may be cut.
+fn loses_uncut(settings: &Settings, network: &InterfaceSettings) -> bool {
+    network.mtu < LONGEST && !settings.fragments.pass
+}
+
+fn inside_warnings(settings: &Settings) -> [Option<Warning>; 2] {
+    let (section, network) = (Section::Inside, &settings.inside);
+    let martian = is_martian(network.virtual_ip);
+    let uncut = loses_uncut(settings, network);
     [
-        warn_if(
-            martian_inside,
-            Section::Inside,
-            Name::Virtual,
-            WarningKind::Martian,
-        ),
-        warn_if(
-            martian_outside,
-            Section::Outside,
-            Name::Virtual,
-            WarningKind::Martian,
-        ),
-        warn_if(
-            same_number,
-            Section::Outside,
-            Name::Vrid,
-            WarningKind::SameNumber,
-        ),
+        warn_if(martian, section, Name::Virtual, WarningKind::Martian),
+        warn_if(uncut, section, Name::Mtu, WarningKind::Uncut),
+    ]
+}
+
+fn outside_warnings(settings: &Settings) -> [Option<Warning>; 4] {
+    let (section, network) = (Section::Outside, &settings.outside);
+    let martian = is_martian(network.virtual_ip);
+    let same_number = settings.inside.virtual_router == network.virtual_router;
+    let is_network = is_network_address(settings.router, network.prefix_length);
+    let uncut = loses_uncut(settings, network);
+    [
+        warn_if(martian, section, Name::Virtual, WarningKind::Martian),
+        warn_if(same_number, section, Name::Vrid, WarningKind::SameNumber),
         warn_if(
             is_network,
-            Section::Outside,
+            section,
             Name::Router,
             WarningKind::NetworkAddress,
         ),
+        warn_if(uncut, section, Name::Mtu, WarningKind::Uncut),
     ]
 }
 

@@ -137,6 +137,7 @@ holds t v s a h = record {
   outside_is = rw h.outside a.outside_is;
   router_is = rw h.router a.router_is;
   icmp_is = rw h.icmp a.icmp_is;
+  fragments_are = rw h.fragments a.fragments_are;
   zero_is = rw h.zero a.zero_is;
   one_is = rw h.one a.one_is;
   neighbours_are = rw h.neighbours a.neighbours_are;

@@ -9,7 +9,7 @@ use Rattle.settings_file.specs.declared.keys.Section.TheVariants.{Inside, Outsid
 use Rattle.settings_file.specs.declared.keys.Name.TheVariants.{Zero, One, Router}
 use Rattle.settings_file.specs.Document.{address_at}
 use Rattle.settings_file.specs.Neighbours.{neighbours_of, neighbour_in}
-use Rattle.settings_file.specs.Values.{IsRange, IsLimit, IsAlone, IsInterface, IsIcmp, IsGateway}
+use Rattle.settings_file.specs.Values.{IsRange, IsLimit, IsAlone, IsInterface, IsIcmp, IsFragments, IsGateway}
 use Rattle.settings_file.specs.Settings.{overlap}
 use Rattle.settings_file.specs.Ids.{same_ids}
 
@@ -23,6 +23,7 @@ pub record AreValues (t : Members) (v : Values) : Type 0 where
   pub outside_is : IsInterface t Outside v.outside
   pub router_is : address_at t Outside Router ≡ Some v.router.0
   pub icmp_is : IsIcmp t v.icmp
+  pub fragments_are : IsFragments t v.fragments
   pub zero_is : IsGateway t GatewayZero v.zero
   pub one_is : IsGateway t GatewayOne v.one
   pub neighbours_are : option_map (map neighbour_in) (neighbours_of t) ≡ Some (map (λ n. Some n) v.neighbours.items)
@@ -45,6 +46,7 @@ pub record IsAssembled (v : Values) (s : Settings) : Type 0 where
   pub outside : s.outside ≡ v.outside
   pub router : s.router ≡ v.router
   pub icmp : s.icmp ≡ v.icmp
+  pub fragments : s.fragments ≡ v.fragments
   pub zero : s.zero ≡ v.zero
   pub one : s.one ≡ v.one
   pub neighbours : s.neighbours ≡ v.neighbours

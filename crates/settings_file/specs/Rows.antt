@@ -2,8 +2,8 @@
 use Rattle.std.specs.Prelude.{Bool, true, false, List, [], ◌∷◌, Option, is_some}
 use Rattle.toml.specs.Data.{Members}
 use Rattle.settings_file.specs.declared.keys.Section.{Section}
-use Rattle.settings_file.specs.declared.keys.Section.TheVariants.{Ports, Inside, Outside, Icmp}
-use Rattle.settings_file.specs.declared.keys.Name.TheVariants.{Zero, One, HostLimit, Alone, Virtual, Prefix, Vrid, Wire, Router, Mtu, Echo, Errors}
+use Rattle.settings_file.specs.declared.keys.Section.TheVariants.{Ports, Inside, Outside, Icmp, Fragments}
+use Rattle.settings_file.specs.declared.keys.Name.TheVariants.{Zero, One, HostLimit, Alone, Virtual, Prefix, Vrid, Wire, Router, Mtu, Echo, Errors, Pass}
 use Rattle.settings_file.specs.declared.keys.Name.TheVariants.{InsideIp, InsideMac, OutsideIp, OutsideMac, Priority, Interval, Preempt, BootFile, Link, InsidePort, OutsidePort}
 use Rattle.settings_file.specs.declared.keys.Key.{Key}
 use Rattle.settings_file.specs.Keys.{key, whole}
@@ -59,6 +59,16 @@ icmp_rows t =
 
 unfoldable pub bad_icmp : Members → Option Key
 bad_icmp t = first_bad (icmp_rows t)
+
+-- [fragments], which may be left out
+abbrev pub fragment_rows : Members → List (Key × Bool)
+fragment_rows t =
+    (whole Fragments, is_section t Fragments)
+    ∷ (key Fragments Pass, is_some (flag_or false t Fragments Pass))
+    ∷ []
+
+unfoldable pub bad_fragments : Members → Option Key
+bad_fragments t = first_bad (fragment_rows t)
 
 -- [gateway_0] and [gateway_1], whose addresses lie in the two networks
 abbrev pub gateway_rows : Option Network → Option Network → Members → Section → List (Key × Bool)

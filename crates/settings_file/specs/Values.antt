@@ -3,12 +3,13 @@ use Rattle.std.specs.Prelude.{◌≡◌, ℕ, true, false, Option, Some, string_
 use Rattle.toml.specs.Data.{Members}
 use Rattle.settings.specs.declared.ranges.PortRange.{PortRange}
 use Rattle.settings.specs.declared.icmp_settings.IcmpSettings.{IcmpSettings}
+use Rattle.settings.specs.declared.fragment_settings.FragmentSettings.{FragmentSettings}
 use Rattle.settings.specs.declared.interfaces.InterfaceSettings.{InterfaceSettings}
 use Rattle.settings.specs.declared.gateway_settings.GatewaySettings.{GatewaySettings}
 use Rattle.settings_file.specs.declared.keys.Section.{Section}
 use Rattle.settings_file.specs.declared.keys.Name.{Name}
-use Rattle.settings_file.specs.declared.keys.Section.TheVariants.{Ports, Icmp}
-use Rattle.settings_file.specs.declared.keys.Name.TheVariants.{HostLimit, Alone, Virtual, Prefix, Vrid, Wire, Mtu, Echo, Errors}
+use Rattle.settings_file.specs.declared.keys.Section.TheVariants.{Ports, Icmp, Fragments}
+use Rattle.settings_file.specs.declared.keys.Name.TheVariants.{HostLimit, Alone, Virtual, Prefix, Vrid, Wire, Mtu, Echo, Errors, Pass}
 use Rattle.settings_file.specs.declared.keys.Name.TheVariants.{InsideIp, InsideMac, OutsideIp, OutsideMac, Priority, Interval, Preempt, BootFile, Link, InsidePort, OutsidePort}
 use Rattle.settings_file.specs.Document.{number_at, number_or, zero_or, optional_at, flag_or, text_at, address_at, mac_at, range_at}
 
@@ -36,6 +37,10 @@ pub record IsInterface (t : Members) (s : Section) (interface : InterfaceSetting
 pub record IsIcmp (t : Members) (icmp : IcmpSettings) : Type 0 where
   pub echo_is : flag_or false t Icmp Echo ≡ Some icmp.echo
   pub errors_is : flag_or false t Icmp Errors ≡ Some icmp.errors
+
+-- whether packets in fragments are taken: not where it is left out
+abbrev pub IsFragments : Members → FragmentSettings → Type 0
+IsFragments t fragments = flag_or false t Fragments Pass ≡ Some fragments.pass
 
 -- a gateway: where they are left out, priority and interval are 100, preempt is true, and the ports are none
 pub record IsGateway (t : Members) (s : Section) (gateway : GatewaySettings) : Type 0 where

@@ -15,6 +15,7 @@ pub(crate) fn bad_values(alloc: Global, document: &Table) -> Result<Vec<Key>, Al
     let outside = network_of(document, Section::Outside);
     let mut found = Vec::new(alloc);
     add_keys(&bad_in_sections(document, inside, outside), &mut found)?;
+    add_keys(&bad_in_optional_sections(document), &mut found)?;
     for section in [Section::GatewayZero, Section::GatewayOne] {
         add_keys(
             &bad_in_gateway(document, section, inside, outside),
@@ -51,19 +52,13 @@ pub(crate) fn network_of(document: &Table, section: Section) -> Option<Prefix> {
     }
 }
 
-/// Returns the keys of the ports, the networks, the router and ICMP whose values are bad.
+/// Returns the keys of the ports, the networks and the router whose values are bad.
 fn bad_in_sections(
     document: &Table,
     inside: Option<Prefix>,
     outside: Option<Prefix>,
-) -> [Option<Key>; 18] {
-    let (ports, inner, outer, icmp) = (
-        Section::Ports,
-        Section::Inside,
-        Section::Outside,
-        Section::Icmp,
-    );
-    let is_icmp = sections::is_section(document, icmp);
+) -> [Option<Key>; 15] {
+    let (ports, inner, outer) = (Section::Ports, Section::Inside, Section::Outside);
     [
         fields::required_range(document, ports, Name::Zero).err(),
         fields::required_range(document, ports, Name::One).err(),
@@ -80,14 +75,28 @@ fn bad_in_sections(
         limits::port(document, outer, Name::Wire).err(),
         bad_host(document, outer, Name::Router, outside),
         limits::mtu(document, outer).err(),
-        if is_icmp {
-            None
-        } else {
-            Some(Key::whole(icmp))
-        },
+    ]
+}
+
+/// Returns the keys of ICMP and of fragments whose values are bad.
+fn bad_in_optional_sections(document: &Table) -> [Option<Key>; 5] {
+    let (icmp, fragments) = (Section::Icmp, Section::Fragments);
+    [
+        bad_section(document, icmp),
         fields::flag_or(document, icmp, Name::Echo, false).err(),
         fields::flag_or(document, icmp, Name::Errors, false).err(),
+        bad_section(document, fragments),
+        fields::flag_or(document, fragments, Name::Pass, false).err(),
     ]
+}
+
+/// Returns the key of a section where that is there and no table.
+fn bad_section(document: &Table, section: Section) -> Option<Key> {
+    if sections::is_section(document, section) {
+        None
+    } else {
+        Some(Key::whole(section))
+    }
 }
 
 /// Returns the keys of a gateway whose values are bad.

@@ -1,5 +1,5 @@
-//! The sections of a document: ports, the two networks with the router, and ICMP. The errors are the first keys whose
-//! values are bad.
+//! The sections of a document: ports, the two networks with the router, ICMP, and fragments. The errors are the first keys
+//! whose values are bad.
 ghost use Rattle.std.specs.Prelude.{◌≡◌, IsTrue, ◌<◌, ◌≤◌, Some, IfOk};
 ghost use Rattle.std.specs.Option.{ForSome};
 ghost use Rattle.toml.specs.View.{table_view};
@@ -7,12 +7,12 @@ ghost use Rattle.settings_file.specs.declared.keys.Section.TheVariants.{Inside, 
 ghost use Rattle.settings_file.specs.declared.keys.Name.TheVariants.{Zero, One, Router};
 ghost use Rattle.settings_file.specs.Document.{address_at, is_apart, is_section, IsApart};
 ghost use Rattle.settings_file.specs.Faults.{FindsBad};
-ghost use Rattle.settings_file.specs.Rows.{bad_ports, bad_inside, bad_outside, bad_icmp, network_at};
-ghost use Rattle.settings_file.specs.Values.{IsRange, IsLimit, IsAlone, IsInterface, IsIcmp};
+ghost use Rattle.settings_file.specs.Rows.{bad_ports, bad_inside, bad_outside, bad_icmp, bad_fragments, network_at};
+ghost use Rattle.settings_file.specs.Values.{IsRange, IsLimit, IsAlone, IsInterface, IsIcmp, IsFragments};
 
 use crate::{Key, Name, Section, fields, limits};
 use addresses::{Ip, Prefix};
-use settings::{IcmpSettings, InterfaceSettings, PortRange};
+use settings::{FragmentSettings, IcmpSettings, InterfaceSettings, PortRange};
 use toml::Table;
 
 /// Returns the port ranges of gateway 0 and of gateway 1, the limit of each inside host, where there is one, and after
@@ -114,4 +114,17 @@ pub(crate) fn icmp(document: &Table) -> Result<IcmpSettings, Key>
     let echo = fields::flag_or(document, Section::Icmp, Name::Echo, false)?;
     let errors = fields::flag_or(document, Section::Icmp, Name::Errors, false)?;
     Ok(IcmpSettings { echo, errors })
+}
+
+/// Returns whether the gateways take packets in fragments.
+#[tactic(auto, unfolding(crate::specs::Rows::bad_fragments))]
+pub(crate) fn fragments(document: &Table) -> Result<FragmentSettings, Key>
+    ensures ok { IfOk result (IsFragments (table_view document.now)) }
+    ensures bad { FindsBad (bad_fragments (table_view document.now)) result }
+{
+    if !is_section(document, Section::Fragments) {
+        return Err(Key::whole(Section::Fragments));
+    }
+    let pass = fields::flag_or(document, Section::Fragments, Name::Pass, false)?;
+    Ok(FragmentSettings { pass })
 }

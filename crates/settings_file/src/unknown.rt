@@ -36,6 +36,9 @@ const OUTSIDE_KEYS: [Name; 6] = [
 /// The keys of `[icmp]`.
 const ICMP_KEYS: [Name; 2] = [Name::Echo, Name::Errors];
 
+/// The keys of `[fragments]`.
+const FRAGMENT_KEYS: [Name; 1] = [Name::Pass];
+
 /// The keys of `[gateway_0]` and `[gateway_1]`.
 const GATEWAY_KEYS: [Name; 11] = [
     Name::InsideIp,
@@ -83,6 +86,7 @@ fn is_known(section: Section, text: &str) -> bool
         Section::Inside => any_has_text(&INSIDE_KEYS, text),
         Section::Outside => any_has_text(&OUTSIDE_KEYS, text),
         Section::Icmp => any_has_text(&ICMP_KEYS, text),
+        Section::Fragments => any_has_text(&FRAGMENT_KEYS, text),
         Section::GatewayZero | Section::GatewayOne => any_has_text(&GATEWAY_KEYS, text),
         Section::Neighbour => any_has_text(&NEIGHBOUR_KEYS, text),
     }
@@ -95,6 +99,7 @@ pub(crate) fn keys_of(section: Section) -> &'static [Name] {
         Section::Inside => &INSIDE_KEYS,
         Section::Outside => &OUTSIDE_KEYS,
         Section::Icmp => &ICMP_KEYS,
+        Section::Fragments => &FRAGMENT_KEYS,
         Section::GatewayZero | Section::GatewayOne => &GATEWAY_KEYS,
         Section::Neighbour => &NEIGHBOUR_KEYS,
     }
@@ -110,6 +115,7 @@ pub(crate) fn section_named(text: &str) -> Option<Section>
         "inside" => Some(Section::Inside),
         "outside" => Some(Section::Outside),
         "icmp" => Some(Section::Icmp),
+        "fragments" => Some(Section::Fragments),
         "gateway_0" => Some(Section::GatewayZero),
         "gateway_1" => Some(Section::GatewayOne),
         "neighbour" => Some(Section::Neighbour),

@@ -9,7 +9,8 @@ use crate::neighbours::neighbours;
 use crate::{Section, SettingFault, sections};
 use addresses::Ip;
 use settings::{
-    GatewaySettings, IcmpSettings, InterfaceSettings, Neighbour, PortRange, PortRanges, Settings,
+    FragmentSettings, GatewaySettings, IcmpSettings, InterfaceSettings, Neighbour, PortRange,
+    PortRanges, Settings,
 };
 use std::alloc::Global;
 use toml::Table;
@@ -25,6 +26,7 @@ pub(crate) struct Values {
     pub(crate) outside: InterfaceSettings,
     pub(crate) router: Ip,
     pub(crate) icmp: IcmpSettings,
+    pub(crate) fragments: FragmentSettings,
     pub(crate) zero: GatewaySettings,
     pub(crate) one: GatewaySettings,
     pub(crate) neighbours: Vec<Neighbour>,
@@ -59,6 +61,7 @@ impl Values {
         let inside = sections::inside(document)?;
         let (outside, router) = sections::outside(document, inside.network())?;
         let icmp = sections::icmp(document)?;
+        let fragments = sections::fragments(document)?;
         let inner = inside.network();
         let outer = outside.network();
         let zero = gateway(alloc, document, Section::GatewayZero, inner, outer)?;
@@ -73,6 +76,7 @@ impl Values {
             outside,
             router,
             icmp,
+            fragments,
             zero,
             one,
             neighbours,
@@ -109,6 +113,7 @@ impl Values {
             outside: self.outside,
             router: self.router,
             icmp: self.icmp,
+            fragments: self.fragments,
             zero: self.zero,
             one: self.one,
             neighbours: self.neighbours,
