@@ -41,6 +41,7 @@ mod Sends
 mod Settling
 mod Sides
 mod Standing
+mod Steady
 mod Stepping
 mod TakingOver
 mod Takes

@@ -60,6 +60,7 @@ use Rattle.spec_step.specs.Verdict.{plan_of, reading_on}
 use Rattle.spec_step.proofs.Accounting.{restarted-id, taken-id}
 use Rattle.spec_step.proofs.Packets.{PlanFits, Reads, kept-filter, kept-more, plan-fits, read-formed}
 use Rattle.spec_step.proofs.Passing.{IsSound}
+use Rattle.spec_step.proofs.Steady.{restarted-synced, stays-noted, taken-same}
 use Rattle.spec_step.proofs.Stepping.{begun_on}
 use Rattle.spec_step.proofs.Takes.{IsUnseen, echoes, errors, flows, refusals, releases}
 use Rattle.spec_step.proofs.Truths.{word-synced}
@@ -143,12 +144,6 @@ noted-moves s l e notes keeps synced id stays = λ is. record {
   notes_are = refl;
   stays = λ x p s_is p_is. stays x p is.book s_is p_is;
 }
-
--- the note of a row that releases the pair
-stays-noted : (b : Book) (x : Endpoint) (p : Pair) (id : GatewayId) (now : ℕ) (what : Option NoteKind) → Stays b x p what → (serving b x ≡ Some p) ⊎ Contains (noted_by id now what) (note id now (Released p))
-stays-noted b x p id now what (inl is) = inl is
-stays-noted b x p id now what (inr is) =
-    inr (subst (λ (o : Option NoteKind). Contains (noted_by id now o) (note id now (Released p))) (sym is) (0, omega arith, refl))
 
 row-moves : (s : GatewayAndOutput) (row : Transition) → (IsBook s.shown.ledger.book → IsBook (after s.shown.ledger.book row))
     → ((x : Endpoint) (p : Pair) → IsBook s.shown.ledger.book → serving s.shown.ledger.book x ≡ Some p → Stays (after s.shown.ledger.book row) x p row.what) → Unmoving s (by_row s row)
@@ -242,13 +237,6 @@ frame-moves reads s side bytes (Err reason) s2 read are does =
 
 -- ---- records
 
-taken-same : (b : Book) (rests : Bool) (r : Record) → is_synced b.stage ≡ true → ((taken_book b rests r).id ≡ b.id) × (is_synced (taken_book b rests r).stage ≡ true)
-taken-same b rests r synced = at (is_synced b.stage) synced
-  where
-    at : (t : Bool) → t ≡ true → (let x : Book = cond t (after b (row_of b rests r)) (unsynced_after b r) in (x.id ≡ b.id) × (is_synced x.stage ≡ true))
-    at true is = let beside = change-leaves b (row_of b rests r).change in (beside.id, ap is_synced beside.stage ∙ synced)
-    at false is = absurd (cc)
-
 routed-moves : (now : ℕ) (g : Shown) (told : Output) (b : Bool) → Unmoving (scene g told) (scene (let x : Shown = cond b (record g { inside = started g.inside now; outside = started g.outside now }) g in x) told)
 routed-moves now g told true = still-moves (scene g told) _ refl refl refl (λ k. k)
 routed-moves now g told false = nothing-moves (scene g told)
@@ -278,13 +266,6 @@ records-move reads s [] all = nothing-moves s
 records-move reads s (r ∷ rs) all = unmoving-then s (record_done s r) (records_done s (r ∷ rs)) (record-moves reads s r all.0) (records-move reads (record_done s r) rs all.1)
 
 -- ---- datagrams, and the operator's word
-
-restarted-synced : (b : Book) → is_synced b.stage ≡ true → is_synced (restarted b).stage ≡ true
-restarted-synced b synced = at (is_synced b.stage) synced
-  where
-    at : (t : Bool) → t ≡ true → is_synced (let x : Book = cond t (begun_anew b) (empty_book b.id b.zero b.one b.limit b.alone) in x).stage ≡ true
-    at true is = refl
-    at false is = absurd (cc)
 
 link-moves : (s : GatewayAndOutput) (e : Link) → Unmoving s (with_link s e)
 link-moves s e = still-moves s (with_link s e) refl refl refl (λ k. k)

@@ -92,8 +92,8 @@ pub fn steps_keep()
 
 /// A step tells truly: the translated frames that it sends are, one for one and in order,
 /// translations of different packets. The pairs are those that the step's Used notes name, and each
-/// frame goes on its packet's way and to its next hop. And what the step requires for that holds
-/// after it.
+/// frame goes on its packet's way and to its next hop; of two pairs of its source a packet goes by
+/// the one on a port that the gateway owns. And what the step requires for that holds after it.
 pub fn steps_tell()
     ensures truly { (s : GatewayAndOutput) (event : Event) (s2 : GatewayAndOutput)
         → IsStepOn s event s2
@@ -113,7 +113,8 @@ pub fn steps_tell()
 /// A step passes errors on. Its error frames are, one for one and in order, errors at hand that
 /// were passed on: each another packet, and none of those that were translated. Each error goes on
 /// the way that the rules say for it, to its next hop, by pairs by which the gateway translated
-/// before or that a Retaken note of the step names. The step's own frames are, one for one and in
+/// before or that a Retaken note of the step names, and of two pairs of an endpoint by the one on a
+/// port that the gateway owns. The step's own frames are, one for one and in
 /// order, answers to Echos at hand and complaints of packets at hand. Each is of another packet
 /// still, goes to that packet's sender, and is counted at its side.
 pub fn steps_pass_on()
