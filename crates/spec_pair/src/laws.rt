@@ -7,7 +7,7 @@ ghost use Rattle.nat_types.specs.declared.notes.Note.{Note};
 ghost use Rattle.nat_types.specs.declared.pairs.Endpoint.{Endpoint};
 ghost use Rattle.nat_types.specs.declared.pairs.Key.{Key};
 ghost use Rattle.nat_types.specs.declared.pairs.Pair.{Pair};
-ghost use Rattle.spec_trace.specs.Past.{is_synced};
+ghost use Rattle.spec_trace.specs.Past.{is_synced, was_alone};
 ghost use Rattle.spec_trace.specs.Plain as plain;
 ghost use Rattle.spec_trace.specs.Trace.{AtMostTwo, Fits, GoesOn, Kept, OneEndpoint, OnePort, Silent};
 ghost use Rattle.spec_pair.specs.Acts.{Act, AreGot, Hear, HearAnew, MayAct, Send, box_after, letters_by, act_notes};
@@ -19,7 +19,7 @@ ghost use Rattle.spec_pair.specs.Rows.{live_first, held_first, LeadsTo, LeavesPo
 ghost use Rattle.spec_pair.specs.RecordTable.{AreFacts, DoesTake, Facts, act_by_table, becomes_owned, told};
 ghost use Rattle.spec_pair.specs.Step.{IsOff, IsStep, ReadsOnly, WasSent};
 ghost use Rattle.spec_pair.specs.AloneRows.{made_alone, made_alone_notes, meeting, meeting_notes, pair_b, pair_c, reloading, reloading_notes, tell_crosses, tell_crosses_notes, going_on, going_on_notes, taking_back, taking_back_notes, dying, dying_notes};
-ghost use Rattle.spec_pair.specs.Talk.{Adopt, Alone, Free, Held, Live, MachineRecord, Pending, Slot, Tell};
+ghost use Rattle.spec_pair.specs.Talk.{Adopt, Alone, Free, Held, Live, MachineRecord, Pending, Slot, Tell, pair_of};
 ghost use Rattle.spec_pair.specs.World.{AreAllowed, Can, EndsBy, MachineEvent, HasOwners, TableHolds, IsKept, IsWorld, Scene, TableTranslates, box_in, after_act, after_event, flip, mail_in, after_events, seen_by, founding, tables_of, with_step};
 
 /// The headline, for any loss, repetition and reordering of datagrams, for ever too, any crashes and boots that are
@@ -178,13 +178,18 @@ pub fn any_record_is_taken()
         AreGot r a ports (filter (becomes_owned r a) ports) }
 {}
 
-/// A Tell that stands next at a synced gateway is never refused: only a forged datagram has one that is.
+/// A Tell that stands next at a synced gateway is never refused: only a forged datagram has one that is. And its pair was
+/// alone: where no pair ever was, no Tell stands next there.
 pub fn tells_are_taken()
-    ensures { (r : Ranges) (s : Scene) (i : GatewayId) (l : Letter) (offset : ℕ) (k : Key)
+    ensures taken { (r : Ranges) (s : Scene) (i : GatewayId) (l : Letter) (offset : ℕ) (k : Key)
         (e : Endpoint) (f : Facts) → IsWorld r s → let v = seen_by i s in
         v.mine.synced ≡ true → v.mine.lone ≡ false → In l v.their_mail →
         StandsNext v.mine l offset (Tell k e) → AreFacts r v.mine (Tell k e) f →
         told r v.mine k e f.clear ≡ Adopt k e }
+    ensures alone { (r : Ranges) (s : Scene) (i : GatewayId) (l : Letter) (offset : ℕ) (k : Key)
+        (e : Endpoint) → IsWorld r s → let v = seen_by i s in
+        v.mine.synced ≡ true → v.mine.lone ≡ false → In l v.their_mail →
+        StandsNext v.mine l offset (Tell k e) → IsTrue (was_alone (pair_of k e) s.trace) }
 {}
 
 /// Nothing is stuck: where a record that the other pushed stands next, the other may send it, the act that the record

@@ -21,6 +21,7 @@ mod Leaving
 mod LettingGo
 mod Limits
 mod Lines
+mod Marked
 mod Near
 mod Nobody
 mod Others

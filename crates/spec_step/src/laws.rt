@@ -30,7 +30,7 @@ ghost use Rattle.spec_trace.specs.Past.{Idle};
 ghost use Rattle.spec_pair.specs.Talk.{note};
 ghost use Rattle.waiting.specs.Packets.{HeldPacket, hop_count};
 ghost use Rattle.bindings.specs.declared.entries.Entry.{Entry};
-ghost use Rattle.bindings.specs.Entries.{is_alone};
+ghost use Rattle.bindings.specs.Entries.{is_alone, is_marked, slot_of};
 ghost use Rattle.spec_binding.specs.declared.setups.Stage.TheVariants.{Paired};
 ghost use Rattle.spec_binding.specs.Books.{IsBook, is_lone, is_synced};
 ghost use Rattle.spec_binding.specs.Ledgers.{go_on_all, release_all};
@@ -413,6 +413,7 @@ pub fn takes_over()
 /// at a lone gateway. Else, where the peer may be asked for all such entries, the entry is closing,
 /// or gone where its pair was made alone. The pair's release is noted, and of a pair that was made
 /// alone it is so wherever the gateway isn't lone. A gateway that is apart releases no other pair.
+/// No tick releases a marked pair, of which the peer's answer is awaited.
 pub fn ticks_let_go()
     ensures alone { (s : GatewayAndOutput) (now : ℕ) (s2 : GatewayAndOutput) (x : Entry)
         → IsStepOn s (Tick now) s2 → is_lone s.shown.ledger.book.stage ≡ true
@@ -429,6 +430,10 @@ pub fn ticks_let_go()
         → IsStepOn s (Tick now) s2 → IsBook s.shown.ledger.book → KeepsBytes s.shown
         → is_apart s2.shown ≡ true → s2.told.notes ≡ s.told.notes ++ notes
         → AllByRecursion (λ n. ReleasesAlone s.shown.ledger n.what) notes }
+    ensures marked { (s : GatewayAndOutput) (now : ℕ) (s2 : GatewayAndOutput) (x : Entry)
+        → IsStepOn s (Tick now) s2 → IsBook s.shown.ledger.book → KeepsBytes s.shown
+        → slot_of s.shown.ledger.book.entries x.pair.key ≡ Some x → is_marked x.state ≡ true
+        → NotesRelease s x.pair s2 → ⊥ }
 {
     readings_law();
 }

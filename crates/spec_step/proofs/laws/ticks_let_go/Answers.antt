@@ -1,4 +1,5 @@
 use Rattle.spec_step.proofs.LettingGo.{alone-goes, made-alone-goes, paired-goes}
+use Rattle.spec_step.proofs.Marked.{marked-stays}
 use Rattle.spec_step.proofs.Releasing.{apart-releases}
 use Rattle.spec_step.proofs.laws.ticks_let_go.Goals as goal
 
@@ -13,3 +14,6 @@ returns-clause-made_alone c = made-alone-goes c.readings_law.ensures.carries
 
 pub returns-clause-apart : goal.returns-clause-apart
 returns-clause-apart c = apart-releases c.readings_law.ensures.carries
+
+pub returns-clause-marked : goal.returns-clause-marked
+returns-clause-marked c = marked-stays c.readings_law.ensures.carries
