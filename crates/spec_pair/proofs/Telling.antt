@@ -34,7 +34,7 @@ module _ (r : Ranges) (i : GatewayId) (a b : Box) (mb : List Letter) (t : List N
   tells : (owns v.owner (other i) k ≡ true) × (v.phase k ≡ Told e) × (on k rest ≡ [])
   tells = when_tell (owns v.owner (other i) k) k (v.phase k) k e (on k rest) (sym (v.talks.there.flights k) ∙ ap (on k) comes ∙ on_here k (Tell k e) rest (self v.owner k))
 
-  pub was : IsTrue (was_alone (pair_of k e) t)
+  was : IsTrue (was_alone (pair_of k e) t)
   was = v.were k e (ap single tells.1)
 
   not_own : owns v.owner i k ≡ false

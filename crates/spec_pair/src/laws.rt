@@ -15,7 +15,7 @@ ghost use Rattle.spec_pair.specs.Batch.{AreApart, AreThose, LieWithin};
 ghost use Rattle.spec_pair.specs.Box.{AreBack, AreMirrored, AreLoadable, AreSame, revived, Box, In, Parcel, StandsNext, Letter, empty, nth};
 ghost use Rattle.spec_pair.specs.Live.{AreTogether, IsNext, hello_of, hello_sent, unheard, next_letter, next_sent, outstanding};
 ghost use Rattle.spec_pair.specs.Ownership.{AreRising, LeaveRest, Ranges, Run, keyed, left_to, fixed, in_runs, moving};
-ghost use Rattle.spec_pair.specs.Rows.{live_first, held_first, LeadsTo, LeavesPorts, alone, alone_notes, promising, promising_notes, naming, naming_notes, returning, returning_notes, six_ports, asked_no, asked_no_notes, asked_yes, asked_yes_notes, crossing, crossing_notes, doomed, doomed_notes, granting, host, loading, loading_notes, losing, losing_notes, peer_off, peer_off_notes, slot_on, revival, revival_notes, sharing, two_ranges, using, using_notes, wanting};
+ghost use Rattle.spec_pair.specs.Rows.{live_first, held_first, LeadsTo, LeavesPorts, lone, lone_notes, promising, promising_notes, naming, naming_notes, returning, returning_notes, six_ports, asked_no, asked_no_notes, asked_yes, asked_yes_notes, crossing, crossing_notes, doomed, doomed_notes, granting, host, loading, loading_notes, losing, losing_notes, peer_off, peer_off_notes, slot_on, revival, revival_notes, sharing, two_ranges, using, using_notes, wanting};
 ghost use Rattle.spec_pair.specs.RecordTable.{AreFacts, DoesTake, Facts, act_by_table, becomes_owned, told};
 ghost use Rattle.spec_pair.specs.Step.{IsOff, IsStep, ReadsOnly, WasSent};
 ghost use Rattle.spec_pair.specs.AloneRows.{made_alone, made_alone_notes, meeting, meeting_notes, pair_b, pair_c, reloading, reloading_notes, tell_crosses, tell_crosses_notes, going_on, going_on_notes, taking_back, taking_back_notes, dying, dying_notes};
@@ -296,8 +296,8 @@ pub fn rows_lead()
         (loading_notes ++ using_notes ++ revival_notes) live_first held_first }
     ensures doomed { LeadsTo two_ranges (loading ++ doomed) (loading_notes ++ doomed_notes)
         live_first held_first }
-    ensures alone { LeadsTo two_ranges alone alone_notes (slot_on 20001 Free ∷ live_first) [] }
-    ensures promised { LeadsTo two_ranges (alone ++ promising) (alone_notes ++ promising_notes)
+    ensures lone { LeadsTo two_ranges lone lone_notes (slot_on 20001 Free ∷ live_first) [] }
+    ensures promised { LeadsTo two_ranges (lone ++ promising) (lone_notes ++ promising_notes)
         (slot_on 20001 Free ∷ live_first) held_first }
     ensures named { LeadsTo six_ports naming naming_notes live_first held_first }
     ensures returned { LeadsTo two_ranges (loading ++ using ++ peer_off ++ returning)

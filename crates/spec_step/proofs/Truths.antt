@@ -20,10 +20,10 @@ use Rattle.link.specs.Link.{Link, after_take, closed_at, is_due_on_tick, is_rest
 use Rattle.link.specs.Reading.{reading}
 use Rattle.link.proofs.Offered.{all_taken, reading_takes}
 use Rattle.spec_binding.specs.Books.{is_lone, is_synced}
-use Rattle.spec_binding.specs.Ledgers.{alone_ledger, may_ask, restarted_ledger, rests_for, taken_ledger, sought_keys}
+use Rattle.spec_binding.specs.Ledgers.{lone_ledger, may_ask, restarted_ledger, rests_for, taken_ledger, sought_keys}
 use Rattle.spec_binding.specs.Resets.{back_in, restart_link, restart_notes, retaken}
 use Rattle.spec_binding.specs.Rows.{answered, idle_row, noted_by, taken_answer, taken_ended, taken_what, alone_row, is_full}
-use Rattle.spec_binding.proofs.Offered.{alone-keeps, alone-moves-none, idle-keeps, idle-moves-none, restart-keeps, taken-keeps, alone-row-keeps, word-moves-none}
+use Rattle.spec_binding.proofs.Offered.{lone-keeps, alone-moves-none, idle-keeps, idle-moves-none, restart-keeps, taken-keeps, alone-row-keeps, word-moves-none}
 use Rattle.waiting.specs.declared.waits.Ended.TheVariants.{AllPairs, One}
 use Rattle.waiting.specs.declared.waits.WaitsFor.TheVariants as wait
 use Rattle.packet_rules.specs.declared.networks.Networks.{Networks}
@@ -53,7 +53,7 @@ use Rattle.spec_step.proofs.Turning.{back_as, turn-by}
 use Rattle.spec_step.proofs.Packets.{kept-filter}
 use Rattle.spec_step.proofs.Passing.{IsSound}
 use Rattle.spec_step.proofs.Saying.{Saying, Speaks, framed-says, packet-says, released-says, row-says, saying-nothing, saying-then, speaks-then, error-packet-says, echo-says, refused-says}
-use Rattle.spec_step.proofs.Rooting.{alone-rooted, idle-roots, restart-rooted, taken-roots, alone-row-roots}
+use Rattle.spec_step.proofs.Rooting.{lone-rooted, idle-roots, restart-rooted, taken-roots, alone-row-roots}
 use Rattle.spec_step.proofs.Sending.{Frames, advert-other, answer-other, gratuitous-other, own-six}
 use Rattle.spec_step.proofs.Steady.{restart-steady, taken-steady}
 use Rattle.spec_step.proofs.Telling.{Told, at_hand, old-tells, tells-quietly, tells-then, tells-unseen}
@@ -306,7 +306,7 @@ datagram-says frames s bytes (Err fault) read are = saying-nothing s []
 abbrev pub word_scene : GatewayAndOutput → ℕ → GatewayAndOutput
 word_scene s n =
     let g = s.shown in let b = g.ledger.book in
-    scene (record g { ledger = alone_ledger g.moment g.ledger; link = closed_at g.link n }) (with_notes s.told (retaken (id_of g) g.moment (back_in b.entries)))
+    scene (record g { ledger = lone_ledger g.moment g.ledger; link = closed_at g.link n }) (with_notes s.told (retaken (id_of g) g.moment (back_in b.entries)))
 
 pub word-first : (s : GatewayAndOutput) (n : ℕ) → is_synced s.shown.ledger.book.stage ≡ true → Saying [] s (word_scene s n)
 word-first s n synced =
@@ -315,9 +315,9 @@ word-first s n synced =
     let mid = word_scene s n in
     λ is w. (
       record {
-        tells = tells-quietly s mid notes refl refl (retaken-useless (id_of g) g.moment (back_in b.entries)) refl (alone-rooted b (id_of g) g.moment is.book.keys)
+        tells = tells-quietly s mid notes refl refl (retaken-useless (id_of g) g.moment (back_in b.entries)) refl (lone-rooted b (id_of g) g.moment is.book.keys)
             (record { id = refl; synced = λ t. refl; stays = λ x p t p_is. inl (word-moves-none b x p is.book p_is) }) (refl, (refl, omega arith));
-        sound = record { book = alone-keeps b is.book synced; kept = is.kept };
+        sound = record { book = lone-keeps b is.book synced; kept = is.kept };
         wired = w;
       },
       refl,

@@ -26,12 +26,12 @@ use Rattle.link.specs.Reading.{reading}
 use Rattle.link.proofs.Offered.{all_taken as all_formed, reading_takes}
 use Rattle.spec_binding.specs.declared.changes.Transition.{Transition}
 use Rattle.spec_binding.specs.Books.{Book, IsBook, empty_book, is_lone, is_synced}
-use Rattle.spec_binding.specs.Ledgers.{Ledger, alone_ledger, carried_ledger, ledger_after, may_ask, restarted_ledger, rests_for, sought_keys, taken_ledger}
+use Rattle.spec_binding.specs.Ledgers.{Ledger, lone_ledger, carried_ledger, ledger_after, may_ask, restarted_ledger, rests_for, sought_keys, taken_ledger}
 use Rattle.spec_binding.specs.Resets.{back_in, begun_anew, restart_link, restart_notes, restarted, retaken}
 use Rattle.spec_binding.specs.Rows.{after, alone_row, answered, carry_row, idle_row, is_full, noted_by, row_of, taken_answer, taken_book, taken_ended, taken_what, unsynced_after, wish_of}
 use Rattle.spec_binding.specs.Serving.{Stays, serving}
 use Rattle.spec_binding.specs.WellFormed.{IsWellFormedEndpoint}
-use Rattle.spec_binding.proofs.Offered.{alone-keeps, alone-moves-none, alone-row-keeps, change-leaves, idle-keeps, idle-moves-none, restart-keeps, restart-moves-none, taken-keeps, taken-moves-none, wish-keeps, wish-moves-none, word-moves-none}
+use Rattle.spec_binding.proofs.Offered.{lone-keeps, alone-moves-none, alone-row-keeps, change-leaves, idle-keeps, idle-moves-none, restart-keeps, restart-moves-none, taken-keeps, taken-moves-none, wish-keeps, wish-moves-none, word-moves-none}
 use Rattle.spec_pair.specs.Talk.{note}
 use Rattle.waiting.specs.declared.waits.Ended.{Ended}
 use Rattle.waiting.specs.declared.waits.Ended.TheVariants.{AllPairs, One}
@@ -306,9 +306,9 @@ word-moves : Reads → (s : GatewayAndOutput) (n : ℕ) (o : Option Reason) → 
 word-moves reads s n None is =
     let g = s.shown in let b = g.ledger.book in
     let notes = retaken b.id g.moment (back_in b.entries) in
-    let mid = scene (record g { ledger = alone_ledger g.moment g.ledger; link = closed_at g.link n }) (with_notes s.told notes) in
-    let first : Unmoving s mid = noted-moves s (alone_ledger g.moment g.ledger) (closed_at g.link n) notes
-    (λ book. alone-keeps b book (word-synced s.shown n is)) (λ t. refl) refl
+    let mid = scene (record g { ledger = lone_ledger g.moment g.ledger; link = closed_at g.link n }) (with_notes s.told notes) in
+    let first : Unmoving s mid = noted-moves s (lone_ledger g.moment g.ledger) (closed_at g.link n) notes
+    (λ book. lone-keeps b book (word-synced s.shown n is)) (λ t. refl) refl
     (λ x p book t p_is. inl (word-moves-none b x p book p_is)) in
     unmoving-then s mid (word_taken s n) first (released-moves reads mid AllPairs)
 word-moves reads s n (Some reason) is = nothing-moves s

@@ -43,7 +43,7 @@ ghost use Rattle.spec_step.specs.Apart.{IsUnmoved, WaitsForNobody};
 ghost use Rattle.spec_step.specs.Verdict.{error_plan, plan_of, reading_on, verdict};
 ghost use Rattle.spec_step.specs.Founding.{HasRanges, begun, bounds_of, founded, link_places};
 ghost use Rattle.spec_step.specs.GoingOn.{GoesByOwn, HasAllPairs, HasNoPort, MayBegin, MayGoOn, MayPassOn};
-ghost use Rattle.spec_step.specs.Machine.{AreBytes, Goes, HasBytes, HasPushed, IsAlone, IsStanding, KeepsBytes};
+ghost use Rattle.spec_step.specs.Machine.{AreBytes, Goes, HasBytes, HasPushed, IsLoneRightly, IsStanding, KeepsBytes};
 ghost use Rattle.spec_step.specs.Machine.{letters_in, words_in};
 ghost use Rattle.spec_step.specs.LettingGo.{CanAskForAll, HasRested, IsLetGo, NotesRelease};
 ghost use Rattle.spec_step.specs.LettingGo.{ReleasesAlone};
@@ -73,7 +73,7 @@ use rewrite::hides_inside;
 pub fn steps_go()
     ensures { (s : GatewayAndOutput) (event : Event) (s2 : GatewayAndOutput) (h : List Record)
         → IsStepOn s event s2
-        → HasBytes event → IsBook s.shown.ledger.book → IsAlone s.shown → KeepsBytes s.shown
+        → HasBytes event → IsBook s.shown.ledger.book → IsLoneRightly s.shown → KeepsBytes s.shown
         → HasPushed s.shown h → Goes (letters_in event) (words_in event) s s2 h }
 {
     readings_law();
@@ -83,9 +83,9 @@ pub fn steps_go()
 pub fn steps_keep()
     ensures { (s : GatewayAndOutput) (event : Event) (s2 : GatewayAndOutput) (h : List Record)
         → IsStepOn s event s2
-        → HasBytes event → IsBook s.shown.ledger.book → IsAlone s.shown → KeepsBytes s.shown
+        → HasBytes event → IsBook s.shown.ledger.book → IsLoneRightly s.shown → KeepsBytes s.shown
         → HasPushed s.shown h
-        → IsBook s2.shown.ledger.book × (IsAlone s2.shown × KeepsBytes s2.shown) }
+        → IsBook s2.shown.ledger.book × (IsLoneRightly s2.shown × KeepsBytes s2.shown) }
 {
     readings_law();
 }
@@ -278,7 +278,7 @@ pub fn other_frames()
 pub fn parts_stand()
     ensures { (s : GatewayAndOutput) (event : Event) (done : GatewayAndOutput) (h : List Record)
         → Does s event done
-        → HasBytes event → IsBook s.shown.ledger.book → IsAlone s.shown → KeepsBytes s.shown
+        → HasBytes event → IsBook s.shown.ledger.book → IsLoneRightly s.shown → KeepsBytes s.shown
         → HasPushed s.shown h → (h2 : List Record) × IsStanding done.shown h2 }
 {
     readings_law();
@@ -415,7 +415,7 @@ pub fn takes_over()
 /// alone it is so wherever the gateway isn't lone. A gateway that is apart releases no other pair.
 /// No tick releases a marked pair, of which the peer's answer is awaited.
 pub fn ticks_let_go()
-    ensures alone { (s : GatewayAndOutput) (now : ℕ) (s2 : GatewayAndOutput) (x : Entry)
+    ensures lone { (s : GatewayAndOutput) (now : ℕ) (s2 : GatewayAndOutput) (x : Entry)
         → IsStepOn s (Tick now) s2 → is_lone s.shown.ledger.book.stage ≡ true
         → HasRested s.shown.ledger s2.shown.moment x → IsLetGo s x s2 }
     ensures paired { (s : GatewayAndOutput) (now : ℕ) (s2 : GatewayAndOutput) (x : Entry)
