@@ -52,7 +52,7 @@ use Rattle.bindings.specs.Runs.{own_in}
 use Rattle.std.proofs.Common.{true, false, cond, [], ◌∷◌, ◌++◌, map, take, drop}
 use Rattle.bind_core.specs.Changes.{table_book, table_after, wants_after, ready_after, adds, IsBetween, IsSteady}
 use Rattle.bind_core.specs.declared.deeds.Bounds.{Bounds}
-use Rattle.spec_binding.specs.Ledgers.{Ledger, alone_ledger, ledger_after, lives_after, lives_loaded, rests_for, restarted_ledger, taken_ledger}
+use Rattle.spec_binding.specs.Ledgers.{Ledger, lone_ledger, ledger_after, lives_after, lives_loaded, rests_for, restarted_ledger, taken_ledger}
 use Rattle.bind_core.specs.Cores.{Core, book_of, core_after, ledger_of, is_whole, revived_with, what_loaded}
 use Rattle.bind_core.specs.View.{core_of}
 use Rattle.bind_core.specs.declared.cores.Core.TheInside.{Inside}
@@ -363,9 +363,9 @@ revived-book c t2 stage cursor same entries =
     ∙ ap (λ (es : List Entry). let b : Book = record (revived (book_of c)) { entries = es; stage = stage; coming = to_come cursor c.table.owned es } in b) entries
 
 -- a core that is put alone, with each pair's life begun anew
-pub put_alone_is : (now : ℕ) (c c1 c2 : Core) → book_of c1 ≡ revived_with Lone Over c → c1.table.lives ≡ lives_of_pairs c.table.entries c.table.lives → c1.table.hashers ≡ c.table.hashers → c2 ≡ record c1 { table = record c1.table { lives = map (life_renewed now) c1.table.lives } }
-    → ledger_of c2 ≡ alone_ledger now (ledger_of c)
-put_alone_is now c c1 c2 book lives hashers is =
+pub put_lone_is : (now : ℕ) (c c1 c2 : Core) → book_of c1 ≡ revived_with Lone Over c → c1.table.lives ≡ lives_of_pairs c.table.entries c.table.lives → c1.table.hashers ≡ c.table.hashers → c2 ≡ record c1 { table = record c1.table { lives = map (life_renewed now) c1.table.lives } }
+    → ledger_of c2 ≡ lone_ledger now (ledger_of c)
+put_lone_is now c c1 c2 book lives hashers is =
     ap ledger_of is
     ∙ ap (λ (l : Ledger). let l2 : Ledger = record l { lives = map (life_renewed now) l.lives } in l2) (ledger-parts c1 _ _ _ book lives hashers)
 

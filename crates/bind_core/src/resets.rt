@@ -7,10 +7,10 @@ ghost use Rattle.link.specs.Link.{free_places, occupied, Link as End, Agrees};
 ghost use Rattle.nat_types.specs.declared.records.Record.{Record as Rec};
 ghost use Rattle.spec_binding.specs.Machine.{Works};
 ghost use Rattle.spec_binding.specs.Books.{IsBook, is_synced as is_synced_at, empty_book};
-ghost use Rattle.spec_binding.specs.Resets.{back_in, put_alone as put_alone_book, retaken};
+ghost use Rattle.spec_binding.specs.Resets.{back_in, put_lone as put_lone_book, retaken};
 ghost use Rattle.spec_binding.specs.Resets.{restart_batch, restart_link, restart_notes};
 ghost use Rattle.bindings.specs.Revivals.{lives_of_pairs, comes_back};
-ghost use Rattle.spec_binding.specs.Ledgers.{alone_ledger, restarted_ledger};
+ghost use Rattle.spec_binding.specs.Ledgers.{lone_ledger, restarted_ledger};
 ghost use Rattle.bind_core.specs.Cores.{book_of, ledger_of, revived_with};
 ghost use Rattle.spec_pair.specs.Box.{Letter};
 ghost use Rattle.resync.specs.Batch.{CanBeSent};
@@ -97,12 +97,12 @@ impl Core {
 
     /// Makes the gateway lone: all pairs that were proposed, asked to be closed or made alone are
     /// Live and are noted, and the life of each pair begins anew.
-    #[tactic(auto, using(crate::proofs::Performing::put_alone_is))]
-    fn put_alone(&mut self, now: u64, notes: &mut Vec<Note>)
-        requires kept { IsBook (put_alone_book (book_of self.old)) }
+    #[tactic(auto, using(crate::proofs::Performing::put_lone_is))]
+    fn put_lone(&mut self, now: u64, notes: &mut Vec<Note>)
+        requires kept { IsBook (put_lone_book (book_of self.old)) }
         requires reserved { vec_len notes.old + length self.old.table.entries
             ≤ vec_capacity notes.old }
-        ensures ledger { ledger_of self.new ≡ alone_ledger now (ledger_of self.old) }
+        ensures ledger { ledger_of self.new ≡ lone_ledger now (ledger_of self.old) }
         ensures notes { notes.new.items ≡ notes.old.items ++ retaken self.old.id now
             (back_in self.old.table.entries) }
         ensures len { vec_len notes.new ≤ vec_len notes.old + length self.old.table.entries }
@@ -139,7 +139,7 @@ impl Core {
         requires closed { link.now.closed ≡ true }
         requires reserved { vec_len notes.old + length self.old.table.entries
             ≤ vec_capacity notes.old }
-        ensures ledger { ledger_of self.new ≡ alone_ledger now (ledger_of self.old) }
+        ensures ledger { ledger_of self.new ≡ lone_ledger now (ledger_of self.old) }
         ensures ready { self.new.table.ready ≡ self.old.table.ready }
         ensures notes { notes.new.items ≡ notes.old.items ++ retaken self.old.id now
             (back_in self.old.table.entries) }
@@ -154,7 +154,7 @@ impl Core {
         self.recall();
         books_keep();
         word_works();
-        self.put_alone(now, notes);
+        self.put_lone(now, notes);
         let _ = link;
     }
 

@@ -65,7 +65,7 @@ pub fn open<R: Files<File = File>>(rt: &R, path: &str) -> Result<FileDisk<File>,
 ///
 /// # Errors
 ///
-/// `NoFile` where the folder isn't there; `Exists`; `NotMade` where no file can be made there; `NotWritten`; `Altered`;
+/// `NoFile` where the folder isn't there; `Exists`; `NotMade` where no file can be made there; `NotStored`; `Altered`;
 /// `NotLinked`; `NoMemory`. After each of them no file of that name was made.
 pub fn create<R: Files<File = File> + AllocGlobal>(rt: &R, path: &str) -> Result<(), FileFault> {
     let folder = open_folder(rt, path).map_err(not_made)?;
@@ -102,7 +102,7 @@ fn make<R: Files<File = File>>(
     }
     if let Err(fault) = disk.sync() {
         let _is_gone = rt.remove_file(path);
-        return Err(FileFault::NotWritten(fault));
+        return Err(FileFault::NotStored(fault));
     }
     Ok(())
 }
@@ -111,13 +111,13 @@ fn make<R: Files<File = File>>(
 fn write_zero<D: Disk>(disk: &mut D) -> Result<(), FileFault> {
     match init(disk) {
         Ok(()) => {}
-        Err(BootFault::Device(fault)) => return Err(FileFault::NotWritten(fault)),
+        Err(BootFault::Device(fault)) => return Err(FileFault::NotStored(fault)),
         Err(_) => unreachable!(),
     }
     let mut buffer = [0; 32];
     match disk.read(&mut buffer) {
         Ok(32) if buffer == zero_file() => Ok(()),
         Ok(_) => Err(FileFault::Altered),
-        Err(fault) => Err(FileFault::NotWritten(fault)),
+        Err(fault) => Err(FileFault::NotStored(fault)),
     }
 }

@@ -119,7 +119,7 @@ fn socket_named(name: &str) -> Option<NoSocket> {
 /// Returns why a boot file can't be made or opened, by its name.
 fn boot_file_named(name: &str) -> Option<FileFault> {
     if let Some(word) = name.strip_prefix("init-") {
-        return Some(FileFault::NotWritten(device_named(word)?));
+        return Some(FileFault::NotStored(device_named(word)?));
     }
     match name {
         "not-made" => Some(FileFault::NotMade(ErrorKind::PermissionDenied)),

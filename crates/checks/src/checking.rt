@@ -151,8 +151,8 @@ fn report_warnings(
                 findings.reason_of(&Fault::LongPath(length))?;
             }
             None => {
-                let text = warning.kind.as_str();
-                findings.warning(format_args!("{key}: {text}"))?;
+                let kind = warning.kind;
+                findings.warning(format_args!("{key}: {kind}"))?;
             }
         }
     }

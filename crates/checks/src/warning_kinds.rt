@@ -1,6 +1,10 @@
 //! The warnings of settings, and their texts.
 
 use settings_file::Key;
+use std::fmt;
+
+/// For how many centiseconds a packet that waits for its pair is kept.
+pub(crate) const KEPT: u16 = 300;
 
 /// The kind of a warning: a value that is likely a mistake, though a pair can run with it.
 #[derive(Clone, Copy)]
@@ -43,15 +47,19 @@ pub enum WarningKind {
     PortLeftOut,
 }
 
-impl WarningKind {
-    /// Returns the text for the user.
-    pub fn as_str(self) -> &'static str {
-        match self {
+/// Writes the text for the user.
+impl fmt::Display for WarningKind {
+    fn fmt<W: fmt::Write>(&self, f: &mut fmt::Formatter<W>) -> fmt::Result {
+        let text = match self {
             WarningKind::OnePort => "the range has one port, for one UDP and one TCP pair",
             WarningKind::NeverAlone =>
                 "0 or left out: new connections wait for the other box while it doesn't answer",
-            WarningKind::LateAlone =>
-                "above 300: a connection's first packet is kept for 300 centiseconds, and then lost",
+            WarningKind::LateAlone => {
+                return write!(
+                    f,
+                    "above {KEPT}: a connection's first packet is kept for {KEPT} centiseconds, and then lost"
+                );
+            }
             WarningKind::Martian =>
                 "in 0/8, 127/8, 224/4 and 240/4 no host has an address; nothing is translated",
             WarningKind::Uncut =>
@@ -78,7 +86,8 @@ impl WarningKind {
                 "another key has this port: loop refuses it, and gate with both on loopback",
             WarningKind::PortLeftOut =>
                 "left out, and another port of its place isn't: loop refuses it, and gate with the place on loopback",
-        }
+        };
+        f.write_str(text)
     }
 }
 

@@ -1,5 +1,6 @@
 //! The warnings of settings.
 
+use crate::warning_kinds::KEPT;
 use crate::{Warning, WarningKind};
 use addresses::Ip;
 use settings::{GatewaySettings, InterfaceSettings, Neighbour, PortRange, Settings};
@@ -61,9 +62,6 @@ fn warn_if(condition: bool, section: Section, name: Name, kind: WarningKind) -> 
         None
     }
 }
-
-/// For how many centiseconds a packet that waits for its pair is kept.
-const KEPT: u16 = 300;
 
 fn port_warnings(settings: &Settings) -> [Option<Warning>; 4] {
     let Settings { ports, alone, .. } = settings;

@@ -188,7 +188,7 @@ impl Fault {
             FileFault::NoFile(cause) => Fault::file(alloc, FileRefusal::NoFile(cause), path),
             FileFault::NotMade(cause) => Fault::file(alloc, FileRefusal::NotWritten(cause), path),
             FileFault::Exists => Fault::file(alloc, FileRefusal::Exists, path),
-            FileFault::NotWritten(fault) => Fault::file(alloc, FileRefusal::NotStored(fault), path),
+            FileFault::NotStored(fault) => Fault::file(alloc, FileRefusal::NotStored(fault), path),
             FileFault::NotLinked(cause) => Fault::file(alloc, FileRefusal::NotLinked(cause), path),
             FileFault::Altered => Fault::file(alloc, FileRefusal::Altered, path),
             FileFault::InUse => match String::from_str(alloc, path) {

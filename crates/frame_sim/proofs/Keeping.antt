@@ -15,6 +15,7 @@ use Rattle.bindings.specs.Entries.{slot_of, entry_in, pairs_in, is_pair, transla
 use Rattle.bindings.proofs.Offered.{slot-key, listed-slot, slot-listed}
 use Rattle.spec_trace.specs.Past.{is_synced}
 use Rattle.spec_trace.specs.Plain as plain
+use Rattle.spec_trace.proofs.Offered.{all_go_plain, was_none}
 use Rattle.spec_trace.specs.Trace.{AtMostTwo, Fits, Kept, GoesOn}
 use Rattle.spec_pair.specs.Box.{Box}
 use Rattle.spec_pair.specs.Ownership.{Ranges}
@@ -28,7 +29,6 @@ use Rattle.frame_sim.specs.World.{HasKeys, World, gateway_at, half, entries_of, 
 use Rattle.frame_sim.specs.Scene.{IsSound, box_at, ranges_of, scene_of}
 use Rattle.frame_sim.proofs.Stepping.{box-is}
 use Rattle.frame_sim.proofs.Turning.{synced-of}
-use Rattle.frame_sim.proofs.Plain.{goes-together, none-alone}
 
 -- a state in which the machine translates is one that translates
 translated-state : (s : EntryState) (e x : Endpoint) → machine.translated (slot_in s e) ≡ Some x → (translates s ≡ true) × (e ≡ x)
@@ -197,8 +197,8 @@ sound-two law w zero one sound = holds-two w sound.pushed w.trace zero one (law 
 
 pub sound-plain : PlainFits → PlainKeeps → (w : World) → IsSound w → GoesOn (Translates w) w.trace → plain.IsPlain (reverse w.trace) → IsKeptTogether w
 sound-plain fits keeps w sound goes is = record {
-  none = λ p alone. none-alone p (reverse w.trace) is alone;
-  goes_on = goes-together (Translates w) (reverse w.trace) is goes;
+  none = λ p alone. was_none p (reverse w.trace) is alone;
+  goes_on = all_go_plain (Translates w) (reverse w.trace) is goes;
   fits = fits (ranges_of w.settings.ports) (scene_of w sound.pushed) w.trace sound.scene refl is;
   kept = holds-plain w sound.pushed (reverse w.trace) (keeps (ranges_of w.settings.ports) (scene_of w sound.pushed) w.trace sound.scene refl is);
 }

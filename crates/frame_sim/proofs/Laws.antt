@@ -22,7 +22,7 @@ use Rattle.spec_pair.specs.World.{Can, IsWorld, MachineEvent, Scene as Seen, aft
 use Rattle.spec_binding.specs.Books.{IsBook, empty_book, founded_book}
 use Rattle.spec_binding.specs.Machine.{box_at, ranges_of}
 use Rattle.spec_step.specs.declared.events.Event.{Event}
-use Rattle.spec_step.specs.Machine.{Goes, HasBytes, HasPushed, IsAlone, KeepsBytes, letters_in, words_in}
+use Rattle.spec_step.specs.Machine.{Goes, HasBytes, HasPushed, IsLoneRightly, KeepsBytes, letters_in, words_in}
 use Rattle.spec_step.specs.Founding.{begun, founded}
 use Rattle.spec_step.specs.Rests.{AccountsOn, Rests}
 use Rattle.spec_step.specs.Shown.{GatewayAndOutput, Shown, id_of}
@@ -31,7 +31,7 @@ use Rattle.spec_step.specs.Steps.{IsStepOn}
 -- a step of a gateway is a step of the machine
 abbrev pub StepsGo : Type 0
 StepsGo = (s : GatewayAndOutput) (event : Event) (s2 : GatewayAndOutput) (h : List Record) → IsStepOn s event s2 → HasBytes event
-    → IsBook s.shown.ledger.book → IsAlone s.shown → KeepsBytes s.shown → HasPushed s.shown h → Goes (letters_in event) (words_in event) s s2 h
+    → IsBook s.shown.ledger.book → IsLoneRightly s.shown → KeepsBytes s.shown → HasPushed s.shown h → Goes (letters_in event) (words_in event) s s2 h
 
 -- a datagram's spelling is read as that datagram
 abbrev pub AreRead : Type 0

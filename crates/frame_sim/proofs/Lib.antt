@@ -3,7 +3,6 @@ mod Fixed
 mod Mails
 mod Stepping
 mod Turning
-mod Plain
 mod Handing
 mod Keeping
 mod Short

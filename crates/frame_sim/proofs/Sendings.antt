@@ -30,7 +30,7 @@ pub record Sends (told told2 : Output) : Type 0 where
 
 pub sends : StepsGo → Few → (g new : Shown) (event : Event) (told told2 : Output) → IsStepOn (scene g told) event (scene new told2) → HasBytes event → IsGateway g → IsLink new.link → Sends told told2
 sends go most g new event told told2 step bytes is link =
-    let goes = go (scene g told) event (scene new told2) is.history step bytes is.book is.alone is.bytes is.pushed in
+    let goes = go (scene g told) event (scene new told2) is.history step bytes is.book is.lone is.bytes is.pushed in
     let more = since-is told.datagrams (map spelling goes.sent) told2.datagrams goes.datagrams_are in
     record {
       few = subst IsShort (sym more) (all-short most goes.sent goes.few (are-formed new.link (serves new) goes.sent link goes.own));

@@ -22,7 +22,7 @@ use Rattle.spec_binding.specs.Machine.{letter_of}
 use Rattle.output.specs.Output.{Output}
 use Rattle.spec_step.specs.declared.events.Event.{Event}
 use Rattle.spec_step.specs.Founding.{bounds_of}
-use Rattle.spec_step.specs.Machine.{HasBytes, IsAlone, KeepsBytes, box_of, letters_in, words_in}
+use Rattle.spec_step.specs.Machine.{HasBytes, IsLoneRightly, KeepsBytes, box_of, letters_in, words_in}
 use Rattle.spec_step.specs.Shown.{Shown, id_of, scene, serves}
 use Rattle.spec_step.specs.Steps.{IsStepOn}
 use Rattle.frame_sim.specs.World.{Half, World, gateway_at, half, with_half}
@@ -91,7 +91,7 @@ halves-are w pushed One h records trace all that One = that
 
 pub step-sound : StepsGo → AreRead → StepsKeep → StepsAnywhere → StepsAccount → OthersStep → (w : World) (i : GatewayId) (g new : Shown) (event : Event) (told told2 : Output)
     → IsSound w → gateway_at w i ≡ Some g → IsStepOn (scene g told) event (scene new told2) → HasBytes event
-    → IsBook g.ledger.book → IsAlone g → KeepsBytes g → IsLink new.link
+    → IsBook g.ledger.book → IsLoneRightly g → KeepsBytes g → IsLink new.link
     → IsHanded w i event → IsSound (stepped w i new told told2)
 step-sound go read keep anywhere account others w i g new event told told2 sound up step bytes book alone kept link handed =
     let ports = w.settings.ports in

@@ -39,7 +39,7 @@ module _ (go : StepsGo) (read : AreRead) (keep : StepsKeep) (anywhere : StepsAny
   steps-sound w i None event told o told2 h2 trace2 sound handed up s = sound-so w i (half w i) h2 w.trace trace2 s.2 s.3 (same-world w i sound)
   steps-sound w i (Some g) event told o told2 h2 trace2 sound handed up s =
       sound-so w i _ h2 (w.trace ++ since told.notes told2.notes) trace2 s.half_is s.trace_is
-      (step-sound go read keep anywhere account others w i g s.new event told told2 sound up s.step s.bytes s.was.book s.was.alone s.was.bytes s.link handed)
+      (step-sound go read keep anywhere account others w i g s.new event told told2 sound up s.step s.bytes s.was.book s.was.lone s.was.bytes s.link handed)
 
   pub hand-sound : {E : Type 0} (w : World) (i : GatewayId) (result : Result Outcome E) (event : Event) (told told2 : Output) (h2 : Half) (trace2 : List Note) → IsSound w → IsHanded w i event
       → IfOk result (λ o. StepsAt (half w i) (gateway_at w i) w.trace event told o told2 h2 trace2) → OnErr result (h2 ≡ half w i) → OnErr result (trace2 ≡ w.trace) → IsSound (with_half w i h2 trace2)

@@ -1,4 +1,3 @@
-pub mod Plain
 pub mod World
 pub mod Events
 pub mod Halves

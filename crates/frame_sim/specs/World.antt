@@ -20,7 +20,6 @@ use Rattle.spec_trace.specs.Trace.{Fits, IsOpen, IsPrivate, IsSynced, WasAlone}
 use Rattle.spec_binding.specs.Books.{is_synced}
 use Rattle.spec_step.specs.Founding.{bounds_of, founded}
 use Rattle.spec_step.specs.Shown.{Shown}
-use Rattle.frame_sim.specs.Plain.{GoesOn as PlainGoesOn}
 
 -- One of the two gateways: the gateway where it is up, the number of its last boot (0 where it never booted), and all
 -- datagrams that it ever sent, the oldest first.
@@ -139,7 +138,7 @@ pub record IsKeptTogether (w : World) : Type 0 where
   pub none : (p : Pair) → WasAlone p w.trace → ⊥
   pub fits : Fits w.trace
   pub kept : plain.Kept (Holds w) (reverse w.trace)
-  pub goes_on : PlainGoesOn (Translates w) (reverse w.trace)
+  pub goes_on : plain.GoesOn (Translates w) (reverse w.trace)
 
 -- While no pair is private, each open pair is held by each synced gateway.
 abbrev pub IsShared : World → Type 0

@@ -17,7 +17,7 @@ begun-is : (settings : Settings) (id : GatewayId) (boot : ℕ) → IsStanding (b
 unfolding begun new_station
 begun-is settings id boot stands settled placed = record {
   book = stands.book;
-  alone = stands.alone;
+  lone = stands.lone;
   bytes = stands.kept;
   moment = omega arith;
   history = [];
@@ -31,7 +31,7 @@ founded-is : (settings : Settings) (boot : ℕ) → IsStanding (founded settings
 unfolding founded begun new_station
 founded-is settings boot stands settled placed = record {
   book = stands.book;
-  alone = stands.alone;
+  lone = stands.lone;
   bytes = stands.kept;
   moment = omega arith;
   history = [];
@@ -45,7 +45,7 @@ founded-is settings boot stands settled placed = record {
 hashing-is : (hashers : Hashers) (g : Shown) → IsGateway g → IsGateway (hashing hashers g)
 hashing-is hashers g is = record {
   book = is.book;
-  alone = is.alone;
+  lone = is.lone;
   bytes = is.bytes;
   moment = is.moment;
   history = is.history;

@@ -14,7 +14,7 @@ use Rattle.link.specs.Link.{Link, after_take, closed_at, is_due_on_tick, is_rest
 use Rattle.link.specs.Reading.{reading}
 use Rattle.resync.specs.Loading.{Load, loaded}
 use Rattle.spec_binding.specs.Books.{Book, is_lone, is_synced, load_of}
-use Rattle.spec_binding.specs.Ledgers.{alone_ledger, may_ask, restarted_ledger, rests_for, sought_keys, taken_ledger}
+use Rattle.spec_binding.specs.Ledgers.{lone_ledger, may_ask, restarted_ledger, rests_for, sought_keys, taken_ledger}
 use Rattle.spec_binding.specs.Resets.{back_in, restart_link, restart_notes, restarted, retaken}
 use Rattle.spec_binding.specs.Rows.{alone_row, answered, idle_row, is_full, load_taken, row_of, taken_answer, taken_book, taken_ended}
 use Rattle.spec_binding.proofs.Offered.{change-leaves}
@@ -191,7 +191,7 @@ read-stays s (Err fault) = stays-here s.shown
 word-stays : (s : GatewayAndOutput) (n : ℕ) (o : Option Reason) → Stays s.shown (word_by s n o).shown
 word-stays s n None =
     let g = s.shown in
-    let alone = scene (record g { ledger = alone_ledger g.moment g.ledger; link = closed_at g.link n }) (with_notes s.told (retaken (id_of g) g.moment (back_in g.ledger.book.entries))) in
+    let alone = scene (record g { ledger = lone_ledger g.moment g.ledger; link = closed_at g.link n }) (with_notes s.told (retaken (id_of g) g.moment (back_in g.ledger.book.entries))) in
     let x = released-stays alone AllPairs in
     record { moment = x.moment; capacity = x.capacity; zero = x.zero; one = x.one; networks = x.networks; inside = x.inside; outside = x.outside }
 word-stays s n (Some reason) = stays-here s.shown

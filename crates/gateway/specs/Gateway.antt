@@ -4,14 +4,14 @@ use Rattle.nat_types.specs.declared.records.Record.{Record}
 use Rattle.spec_binding.specs.Books.{IsBook}
 use Rattle.vrrp_states.specs.Table.{IsMoment}
 use Rattle.spec_step.specs.Founding.{link_places}
-use Rattle.spec_step.specs.Machine.{HasPushed, IsAlone, KeepsBytes}
+use Rattle.spec_step.specs.Machine.{HasPushed, IsLoneRightly, KeepsBytes}
 use Rattle.spec_step.specs.Settled.{IsSettled}
 use Rattle.spec_step.specs.Shown.{Shown}
 use Rattle.spec_step.specs.Truly.{IsHouse}
 
 pub record IsGateway (g : Shown) : Type 0 where
   pub book : IsBook g.ledger.book
-  pub alone : IsAlone g
+  pub lone : IsLoneRightly g
   pub bytes : KeepsBytes g
   pub moment : IsMoment g.moment
   -- some list of records is that of all records pushed or promised in the session

@@ -41,7 +41,8 @@ impl From<AllocError> for SocketFault {
     }
 }
 
-/// An error of the poll: those of a place's socket are told by the place.
+/// An error of the poll, or of the registration with it: `Sockets::open` turns no other `io::Error` into a fault by `?`.
+/// That of a socket of a place has the cause that names its place.
 impl From<io::Error> for SocketFault {
     fn from(error: io::Error) -> SocketFault {
         SocketFault::NoSocket(SocketCause::NotPolled(error.kind()))

@@ -43,7 +43,7 @@ use Rattle.spec_binding.specs.declared.changes.Want.TheVariants as want
 use Rattle.spec_binding.specs.Books.{Book, IsBook, empty_book, founded_book, in_ranges, is_any, is_lone, is_paired, is_synced, load_of, owns, ports_of}
 use Rattle.spec_binding.specs.WellFormed.{Fits, GivesWay, IsWellFormedEndpoint, MayGive}
 use Rattle.spec_binding.specs.Machine.{box_at}
-use Rattle.spec_binding.specs.Resets.{begun_anew, put_alone, restart_batch, restarted, revived}
+use Rattle.spec_binding.specs.Resets.{begun_anew, put_lone, restart_batch, restarted, revived}
 use Rattle.spec_binding.specs.Rows.{after, alone_row, sought_row, carry_row, changed, idle_row, load_taken, numbers_of, quiet, release_row, row_of, taken_book, unsynced_after, use_row, wish, wish_by, wish_of, with_gained, without_ports}
 use Rattle.spec_binding.proofs.Fitting.{alone-sound, carry-sound, idle-sound, row-sound, wish-sound}
 use Rattle.spec_binding.proofs.Loads.{is-apart, is-fresh}
@@ -571,8 +571,8 @@ restart-agrees b is k x = at (is_synced b.stage)
     at true h = let w = was-there b.entries k x is.keys h in (ap is_settled w.state ∙ woken-settled w.entry.state w.pair, ap is_pair w.state ∙ woken-pair w.entry.state w.pair)
     at false h = absurd (cc)
 
-pub alone-keeps : (b : Book) → IsBook b → is_synced b.stage ≡ true → IsBook (put_alone b)
-alone-keeps b is synced = revived-keeps b Lone [] is synced refl tt (λ w. absurd (cc))
+pub lone-keeps : (b : Book) → IsBook b → is_synced b.stage ≡ true → IsBook (put_lone b)
+lone-keeps b is synced = revived-keeps b Lone [] is synced refl tt (λ w. absurd (cc))
 
 any-more : (xs ys : List Record) → is_any ys ≡ true → is_any (xs ++ ys) ≡ true
 any-more [] ys h = h

@@ -5,7 +5,7 @@ pub use Rattle.spec_binding.proofs.Accounting.{reversed-join}
 -- The records that a datagram gives come in their turn.
 pub use Rattle.spec_binding.proofs.Comes.{turn-comes}
 -- A book stays a book after each change, row and reset.
-pub use Rattle.spec_binding.proofs.Keeping.{wish-keeps, idle-keeps, taken-keeps, alone-row-keeps, empty-keeps, restart-keeps, alone-keeps, fed-keeps, founded-keeps}
+pub use Rattle.spec_binding.proofs.Keeping.{wish-keeps, idle-keeps, taken-keeps, alone-row-keeps, empty-keeps, restart-keeps, lone-keeps, fed-keeps, founded-keeps}
 -- What rows leave as it is.
 pub use Rattle.spec_binding.proofs.Leaving.{change-leaves, taken-together}
 -- Gaining ports changes only the owned ports.
@@ -19,7 +19,7 @@ pub use Rattle.spec_binding.proofs.Restarting.{restart-works}
 -- The operator's word is an act of the machine.
 pub use Rattle.spec_binding.proofs.Restarting.{word-works}
 -- A ledger that accounts for the trace does so after each call, with the notes of the call.
-pub use Rattle.spec_binding.proofs.Settling.{begun-accounts, later-accounts, foreign-accounts, fed-accounts, taken-accounts, wished-accounts, carried-accounts, restarted-accounts, alone-accounts, let-go-accounts, go-on-accounts}
+pub use Rattle.spec_binding.proofs.Settling.{begun-accounts, later-accounts, foreign-accounts, fed-accounts, taken-accounts, wished-accounts, carried-accounts, restarted-accounts, lone-accounts, let-go-accounts, go-on-accounts}
 -- After a tick at which a gateway is apart each pair translates, and none is waited for.
 pub use Rattle.spec_binding.proofs.Marking.{all-translate, none-waiting}
 -- An endpoint's pair that translates stays its pair, unless it is released.

@@ -32,7 +32,7 @@ use Rattle.spec_pair.specs.Talk.{MachineRecord}
 use Rattle.spec_pair.proofs.Offered.{batch_new, batch_mirrored, runs_leave}
 use Rattle.spec_binding.specs.Books.{Book, IsBook, empty_book, in_ranges, is_synced, owns}
 use Rattle.spec_binding.specs.Machine.{box_at, machine_records, machine_slot, promised_of, ranges_of, slots_of, Works}
-use Rattle.spec_binding.specs.Resets.{back_in, begun_anew, put_alone, restart_batch, restart_link, restart_notes, restarted, retaken}
+use Rattle.spec_binding.specs.Resets.{back_in, begun_anew, put_lone, restart_batch, restart_link, restart_notes, restarted, retaken}
 use Rattle.spec_binding.proofs.Loads.{lone-not}
 use Rattle.spec_binding.proofs.Pairs.{IsSided, apart, back-says, held-says, in-parcels, in-reverse, parcel_for, parcels-in, parcels_of, settled-pairs, those}
 use Rattle.spec_binding.proofs.Parts.{act-step}
@@ -232,12 +232,12 @@ restart-works now b e e1 n h l is bare boot greater from = at (is_synced b.stage
 
 -- the operator's word is the act PeerOff
 pub word-works : (now : ℕ) (b : Book) (e e1 : Link) (n number : ℕ) (h : List Record) → IsBook b → is_synced b.stage ≡ true → Agrees [] [] e1 → e.boot ≡ e1.boot → e1.known ≡ number
-    → Works now [] (number ∷ []) b e n (put_alone b) e1 0 (retaken b.id now (back_in b.entries)) h
+    → Works now [] (number ∷ []) b e n (put_lone b) e1 0 (retaken b.id now (back_in b.entries)) h
 word-works now b e e1 n number h is synced bare boot known = record {
   house = record { id = refl; zero = refl; one = refl; limit = refl; alone = refl };
   history = [];
   agrees = bare;
-  step = act-step (ranges_of b) b.id now (box_at b e h n) (box_at (put_alone b) e1 [] 0) (PeerOff number (reverse (back_in b.entries))) [] (number ∷ []) (retaken b.id now (back_in b.entries))
+  step = act-step (ranges_of b) b.id now (box_at b e h n) (box_at (put_lone b) e1 [] 0) (PeerOff number (reverse (back_in b.entries))) [] (number ∷ []) (retaken b.id now (back_in b.entries))
       (synced, are-back b is)
       (λ m i. absurd i, inl refl)
       (record { up = refl; boot = sym boot; synced = sym synced; lone = refl; peer = known; table = λ k. slots-revived b.entries k is.keys; sent = refl; taken = refl; loading = refl; owned = λ p. refl; wants = refl; named = refl; promised = no-promise e1 bare })

@@ -35,7 +35,7 @@ use Rattle.spec_binding.specs.declared.changes.Transition.{Transition}
 use Rattle.spec_binding.specs.declared.changes.PortRequest.{PortRequest}
 use Rattle.spec_binding.specs.declared.changes.Want.TheVariants as want
 use Rattle.spec_binding.specs.Books.{Book, IsBook, empty_book, is_lone, is_paired, is_synced, load_of}
-use Rattle.spec_binding.specs.Ledgers.{Ledger, alone_ledger, carried_ledger, go_on_all, ledger_after, release_all, lives_after, lives_loaded, may_ask, restarted_ledger, rests_for, taken_ledger}
+use Rattle.spec_binding.specs.Ledgers.{Ledger, lone_ledger, carried_ledger, go_on_all, ledger_after, release_all, lives_after, lives_loaded, may_ask, restarted_ledger, rests_for, taken_ledger}
 use Rattle.spec_binding.specs.Resets.{back_in, begun_anew, restart_notes, retaken}
 use Rattle.spec_binding.specs.Rows.{after, alone_row, answered, carry_row, changed, idle_row, is_full, sought_row, load_taken, load_what, noted_by, quiet, release_row, released_row, row, row_of, taken_what, unsynced_after, unsynced_what, use_row, used_row, wish, wish_by, wish_of}
 use Rattle.spec_binding.specs.Uses.{Accounts, KnowUses, uses_after, uses_of}
@@ -239,8 +239,8 @@ restarted-accounts now l h is a = at (is_synced l.book.stage) refl
     at true synced = record { uses = revived-uses now l h is a; none = λ un. absurd (cc); idle = retaken-idle l.book.id now (back_in l.book.entries) h a.idle }
     at false loads = record { uses = know-none now (uses_of l.book.id h) (a.none loads); none = λ un. a.none loads; idle = a.idle }
 
-pub alone-accounts : (now : ℕ) (l : Ledger) (h : List Note) → IsBook l.book → Accounts now l h → Accounts now (alone_ledger now l) (reverse (retaken l.book.id now (back_in l.book.entries)) ++ h)
-alone-accounts now l h is a = record { uses = know-anew now (revived_entries l.book.entries) (lives_of_pairs l.book.entries l.lives) (uses_of l.book.id (reverse (retaken l.book.id now (back_in l.book.entries)) ++ h)) (revived-uses now l h is a); none = λ un. absurd (cc); idle = retaken-idle l.book.id now (back_in l.book.entries) h a.idle }
+pub lone-accounts : (now : ℕ) (l : Ledger) (h : List Note) → IsBook l.book → Accounts now l h → Accounts now (lone_ledger now l) (reverse (retaken l.book.id now (back_in l.book.entries)) ++ h)
+lone-accounts now l h is a = record { uses = know-anew now (revived_entries l.book.entries) (lives_of_pairs l.book.entries l.lives) (uses_of l.book.id (reverse (retaken l.book.id now (back_in l.book.entries)) ++ h)) (revived-uses now l h is a); none = λ un. absurd (cc); idle = retaken-idle l.book.id now (back_in l.book.entries) h a.idle }
 
 -- ---- the idle pairs of a tick
 

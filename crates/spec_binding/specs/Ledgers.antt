@@ -21,7 +21,7 @@ use Rattle.resync.specs.Loading.{Load, loaded, lives_taken}
 use Rattle.spec_binding.specs.declared.changes.Change.{Change}
 use Rattle.spec_binding.specs.declared.changes.Change.TheVariants.{Keep, Add, Turn, Renew, Drop, Yield, Want, Give, Gain}
 use Rattle.spec_binding.specs.Books.{Book, is_apart, is_synced, load_of}
-use Rattle.spec_binding.specs.Resets.{restarted, put_alone}
+use Rattle.spec_binding.specs.Resets.{restarted, put_lone}
 use Rattle.spec_binding.specs.Rows.{alone_row, answered, carry_row, changed, idle_row, is_full, noted_by, row_of, taken_book}
 
 -- The ledger of a gateway: its book, the life of each entry, in the order of the entries, and the values by which their
@@ -92,8 +92,8 @@ restarted_ledger l = record l {
 }
 
 -- the ledger after the operator says that the peer is off: the life of each pair begins anew
-abbrev pub alone_ledger : ℕ → Ledger → Ledger
-alone_ledger now l = record l { book = put_alone l.book; lives = map (life_renewed now) (lives_of_pairs l.book.entries l.lives) }
+abbrev pub lone_ledger : ℕ → Ledger → Ledger
+lone_ledger now l = record l { book = put_lone l.book; lives = map (life_renewed now) (lives_of_pairs l.book.entries l.lives) }
 
 -- ---- the idle pairs of a tick
 

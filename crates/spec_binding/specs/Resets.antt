@@ -50,5 +50,5 @@ abbrev pub restart_link : Book → Link → Link
 restart_link b e = (if is_synced b.stage then with_promised e (length (restart_batch b)) else e)
 
 -- the book after the operator said that the peer is off
-abbrev pub put_alone : Book → Book
-put_alone b = record (revived b) { stage = Lone }
+abbrev pub put_lone : Book → Book
+put_lone b = record (revived b) { stage = Lone }

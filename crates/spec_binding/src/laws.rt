@@ -29,7 +29,7 @@ ghost use Rattle.spec_binding.specs.Books.{is_lone, is_paired, is_promised, is_s
 ghost use Rattle.spec_binding.specs.WellFormed.{Fits, IsBeside, IsSameBatch, IsWellFormedEndpoint};
 ghost use Rattle.spec_binding.specs.Machine.{box_at, letter_of, promised_of, ranges_of};
 ghost use Rattle.spec_binding.specs.Machine.{IsTurn, Stands, Works};
-ghost use Rattle.spec_binding.specs.Resets.{back_in, put_alone, restart_batch, restart_link};
+ghost use Rattle.spec_binding.specs.Resets.{back_in, put_lone, restart_batch, restart_link};
 ghost use Rattle.spec_binding.specs.Resets.{restart_notes, restarted, retaken};
 ghost use Rattle.spec_binding.specs.Serving.{Stays, serving};
 ghost use Rattle.spec_binding.specs.Rows.{after, alone_row, answered, carry_row, changed, idle_row, noted_by};
@@ -41,7 +41,7 @@ ghost use Rattle.activity.specs.declared.packets.Packet.{Packet};
 ghost use Rattle.slots.specs.declared.hashers.Hashers.{Hashers};
 ghost use Rattle.bindings.specs.Lives.{idle_keys_in};
 ghost use Rattle.spec_trace.specs.Past.{Idle};
-ghost use Rattle.spec_binding.specs.Ledgers.{Ledger, alone_ledger, carried_ledger, go_on_all};
+ghost use Rattle.spec_binding.specs.Ledgers.{Ledger, lone_ledger, carried_ledger, go_on_all};
 ghost use Rattle.spec_binding.specs.Ledgers.{ledger_after, sought_keys};
 ghost use Rattle.spec_binding.specs.Ledgers.{release_all, restarted_ledger, rests_for, taken_ledger};
 ghost use Rattle.spec_binding.specs.Uses.{Accounts, uses_of};
@@ -114,8 +114,8 @@ pub fn books_keep()
     ensures agreed { (b : Book) → IsBook b → (key : Key) (x : Entry)
         → slot_of (restarted b).entries key ≡ Some x
         → (is_settled x.state ≡ true) × (is_pair x.state ≡ true) }
-    ensures alone { (b : Book) → IsBook b → is_synced b.stage ≡ true
-        → IsBook (put_alone b) }
+    ensures lone { (b : Book) → IsBook b → is_synced b.stage ≡ true
+        → IsBook (put_lone b) }
     ensures fed { (b : Book) (records rest : List Record) → IsBook b
         → b.coming ≡ records ++ rest → IsBook (record b { coming = rest }) }
 {}
@@ -226,7 +226,7 @@ pub fn not_moved()
     ensures restarted { (b : Book) (x : Endpoint) (p : Pair) → IsBook b → is_synced b.stage ≡ true
         → serving b x ≡ Some p → serving (restarted b) x ≡ Some p }
     ensures word { (b : Book) (x : Endpoint) (p : Pair) → IsBook b
-        → serving b x ≡ Some p → serving (put_alone b) x ≡ Some p }
+        → serving b x ≡ Some p → serving (put_lone b) x ≡ Some p }
 {}
 
 /// A packet that is translated is an act of the machine, or none.
@@ -250,7 +250,7 @@ pub fn restart_works()
 pub fn word_works()
     ensures { (now : ℕ) (b : Book) (e e1 : Link) (n number : ℕ) (h : List Record) → IsBook b
         → is_synced b.stage ≡ true → Agrees [] [] e1 → e.boot ≡ e1.boot → e1.known ≡ number
-        → Works now [] (number ∷ []) b e n (put_alone b) e1 0
+        → Works now [] (number ∷ []) b e n (put_lone b) e1 0
         (retaken b.id now (back_in b.entries)) h }
 {}
 
@@ -370,8 +370,8 @@ pub fn accounts_kept()
     ensures restarted { (now : ℕ) (l : Ledger) (h : List Note) → IsBook l.book
         → Accounts now l h
         → Accounts now (restarted_ledger l) (reverse (restart_notes l.book now) ++ h) }
-    ensures alone { (now : ℕ) (l : Ledger) (h : List Note) → IsBook l.book → Accounts now l h
-        → Accounts now (alone_ledger now l)
+    ensures lone { (now : ℕ) (l : Ledger) (h : List Note) → IsBook l.book → Accounts now l h
+        → Accounts now (lone_ledger now l)
         (reverse (retaken l.book.id now (back_in l.book.entries)) ++ h) }
     // The idle pairs of a tick are let go one after another.
     ensures release_all { (now : ℕ) (l : Ledger) (e : Link) (h : List Note) → IsBook l.book

@@ -8,7 +8,7 @@ use Rattle.nat_types.specs.declared.pairs.Pair.{Pair}
 use Rattle.spec_pair.specs.Batch.{AreThose, AreApart, LieWithin}
 use Rattle.spec_pair.specs.Box.{AreBack, Parcel, is_back, revived}
 use Rattle.spec_pair.specs.Ownership.{keyed, Ranges, in_run, left_to}
-use Rattle.spec_pair.specs.Rows.{parcel_p, parcel_q, live_first, held_first, LeadsTo, LeavesPorts, alone, alone_notes, promising, promising_notes, returning, returning_notes, naming, naming_notes, loading, loading_notes, using, using_notes, peer_off, peer_off_notes, pair_p, pair_q, udp, host, slot_on, two_ranges, range_of, six_ports, run_of}
+use Rattle.spec_pair.specs.Rows.{parcel_p, parcel_q, live_first, held_first, LeadsTo, LeavesPorts, lone, lone_notes, promising, promising_notes, returning, returning_notes, naming, naming_notes, loading, loading_notes, using, using_notes, peer_off, peer_off_notes, pair_p, pair_q, udp, host, slot_on, two_ranges, range_of, six_ports, run_of}
 use Rattle.spec_pair.specs.Talk.{Slot, Live, Free, held, Held, Pending}
 use Rattle.spec_pair.specs.World.{Scene, AreAllowed, founding, after_events}
 use Rattle.spec_pair.proofs.Batches.{fixed_leaves, batch_new, batch_mirrored}
@@ -28,12 +28,12 @@ freed_two : (b : Bool) (x y : Slot) → cond b Free (cond b x y) ≡ cond b Free
 freed_two true x y = refl
 freed_two false x y = refl
 
-abbrev pub Alone : Scene
-Alone = after_events two_ranges alone (founding two_ranges)
+abbrev pub Lone : Scene
+Lone = after_events two_ranges lone (founding two_ranges)
 
-alone-allowed : AreAllowed two_ranges alone (founding two_ranges)
+lone-allowed : AreAllowed two_ranges lone (founding two_ranges)
 unfolding same_key
-alone-allowed = (
+lone-allowed = (
   ((refl, refl, refl, refl, λ x h. cc), λ l h. absurd h, tt),
   (
     ((refl, refl, refl), λ l h. absurd h, tt),
@@ -50,15 +50,15 @@ alone-allowed = (
   ),
 )
 
-pub alone_leads : LeadsTo two_ranges alone alone_notes (slot_on 20001 Free ∷ live_first) []
-alone_leads = record {
-  allowed = alone-allowed;
+pub lone_leads : LeadsTo two_ranges lone lone_notes (slot_on 20001 Free ∷ live_first) []
+lone_leads = record {
+  allowed = lone-allowed;
   trace_is = refl;
   zero_is = λ k. freed_two (same_key (udp 20001) k) (Live (host 5001)) (cond (same_key (udp 20000) k) (Live (host 5000)) Free);
   one_is = λ k. refl;
 }
 
--- gateway 0's table after `alone`
+-- gateway 0's table after `lone`
 abbrev pub dropped_table : Key → Slot
 dropped_table k = cond (same_key (udp 20001) k) Free (cond (same_key (udp 20001) k) (Live (host 5001)) (cond (same_key (udp 20000) k) (Live (host 5000)) Free))
 
@@ -90,7 +90,7 @@ parted_within = within_one two_ranges parted_table pair_p refl not_parted
 abbrev pub to_one : Key → Bool
 to_one = keyed (left_to two_ranges One [])
 
-promising-allowed : AreAllowed two_ranges promising Alone
+promising-allowed : AreAllowed two_ranges promising Lone
 unfolding same_key
 promising-allowed = (
   ((refl, lit< tt), λ l h. absurd h, tt),
@@ -129,9 +129,9 @@ parted_is true c = refl
 parted_is false true = refl
 parted_is false false = refl
 
-pub promising_leads : LeadsTo two_ranges (alone ++ promising) (alone_notes ++ promising_notes) (slot_on 20001 Free ∷ live_first) held_first
+pub promising_leads : LeadsTo two_ranges (lone ++ promising) (lone_notes ++ promising_notes) (slot_on 20001 Free ∷ live_first) held_first
 promising_leads = record {
-  allowed = allowed_join two_ranges alone promising (founding two_ranges) alone-allowed promising-allowed;
+  allowed = allowed_join two_ranges lone promising (founding two_ranges) lone-allowed promising-allowed;
   trace_is = refl;
   zero_is = λ k. parted_is (same_key (udp 20001) k) (same_key (udp 20000) k);
   one_is = λ k. refl;

@@ -1,5 +1,6 @@
--- A Tell is never refused: its key is the sender's and has no entry, and its endpoint has no Held pair.
-use Rattle.std.proofs.Common.{◌≡◌, ℕ, true, false, not, ◌&&◌, ◌+◌, cond, List, [], ◌∷◌, Some, sym, ap, ◌∙◌, inl, inr, arith}
+-- A Tell is never refused: its key is the sender's and has no entry, and its endpoint has no Held pair. And its pair was
+-- alone.
+use Rattle.std.proofs.Common.{◌≡◌, ℕ, true, false, not, ◌&&◌, ◌+◌, cond, List, [], ◌∷◌, Some, sym, ap, ◌∙◌, inl, inr, arith, IsTrue}
 use Rattle.std.proofs.lemmas.Bool.{and_from, both_ways, cases_Bool, not-true}
 use Rattle.std.proofs.Math.Logic.{∥∥₁_elim}
 use Rattle.std.proofs.Props.{props}
@@ -9,17 +10,18 @@ use Rattle.nat_types.specs.declared.gateways.GatewayId.TheVariants.{Zero, One}
 use Rattle.nat_types.specs.declared.notes.Note.{Note}
 use Rattle.nat_types.specs.declared.pairs.Endpoint.{Endpoint}
 use Rattle.nat_types.specs.declared.pairs.Key.{Key}
+use Rattle.spec_trace.specs.Past.{was_alone}
 use Rattle.spec_pair.specs.Box.{Box, In, Letter, StandsNext}
 use Rattle.spec_pair.specs.Ownership.{Ranges, keyed}
 use Rattle.spec_pair.specs.RecordTable.{AreFacts, Facts, is_free, is_senders, told}
-use Rattle.spec_pair.specs.Talk.{Slot, Free, Held, MachineRecord, Tell, Adopt, Decline, IsUnboundOn, held, held_on, on}
+use Rattle.spec_pair.specs.Talk.{Slot, Free, Held, MachineRecord, Tell, Adopt, Decline, IsUnboundOn, held, held_on, on, pair_of}
 use Rattle.spec_pair.specs.World.{IsWorld, Scene, flip, seen_by}
 use Rattle.spec_pair.proofs.Acts.{view_of, next_is}
 use Rattle.spec_pair.proofs.Granting.{bit_true}
 use Rattle.spec_pair.proofs.Invariant.{Inv, View, bit, gifts}
 use Rattle.spec_pair.proofs.Inversions.{never_held, shared_named, when_tell}
 use Rattle.spec_pair.proofs.Mirror.{inv_flip}
-use Rattle.spec_pair.proofs.Phase.{owns, Nothing, Told, named, shared, slot_at}
+use Rattle.spec_pair.proofs.Phase.{owns, Nothing, Told, named, shared, single, slot_at}
 use Rattle.spec_pair.proofs.Props.{inv_world}
 use Rattle.spec_pair.proofs.Set.{on_here, other-owns, cases_gateway, apart_owns}
 use Rattle.spec_pair.proofs.Turned.{self}
@@ -31,6 +33,9 @@ held_slot s e h = absurd (cc)
 module _ (r : Ranges) (i : GatewayId) (a b : Box) (mb : List Letter) (t : List Note) (v : View r i a b mb t) (k : Key) (e : Endpoint) (rest : List MachineRecord) (comes : v.inn ≡ Tell k e ∷ rest) where
   tells : (owns v.owner (other i) k ≡ true) × (v.phase k ≡ Told e) × (on k rest ≡ [])
   tells = when_tell (owns v.owner (other i) k) k (v.phase k) k e (on k rest) (sym (v.talks.there.flights k) ∙ ap (on k) comes ∙ on_here k (Tell k e) rest (self v.owner k))
+
+  was : IsTrue (was_alone (pair_of k e) t)
+  was = v.were k e (ap single tells.1)
 
   not_own : owns v.owner i k ≡ false
   not_own = not-true (owns v.owner i k) (sym (other-owns v.owner i k) ∙ tells.0)
@@ -95,3 +100,17 @@ module _ (r : Ranges) where
   tells_are_taken s i l n k e f w synced together sent next facts =
       let is : ((is_senders r (seen_by i s).mine k && is_free ((seen_by i s).mine.table k)) && f.clear) ≡ true = ∥∥₁_elim (inv_world r s w) (hlevel (props)) (λ v. seen s i l n k e f v synced together sent next facts) in
       ap (λ b. cond b (Adopt k e) (Decline k e)) is
+
+  was_here : (i : GatewayId) (s : Scene) (l : Letter) (n : ℕ) (k : Key) (e : Endpoint) → Inv r i s → s.mine.synced ≡ true → s.mine.lone ≡ false → In l s.their_mail → StandsNext s.mine l n (Tell k e) → IsTrue (was_alone (pair_of k e) s.trace)
+  was_here i s l n k e v synced together sent next =
+      let view = view_of r i s.mine s.theirs s.my_mail s.their_mail s.trace v.here synced together in
+      let some : (rest : List MachineRecord) × (view.inn ≡ Tell k e ∷ rest) = next_is r i s.mine s.theirs s.their_mail s.trace view l n (Tell k e) sent next in
+      was r i s.mine s.theirs s.their_mail s.trace view k e some.0 some.1
+
+  was_seen : (s : Scene) (i : GatewayId) (l : Letter) (n : ℕ) (k : Key) (e : Endpoint) → Inv r Zero s → (seen_by i s).mine.synced ≡ true → (seen_by i s).mine.lone ≡ false → In l (seen_by i s).their_mail → StandsNext (seen_by i s).mine l n (Tell k e) → IsTrue (was_alone (pair_of k e) s.trace)
+  was_seen s Zero l n k e v = was_here Zero s l n k e v
+  was_seen s One l n k e v = was_here One (flip s) l n k e (inv_flip r Zero s v)
+
+  pub tells_were_alone : (s : Scene) (i : GatewayId) (l : Letter) (n : ℕ) (k : Key) (e : Endpoint) → IsWorld r s → (seen_by i s).mine.synced ≡ true → (seen_by i s).mine.lone ≡ false → In l (seen_by i s).their_mail → StandsNext (seen_by i s).mine l n (Tell k e)
+      → IsTrue (was_alone (pair_of k e) s.trace)
+  tells_were_alone s i l n k e w synced together sent next = ∥∥₁_elim (inv_world r s w) (hlevel (props)) (λ v. was_seen s i l n k e v synced together sent next)

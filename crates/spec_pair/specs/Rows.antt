@@ -318,8 +318,8 @@ peer_off_notes =
     ∷ []
 
 -- Gateway 0 is lone: it makes two pairs and uses them, and drops the second pair after its rest.
-abbrev pub alone : List MachineEvent
-alone =
+abbrev pub lone : List MachineEvent
+lone =
     zero_at 10 (LoneNew pair_p.key pair_p.endpoint)
     ∷ zero_at 10 (LoneUse pair_p.key pair_p.endpoint)
     ∷ zero_at 20 (LoneNew pair_q.key pair_q.endpoint)
@@ -327,9 +327,9 @@ alone =
     ∷ zero_at 30020 (LoneDrop pair_q.key pair_q.endpoint)
     ∷ []
 
--- the notes of `alone`
-abbrev pub alone_notes : List Note
-alone_notes =
+-- the notes of `lone`
+abbrev pub lone_notes : List Note
+lone_notes =
     note Zero 10 (Retaken pair_p)
     ∷ note Zero 10 (Used pair_p)
     ∷ note Zero 20 (Retaken pair_q)
@@ -345,7 +345,7 @@ first_part = letter_of 1 1 0 (Begin ∷ Put pair_p.key pair_p.endpoint ∷ [])
 abbrev pub last_part : Letter
 last_part = letter_of 1 1 2 (Done ∷ [])
 
--- Gateway 1 boots after `alone`. The batch is promised: Done is sent only after HandIn.
+-- Gateway 1 boots after `lone`. The batch is promised: Done is sent only after HandIn.
 abbrev pub promising : List MachineEvent
 promising =
     one_at 0 (Boot 1)

@@ -7,7 +7,7 @@ ghost use Rattle.nat_types.specs.declared.notes.Note.{Note};
 ghost use Rattle.nat_types.specs.declared.pairs.Endpoint.{Endpoint};
 ghost use Rattle.nat_types.specs.declared.pairs.Key.{Key};
 ghost use Rattle.nat_types.specs.declared.pairs.Pair.{Pair};
-ghost use Rattle.spec_trace.specs.Past.{is_synced};
+ghost use Rattle.spec_trace.specs.Past.{is_synced, was_alone};
 ghost use Rattle.spec_trace.specs.Plain as plain;
 ghost use Rattle.spec_trace.specs.Trace.{AtMostTwo, Fits, GoesOn, Kept, OneEndpoint, OnePort, Silent};
 ghost use Rattle.spec_pair.specs.Acts.{Act, AreGot, Hear, HearAnew, MayAct, Send, box_after, letters_by, act_notes};
@@ -15,11 +15,11 @@ ghost use Rattle.spec_pair.specs.Batch.{AreApart, AreThose, LieWithin};
 ghost use Rattle.spec_pair.specs.Box.{AreBack, AreMirrored, AreLoadable, AreSame, revived, Box, In, Parcel, StandsNext, Letter, empty, nth};
 ghost use Rattle.spec_pair.specs.Live.{AreTogether, IsNext, hello_of, hello_sent, unheard, next_letter, next_sent, outstanding};
 ghost use Rattle.spec_pair.specs.Ownership.{AreRising, LeaveRest, Ranges, Run, keyed, left_to, fixed, in_runs, moving};
-ghost use Rattle.spec_pair.specs.Rows.{live_first, held_first, LeadsTo, LeavesPorts, alone, alone_notes, promising, promising_notes, naming, naming_notes, returning, returning_notes, six_ports, asked_no, asked_no_notes, asked_yes, asked_yes_notes, crossing, crossing_notes, doomed, doomed_notes, granting, host, loading, loading_notes, losing, losing_notes, peer_off, peer_off_notes, slot_on, revival, revival_notes, sharing, two_ranges, using, using_notes, wanting};
+ghost use Rattle.spec_pair.specs.Rows.{live_first, held_first, LeadsTo, LeavesPorts, lone, lone_notes, promising, promising_notes, naming, naming_notes, returning, returning_notes, six_ports, asked_no, asked_no_notes, asked_yes, asked_yes_notes, crossing, crossing_notes, doomed, doomed_notes, granting, host, loading, loading_notes, losing, losing_notes, peer_off, peer_off_notes, slot_on, revival, revival_notes, sharing, two_ranges, using, using_notes, wanting};
 ghost use Rattle.spec_pair.specs.RecordTable.{AreFacts, DoesTake, Facts, act_by_table, becomes_owned, told};
 ghost use Rattle.spec_pair.specs.Step.{IsOff, IsStep, ReadsOnly, WasSent};
 ghost use Rattle.spec_pair.specs.AloneRows.{made_alone, made_alone_notes, meeting, meeting_notes, pair_b, pair_c, reloading, reloading_notes, tell_crosses, tell_crosses_notes, going_on, going_on_notes, taking_back, taking_back_notes, dying, dying_notes};
-ghost use Rattle.spec_pair.specs.Talk.{Adopt, Alone, Free, Held, Live, MachineRecord, Pending, Slot, Tell};
+ghost use Rattle.spec_pair.specs.Talk.{Adopt, Alone, Free, Held, Live, MachineRecord, Pending, Slot, Tell, pair_of};
 ghost use Rattle.spec_pair.specs.World.{AreAllowed, Can, EndsBy, MachineEvent, HasOwners, TableHolds, IsKept, IsWorld, Scene, TableTranslates, box_in, after_act, after_event, flip, mail_in, after_events, seen_by, founding, tables_of, with_step};
 
 /// The headline, for any loss, repetition and reordering of datagrams, for ever too, any crashes and boots that are
@@ -178,13 +178,18 @@ pub fn any_record_is_taken()
         AreGot r a ports (filter (becomes_owned r a) ports) }
 {}
 
-/// A Tell that stands next at a synced gateway is never refused: only a forged datagram has one that is.
+/// A Tell that stands next at a synced gateway is never refused: only a forged datagram has one that is. And its pair was
+/// alone: where no pair ever was, no Tell stands next there.
 pub fn tells_are_taken()
-    ensures { (r : Ranges) (s : Scene) (i : GatewayId) (l : Letter) (offset : ℕ) (k : Key)
+    ensures taken { (r : Ranges) (s : Scene) (i : GatewayId) (l : Letter) (offset : ℕ) (k : Key)
         (e : Endpoint) (f : Facts) → IsWorld r s → let v = seen_by i s in
         v.mine.synced ≡ true → v.mine.lone ≡ false → In l v.their_mail →
         StandsNext v.mine l offset (Tell k e) → AreFacts r v.mine (Tell k e) f →
         told r v.mine k e f.clear ≡ Adopt k e }
+    ensures alone { (r : Ranges) (s : Scene) (i : GatewayId) (l : Letter) (offset : ℕ) (k : Key)
+        (e : Endpoint) → IsWorld r s → let v = seen_by i s in
+        v.mine.synced ≡ true → v.mine.lone ≡ false → In l v.their_mail →
+        StandsNext v.mine l offset (Tell k e) → IsTrue (was_alone (pair_of k e) s.trace) }
 {}
 
 /// Nothing is stuck: where a record that the other pushed stands next, the other may send it, the act that the record
@@ -291,8 +296,8 @@ pub fn rows_lead()
         (loading_notes ++ using_notes ++ revival_notes) live_first held_first }
     ensures doomed { LeadsTo two_ranges (loading ++ doomed) (loading_notes ++ doomed_notes)
         live_first held_first }
-    ensures alone { LeadsTo two_ranges alone alone_notes (slot_on 20001 Free ∷ live_first) [] }
-    ensures promised { LeadsTo two_ranges (alone ++ promising) (alone_notes ++ promising_notes)
+    ensures lone { LeadsTo two_ranges lone lone_notes (slot_on 20001 Free ∷ live_first) [] }
+    ensures promised { LeadsTo two_ranges (lone ++ promising) (lone_notes ++ promising_notes)
         (slot_on 20001 Free ∷ live_first) held_first }
     ensures named { LeadsTo six_ports naming naming_notes live_first held_first }
     ensures returned { LeadsTo two_ranges (loading ++ using ++ peer_off ++ returning)

@@ -22,11 +22,11 @@ use Rattle.link.specs.Reading.{reading}
 use Rattle.link.proofs.Offered.{all_taken, reading_takes}
 use Rattle.resync.specs.Loading.{Load, loaded}
 use Rattle.spec_binding.specs.Books.{Book, empty_book, is_lone, is_synced, IsBook, load_of}
-use Rattle.spec_binding.specs.Ledgers.{Ledger, alone_ledger, ledger_after, release_all, may_ask, restarted_ledger, rests_for, taken_ledger, go_on_all, sought_keys}
+use Rattle.spec_binding.specs.Ledgers.{Ledger, lone_ledger, ledger_after, release_all, may_ask, restarted_ledger, rests_for, taken_ledger, go_on_all, sought_keys}
 use Rattle.spec_binding.specs.Resets.{back_in, begun_anew, restart_link, restart_notes, restarted, retaken}
 use Rattle.spec_binding.specs.Rows.{after, answered, load_taken, noted_by, row_of, taken_answer, taken_book, taken_ended, taken_what, unsynced_after, idle_row, alone_row, is_full}
 use Rattle.spec_binding.specs.Uses.{Accounts}
-use Rattle.spec_binding.proofs.Offered.{alone-keeps, fed-keeps, idle-keeps, restart-keeps, taken-keeps, change-leaves, alone-accounts, fed-accounts, later-accounts, let-go-accounts, restarted-accounts, taken-accounts, alone-row-keeps, go-on-accounts}
+use Rattle.spec_binding.proofs.Offered.{lone-keeps, fed-keeps, idle-keeps, restart-keeps, taken-keeps, change-leaves, lone-accounts, fed-accounts, later-accounts, let-go-accounts, restarted-accounts, taken-accounts, alone-row-keeps, go-on-accounts}
 use Rattle.waiting.specs.declared.waits.Ended.TheVariants.{AllPairs, One}
 use Rattle.waiting.specs.declared.waits.WaitsFor.TheVariants as wait
 use Rattle.packet_rules.specs.declared.readings.Reading.{Reading}
@@ -204,10 +204,10 @@ taken-rests : Reads → (s : GatewayAndOutput) (n : ℕ) → is_synced s.shown.l
 taken-rests reads s n synced =
     let g = s.shown in let b = g.ledger.book in
     let notes = retaken b.id g.moment (back_in b.entries) in
-    let mid = scene (record g { ledger = alone_ledger g.moment g.ledger; link = closed_at g.link n }) (with_notes s.told notes) in
-    let first : Resting s mid = resting-noted s (alone_ledger g.moment g.ledger) (closed_at g.link n) notes
-    (retaken-own b.id g.moment (back_in b.entries)) (record { alone = refl; plain = λ never. retaken-are-plain b.id g.moment (back_in b.entries) }) refl (λ is. alone-keeps b is synced)
-    (λ before is a. alone-accounts g.moment g.ledger before is a) in
+    let mid = scene (record g { ledger = lone_ledger g.moment g.ledger; link = closed_at g.link n }) (with_notes s.told notes) in
+    let first : Resting s mid = resting-noted s (lone_ledger g.moment g.ledger) (closed_at g.link n) notes
+    (retaken-own b.id g.moment (back_in b.entries)) (record { alone = refl; plain = λ never. retaken-are-plain b.id g.moment (back_in b.entries) }) refl (λ is. lone-keeps b is synced)
+    (λ before is a. lone-accounts g.moment g.ledger before is a) in
     resting-then s mid (word_taken s n) first (released-rests reads mid AllPairs)
 
 word-rests : Reads → (s : GatewayAndOutput) (n : ℕ) (o : Option Reason) → word_refusal s.shown n ≡ o → Resting s (word_by s n o)

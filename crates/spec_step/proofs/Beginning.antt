@@ -13,7 +13,7 @@ pub begun-stands : (settings : Settings) (id : GatewayId) (boot : ℕ) → HasRa
 unfolding begun
 begun-stands settings id boot has = record {
   book = empty-keeps id (bounds_of settings.ports.zero) (bounds_of settings.ports.one) settings.ports.host_limit settings.alone has.zero has.one has.highest_zero has.highest_one;
-  alone = λ t. absurd (cc);
+  lone = λ t. absurd (cc);
   kept = tt;
   pushed = record { counted = omega arith; coming = refl; behind = refl };
 }
@@ -26,7 +26,7 @@ pub founded-stands : (settings : Settings) (boot : ℕ) → HasRanges settings �
 unfolding founded begun
 founded-stands settings boot has = record {
   book = founded-keeps (bounds_of settings.ports.zero) (bounds_of settings.ports.one) settings.ports.host_limit settings.alone has.zero has.one has.highest_zero has.highest_one;
-  alone = λ t. inl refl;
+  lone = λ t. inl refl;
   kept = tt;
   pushed = record { counted = omega arith; coming = refl; behind = refl };
 }

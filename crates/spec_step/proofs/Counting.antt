@@ -32,7 +32,7 @@ use Rattle.link.specs.Reading.{reading}
 use Rattle.link.proofs.Offered.{length-takeable, reading_takes}
 use Rattle.spec_binding.specs.declared.changes.Transition.{Transition}
 use Rattle.spec_binding.specs.Books.{Book, is_lone, is_synced}
-use Rattle.spec_binding.specs.Ledgers.{Ledger, alone_ledger, may_ask, restarted_ledger, rests_for, taken_ledger, sought_keys}
+use Rattle.spec_binding.specs.Ledgers.{Ledger, lone_ledger, may_ask, restarted_ledger, rests_for, taken_ledger, sought_keys}
 use Rattle.spec_binding.specs.Resets.{back_in, restart_link, restart_notes, retaken}
 use Rattle.spec_binding.specs.Rows.{answered, carry_row, idle_row, is_full, noted_by, taken_answer, taken_ended, taken_what, wish_of, alone_row}
 use Rattle.waiting.specs.declared.waits.Ended.{Ended}
@@ -472,7 +472,7 @@ taken-within : (c : ℕ) (s : GatewayAndOutput) (n : ℕ) → Within c (length s
 taken-within c s n =
     let g = s.shown in let b = g.ledger.book in
     let notes = retaken b.id g.moment (back_in b.entries) in
-    let mid = scene (record g { ledger = alone_ledger g.moment g.ledger; link = closed_at g.link n }) (with_notes s.told notes) in
+    let mid = scene (record g { ledger = lone_ledger g.moment g.ledger; link = closed_at g.link n }) (with_notes s.told notes) in
     within-then c (length b.entries) (3 * c) s mid (word_taken s n)
     (within-adds c (length b.entries) s mid (adds-noted (length b.entries) s mid notes (few-retaken b.id g.moment b.entries) refl refl))
     (released-within c mid AllPairs)

@@ -11,7 +11,7 @@ use Rattle.spec_binding.specs.Books.{Book}
 use Rattle.spec_binding.specs.Machine.{box_at, letter_of, ranges_of}
 use Rattle.spec_binding.proofs.Offered.{fed-keeps, feed-works, works-sent}
 use Rattle.output.specs.Output.{Output, with_datagram}
-use Rattle.spec_step.specs.Machine.{Goes, IsAlone}
+use Rattle.spec_step.specs.Machine.{Goes, IsLoneRightly}
 use Rattle.spec_step.specs.Parts.{datagram_in, handed_in, link_answered, link_ticked}
 use Rattle.spec_step.specs.Shown.{GatewayAndOutput, Shown, scene, serves}
 use Rattle.spec_step.proofs.Hearing.{Arrives}
@@ -123,23 +123,23 @@ module _ (letters : List Letter) (words : List ℕ) (s : GatewayAndOutput) (h : 
       at g x none false = unsent-goes g done.told g.link.ticked g.link.due x
 
   -- what a step requires of a gateway holds after the datagram at its end
-  ended-keeps : (g : Shown) (told : Output) (e : Link) → IsSound g → IsAlone g → e.known ≡ g.link.known → e.closed ≡ g.link.closed → IsSound (record g { link = e }) × IsAlone (record g { link = e })
+  ended-keeps : (g : Shown) (told : Output) (e : Link) → IsSound g → IsLoneRightly g → e.known ≡ g.link.known → e.closed ≡ g.link.closed → IsSound (record g { link = e }) × IsLoneRightly (record g { link = e })
   ended-keeps g told e is alone known closed = (record { book = is.book; kept = is.kept }, λ t. at (alone t))
     where
       at : (g.link.known ≡ 0) ⊎ (g.link.closed ≡ true) → (e.known ≡ 0) ⊎ (e.closed ≡ true)
       at (inl none) = inl (known ∙ none)
       at (inr over) = inr (closed ∙ over)
 
-  pub answered-keeps : (done : GatewayAndOutput) → Arrives letters words s done h → IsSound (link_answered done).shown × IsAlone (link_answered done).shown
+  pub answered-keeps : (done : GatewayAndOutput) → Arrives letters words s done h → IsSound (link_answered done).shown × IsLoneRightly (link_answered done).shown
   answered-keeps done a =
       let g = handed_in done.shown in
-      ended-keeps g done.told (sent_on_answer g.link) (fed-passes done a).sound a.alone refl refl
+      ended-keeps g done.told (sent_on_answer g.link) (fed-passes done a).sound a.lone refl refl
 
-  pub ticked-keeps : (done : GatewayAndOutput) → Arrives letters words s done h → IsSound (link_ticked done).shown × IsAlone (link_ticked done).shown
+  pub ticked-keeps : (done : GatewayAndOutput) → Arrives letters words s done h → IsSound (link_ticked done).shown × IsLoneRightly (link_ticked done).shown
   ticked-keeps done a =
       let g = handed_in done.shown in
-      at g (fed-passes done a).sound a.alone (is_due_on_tick g.link g.moment)
+      at g (fed-passes done a).sound a.lone (is_due_on_tick g.link g.moment)
     where
-      at : (g : Shown) → IsSound g → IsAlone g → (due : Bool) → (let t : GatewayAndOutput = cond due (scene (record g { link = sent_on_tick g.link g.moment }) (with_datagram done.told (datagram_in g))) (scene g done.told) in IsSound t.shown × IsAlone t.shown)
+      at : (g : Shown) → IsSound g → IsLoneRightly g → (due : Bool) → (let t : GatewayAndOutput = cond due (scene (record g { link = sent_on_tick g.link g.moment }) (with_datagram done.told (datagram_in g))) (scene g done.told) in IsSound t.shown × IsLoneRightly t.shown)
       at g is alone true = ended-keeps g done.told (sent_on_tick g.link g.moment) is alone refl refl
       at g is alone false = (is, alone)

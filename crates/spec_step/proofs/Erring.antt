@@ -18,6 +18,7 @@ use Rattle.bindings.specs.declared.entries.Entry.{Entry}
 use Rattle.bindings.specs.Entries.{HasDistinctKeys, entry_of, slot_of, translates}
 use Rattle.bindings.proofs.Offered.{entry-serves, entry-slot}
 use Rattle.spec_binding.specs.Books.{IsBook, is_synced}
+use Rattle.spec_binding.specs.Serving.{serving, serving_by}
 use Rattle.spec_binding.specs.Uses.{IsTranslated}
 use Rattle.waiting.specs.declared.waits.WaitsFor.TheVariants as wait
 use Rattle.waiting.specs.Packets.{has_place}
@@ -36,6 +37,7 @@ use Rattle.spec_step.specs.Others.{MayGoBy, targets}
 use Rattle.spec_step.specs.Shown.{Shown}
 use Rattle.spec_step.specs.Verdict.{error_by, error_hop, error_on, error_plan, exit_by, next_to, pair_at, pair_in, pair_in_of, pair_out, plan_to, fits_at, if_fits}
 use Rattle.spec_step.proofs.Fitting.{fitted}
+use Rattle.spec_step.proofs.Steady.{ServesNow}
 use Rattle.spec_step.proofs.Translating.{IsThere, target-translates}
 
 -- the pairs that were found for an error
@@ -148,6 +150,32 @@ pub error-pairs : (g : Shown) (flow : ErrorFlow) (by : Translation) → is_synce
 error-pairs g flow (Outward p) synced found = in-serves g.ledger.book.entries (endpoint_about flow) p found
 error-pairs g flow (Inward p) synced found = (out-there g flow p synced found).1
 error-pairs g flow (Hairpin own other) synced found = ((out-there g flow other synced found.1).1, in-serves g.ledger.book.entries (endpoint_about flow) own found.0)
+
+-- ---- an error goes by its endpoint's pair
+
+pair-serves : (o : Option Entry) (p : Pair) → pair_at o ≡ Ok p → serving_by o ≡ Some p
+pair-serves None p is = absurd (cc)
+pair-serves (Some x) p is = at x.state x.pair is
+  where
+    at : (s : EntryState) (q : Pair) → pair_in s q ≡ Ok p → (let o : Option Pair = cond (translates s) (Some q) None in o) ≡ Some p
+    at (state.Pending true) q is = let same : q ≡ p = cc in ap (λ (r : Pair). Some r) same
+    at (state.Pending false) q is = absurd (cc)
+    at state.Doomed q is = absurd (cc)
+    at state.Live q is = let same : q ≡ p = cc in ap (λ (r : Pair). Some r) same
+    at (state.Closing true) q is = let same : q ≡ p = cc in ap (λ (r : Pair). Some r) same
+    at (state.Closing false) q is = absurd (cc)
+    at state.Alone q is = let same : q ≡ p = cc in ap (λ (r : Pair). Some r) same
+    at state.Held q is = let same : q ≡ p = cc in ap (λ (r : Pair). Some r) same
+
+inside-serves : (g : Shown) (flow : ErrorFlow) (p : Pair) → pair_in_of g flow ≡ Ok p → serving g.ledger.book p.endpoint ≡ Some p
+inside-serves g flow p is =
+    ap (λ (e : Endpoint). serving g.ledger.book e) (in-serves g.ledger.book.entries (endpoint_about flow) p is)
+    ∙ pair-serves (entry_of g.ledger.book.entries (endpoint_about flow)) p is
+
+pub error-serves : (g : Shown) (flow : ErrorFlow) (by : Translation) → is_synced g.ledger.book.stage ≡ true → AreErrorFound g flow by → ServesNow g.ledger.book by
+error-serves g flow (Outward p) synced found = (synced, inside-serves g flow p found)
+error-serves g flow (Inward p) synced found = tt
+error-serves g flow (Hairpin own other) synced found = (synced, inside-serves g flow own found.0)
 
 -- the pair of the source port inside translates
 out-may : (g : Shown) (flow : ErrorFlow) (p : Pair) (notes : List Note) → is_synced g.ledger.book.stage ≡ true → pair_out g flow ≡ Ok p → MayGoBy g notes p

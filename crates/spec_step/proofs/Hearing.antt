@@ -12,16 +12,16 @@ use Rattle.link.specs.Reading.{reading}
 use Rattle.link.proofs.Offered.{all_taken, begins, boot_of, is_open, known_of, met_restart, met_same, restart_is, reading_takes}
 use Rattle.spec_pair.specs.Box.{Letter}
 use Rattle.spec_binding.specs.Books.{Book, is_lone, is_synced}
-use Rattle.spec_binding.specs.Ledgers.{alone_ledger, may_ask, restarted_ledger, sought_keys}
+use Rattle.spec_binding.specs.Ledgers.{lone_ledger, may_ask, restarted_ledger, sought_keys}
 use Rattle.spec_binding.specs.Machine.{IsTurn, Stands, letter_of}
 use Rattle.spec_binding.specs.Resets.{back_in, restart_link, restart_notes, restarted, retaken, begun_anew}
 use Rattle.spec_binding.specs.Books.{empty_book}
 use Rattle.spec_binding.specs.Rows.{idle_row, alone_row, is_full}
-use Rattle.spec_binding.proofs.Offered.{turn-comes, alone-keeps, idle-keeps, restart-keeps, heard-works, works-more, restart-works, word-works, idle-works, alone-row-keeps, alone-works}
+use Rattle.spec_binding.proofs.Offered.{turn-comes, lone-keeps, idle-keeps, restart-keeps, heard-works, works-more, restart-works, word-works, idle-works, alone-row-keeps, alone-works}
 use Rattle.waiting.specs.declared.waits.Ended.TheVariants.{AllPairs}
 use Rattle.packet_rules.specs.declared.reasons.Reason.{Reason}
 use Rattle.packet_rules.specs.declared.reasons.Reason.TheVariants.{NotUp, OldWord}
-use Rattle.spec_step.specs.Machine.{AreBytes, IsAlone, letter_in}
+use Rattle.spec_step.specs.Machine.{AreBytes, IsLoneRightly, letter_in}
 use Rattle.spec_step.specs.Parts.{all_idle_done, datagram_read, heard_by, heard_unless, idle_done, records_done, reset, with_link, word_taken, all_sought_done, alone_taken, gone_alone, peer_told, sought_done}
 use Rattle.spec_step.specs.Shown.{GatewayAndOutput, Shown, scene, with_notes, is_apart}
 use Rattle.spec_step.specs.Steps.{word_by, word_refusal}
@@ -32,10 +32,10 @@ use Rattle.spec_step.proofs.Records.{AllCome, counted, counted-is, records-take,
 -- a part of a step after which as many of the peer's records are taken as the link says
 pub record Arrives (letters : List Letter) (words : List ℕ) (s s2 : GatewayAndOutput) (h : List Record) : Type 0 where
   pub passes : Passes letters words s s.shown.link.taken s2 s2.shown.link.taken h
-  pub alone : IsAlone s2.shown
+  pub lone : IsLoneRightly s2.shown
 
-pub alone-stays : (g g2 : Shown) → IsAlone g → Stays g g2 → IsAlone g2
-alone-stays g g2 alone stays = λ t. at (alone (stays.lone t))
+pub lone-stays : (g g2 : Shown) → IsLoneRightly g → Stays g g2 → IsLoneRightly g2
+lone-stays g g2 rightly stays = λ t. at (rightly (stays.lone t))
   where
     at : (g.link.known ≡ 0) ⊎ (g.link.closed ≡ true) → (g2.link.known ≡ 0) ⊎ (g2.link.closed ≡ true)
     at (inl none) = inl (stays.known ∙ none)
@@ -43,12 +43,12 @@ alone-stays g g2 alone stays = λ t. at (alone (stays.lone t))
 
 module _ (letters : List Letter) (words : List ℕ) where
   -- a part in which no record is taken leaves as many taken as the link says
-  pub arrives-by : (s s2 : GatewayAndOutput) (h : List Record) → Going letters words s s2 → Stands s.shown.ledger.book s.shown.link h → IsSound s.shown → IsAlone s.shown → Arrives letters words s s2 h
-  arrives-by s s2 h going stands is alone =
+  pub arrives-by : (s s2 : GatewayAndOutput) (h : List Record) → Going letters words s s2 → Stands s.shown.ledger.book s.shown.link h → IsSound s.shown → IsLoneRightly s.shown → Arrives letters words s s2 h
+  arrives-by s s2 h going stands is rightly =
       let x = going s.shown.link.taken h stands is in
       record {
         passes = subst (λ (n : ℕ). Passes letters words s s.shown.link.taken s2 n h) (sym x.stays.taken) x.passes;
-        alone = alone-stays s.shown s2.shown alone x.stays;
+        lone = lone-stays s.shown s2.shown rightly x.stays;
       }
 
   -- ---- idle pairs
@@ -95,26 +95,26 @@ word-taken : Reads → (s : GatewayAndOutput) (number : ℕ) (h : List Record) �
 word-taken reads s number h synced stands is =
     let g = s.shown in let b = g.ledger.book in let e = g.link in
     let notes = retaken b.id g.moment (back_in b.entries) in
-    let mid = scene (record g { ledger = alone_ledger g.moment g.ledger; link = closed_at e number }) (with_notes s.told notes) in
+    let mid = scene (record g { ledger = lone_ledger g.moment g.ledger; link = closed_at e number }) (with_notes s.told notes) in
     let first : Passes [] (number ∷ []) s e.taken mid 0 h = record {
       notes = notes;
       notes_are = refl;
       datagrams = refl;
       moment = refl;
       works = word-works g.moment b e (closed_at e number) e.taken number h is.book synced (record { counted = omega arith; coming = refl; behind = refl }) refl refl;
-      sound = record { book = alone-keeps b is.book synced; kept = is.kept };
+      sound = record { book = lone-keeps b is.book synced; kept = is.kept };
     } in
     let second = released-goes [] (number ∷ []) reads mid AllPairs 0 first.works.history first.works.agrees first.sound in
     record {
       passes = subst (λ (n : ℕ). Passes [] (number ∷ []) s e.taken (word_taken s number) n h) (sym second.stays.taken)
           (passes-then [] (number ∷ []) s mid (word_taken s number) e.taken 0 0 h first second.passes);
-      alone = alone-stays mid.shown (word_taken s number).shown (λ t. inr refl) second.stays;
+      lone = lone-stays mid.shown (word_taken s number).shown (λ t. inr refl) second.stays;
     }
 
-pub word-arrives : Reads → (s : GatewayAndOutput) (number : ℕ) (h : List Record) (o : Option Reason) → word_refusal s.shown number ≡ o → Stands s.shown.ledger.book s.shown.link h → IsSound s.shown → IsAlone s.shown → Arrives [] (number ∷ []) s (word_by s number o) h
-word-arrives reads s number h None is_none stands is alone =
+pub word-arrives : Reads → (s : GatewayAndOutput) (number : ℕ) (h : List Record) (o : Option Reason) → word_refusal s.shown number ≡ o → Stands s.shown.ledger.book s.shown.link h → IsSound s.shown → IsLoneRightly s.shown → Arrives [] (number ∷ []) s (word_by s number o) h
+word-arrives reads s number h None is_none stands is rightly =
     word-taken reads s number h (word-synced [] [] (is_synced s.shown.ledger.book.stage) ((number == 0) || nat_lt number s.shown.link.known) is_none) stands is
-word-arrives reads s number h (Some reason) is_none stands is alone = arrives-by [] (number ∷ []) s s h (here [] (number ∷ []) s) stands is alone
+word-arrives reads s number h (Some reason) is_none stands is rightly = arrives-by [] (number ∷ []) s s h (here [] (number ∷ []) s) stands is rightly
 
 -- ---- a datagram
 
@@ -148,8 +148,8 @@ restart-session b e = at (is_synced b.stage)
     at false = record { boot = refl; known = refl; taken = refl }
 
 -- while the peer's boot isn't known, or is closed, only a datagram of a greater boot is let through
-heard-together : (g : Shown) (d : Datagram) → IsAlone g → IsWellFormed d → refusal g.link d ≡ None → is_restart g.link d ≡ false → is_lone g.ledger.book.stage ≡ false
-heard-together g d alone fits passed same = at (is_lone g.ledger.book.stage) refl
+heard-together : (g : Shown) (d : Datagram) → IsLoneRightly g → IsWellFormed d → refusal g.link d ≡ None → is_restart g.link d ≡ false → is_lone g.ledger.book.stage ≡ false
+heard-together g d rightly fits passed same = at (is_lone g.ledger.book.stage) refl
   where
     low : d.boot ≤ g.link.known
     low = ltb-false g.link.known d.boot same
@@ -159,7 +159,7 @@ heard-together g d alone fits passed same = at (is_lone g.ledger.book.stage) ref
     apart (inr closed) = let open_is = is_open g.link d passed low in let same : true ≡ false = sym closed ∙ open_is in absurd (cc)
 
     at : (b : Bool) → is_lone g.ledger.book.stage ≡ b → b ≡ false
-    at true is = absurd (apart (alone is))
+    at true is = absurd (apart (rightly is))
     at false is = refl
 
 module _ (reads : Reads) (s : GatewayAndOutput) (h : List Record) (bytes : List ℕ) (d : Datagram) (stands : Stands s.shown.ledger.book s.shown.link h) (is : IsSound s.shown) (read : reading bytes ≡ Ok d) (fits : IsWellFormed d) (passed : refusal s.shown.link d ≡ None) where
@@ -199,12 +199,12 @@ module _ (reads : Reads) (s : GatewayAndOutput) (h : List Record) (bytes : List 
       record {
         passes = subst (λ (x : ℕ). Passes (l ∷ []) [] s e.taken done x h) total
             (passes-then (l ∷ []) [] s mid done e.taken n (counted n rs) h first second.passes);
-        alone = λ t. let none = not-alone l [] (is_lone done.shown.ledger.book.stage) (is_lone mid.shown.ledger.book.stage) second.stays.lone lone in let same : true ≡ false = sym t ∙ none in absurd (cc);
+        lone = λ t. let none = not-alone l [] (is_lone done.shown.ledger.book.stage) (is_lone mid.shown.ledger.book.stage) second.stays.lone lone in let same : true ≡ false = sym t ∙ none in absurd (cc);
       }
 
   -- a datagram of the session that there is does so
-  on : is_restart e d ≡ false → IsAlone s.shown → Arrives (l ∷ []) [] s (records_done after rs) h
-  on same alone =
+  on : is_restart e d ≡ false → IsLoneRightly s.shown → Arrives (l ∷ []) [] s (records_done after rs) h
+  on same rightly =
       let b = s.shown.ledger.book in
       let first : Passes (l ∷ []) [] s e.taken after e.taken h = record {
         notes = [];
@@ -215,7 +215,7 @@ module _ (reads : Reads) (s : GatewayAndOutput) (h : List Record) (bytes : List 
         sound = record { book = is.book; kept = is.kept };
       } in
       from after e.taken first (sym (ap (λ (x : Link). x.taken) (met_same e d same))) (record { boot = refl; known = refl; taken = refl })
-      (heard-together s.shown d alone fits passed same)
+      (heard-together s.shown d rightly fits passed same)
     where
       append-nothing : {X : Type 0} (xs : List X) → xs ++ [] ≡ xs
       append-nothing [] = refl
@@ -248,18 +248,18 @@ module _ (reads : Reads) (s : GatewayAndOutput) (h : List Record) (bytes : List 
       (record { boot = second.stays.boot ∙ session.boot; known = second.stays.known ∙ session.known; taken = second.stays.taken ∙ session.taken })
       (not-alone l [] (is_lone start.shown.ledger.book.stage) (is_lone (restarted b).stage) second.stays.lone (restarted-together b))
 
-  heard-arrives : IsAlone s.shown → Arrives (l ∷ []) [] s (heard_by s d) h
-  heard-arrives alone = at (is_restart e d) refl
+  heard-arrives : IsLoneRightly s.shown → Arrives (l ∷ []) [] s (heard_by s d) h
+  heard-arrives rightly = at (is_restart e d) refl
     where
       at : (z : Bool) → is_restart e d ≡ z → Arrives (l ∷ []) [] s (records_done (let x : GatewayAndOutput = cond z (reset after) after in x) rs) h
       at true same = anew same
-      at false same = on same alone
+      at false same = on same rightly
 
-unless-arrives : Reads → (s : GatewayAndOutput) (h : List Record) (bytes : List ℕ) (d : Datagram) (o : Option LinkFault) → refusal s.shown.link d ≡ o → Stands s.shown.ledger.book s.shown.link h → IsSound s.shown → IsAlone s.shown → reading bytes ≡ Ok d → IsWellFormed d → Arrives (letter_of d ∷ []) [] s (heard_unless s d o) h
-unless-arrives reads s h bytes d None passed stands is alone read fits = heard-arrives reads s h bytes d stands is read fits passed alone
-unless-arrives reads s h bytes d (Some fault) passed stands is alone read fits = arrives-by (letter_of d ∷ []) [] s s h (here (letter_of d ∷ []) [] s) stands is alone
+unless-arrives : Reads → (s : GatewayAndOutput) (h : List Record) (bytes : List ℕ) (d : Datagram) (o : Option LinkFault) → refusal s.shown.link d ≡ o → Stands s.shown.ledger.book s.shown.link h → IsSound s.shown → IsLoneRightly s.shown → reading bytes ≡ Ok d → IsWellFormed d → Arrives (letter_of d ∷ []) [] s (heard_unless s d o) h
+unless-arrives reads s h bytes d None passed stands is rightly read fits = heard-arrives reads s h bytes d stands is read fits passed rightly
+unless-arrives reads s h bytes d (Some fault) passed stands is rightly read fits = arrives-by (letter_of d ∷ []) [] s s h (here (letter_of d ∷ []) [] s) stands is rightly
 
-pub datagram-arrives : Reads → (s : GatewayAndOutput) (h : List Record) (bytes : List ℕ) (r : Result Datagram LinkFault) → reading bytes ≡ r → AreBytes bytes → Stands s.shown.ledger.book s.shown.link h → IsSound s.shown → IsAlone s.shown → Arrives (letter_in r) [] s (datagram_read s r) h
-datagram-arrives reads s h bytes (Ok d) read are stands is alone =
-    unless-arrives reads s h bytes d (refusal s.shown.link d) refl stands is alone read (reading_takes bytes d are read).0
-datagram-arrives reads s h bytes (Err fault) read are stands is alone = arrives-by [] [] s s h (here [] [] s) stands is alone
+pub datagram-arrives : Reads → (s : GatewayAndOutput) (h : List Record) (bytes : List ℕ) (r : Result Datagram LinkFault) → reading bytes ≡ r → AreBytes bytes → Stands s.shown.ledger.book s.shown.link h → IsSound s.shown → IsLoneRightly s.shown → Arrives (letter_in r) [] s (datagram_read s r) h
+datagram-arrives reads s h bytes (Ok d) read are stands is rightly =
+    unless-arrives reads s h bytes d (refusal s.shown.link d) refl stands is rightly read (reading_takes bytes d are read).0
+datagram-arrives reads s h bytes (Err fault) read are stands is rightly = arrives-by [] [] s s h (here [] [] s) stands is rightly

@@ -429,10 +429,10 @@ lone-together : (g : Shown) → is_lone g.ledger.book.stage ≡ true → is_show
 lone-together g lone =
     ap (λ (t : Bool). t && (not (g.ledger.book.alone == 0) && nat_le g.ledger.book.alone (g.moment - g.link.answered))) (lone-unpaired g.ledger.book.stage lone)
 
-pub alone-goes : (s : GatewayAndOutput) (now : ℕ) (s2 : GatewayAndOutput) (x : Entry) → IsStepOn s (Tick now) s2
+pub lone-goes : (s : GatewayAndOutput) (now : ℕ) (s2 : GatewayAndOutput) (x : Entry) → IsStepOn s (Tick now) s2
     → is_lone s.shown.ledger.book.stage ≡ true
     → HasRested s.shown.ledger s2.shown.moment x → IsLetGo s x s2
-alone-goes s now s2 x step lone rested =
+lone-goes s now s2 x step lone rested =
     let-go-together s now s2 x true step lone (lone-together (ticked s now).shown lone)
     (tick-goes s now s2 x true step (lone-synced s.shown.ledger.book.stage lone) lone (λ no. absurd (cc)) rested)
 

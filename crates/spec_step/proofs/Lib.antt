@@ -22,6 +22,7 @@ mod Leaving
 mod LettingGo
 mod Limits
 mod Lines
+mod Marked
 mod Near
 mod Nobody
 mod Others
@@ -42,6 +43,7 @@ mod Sends
 mod Settling
 mod Sides
 mod Standing
+mod Steady
 mod Stepping
 mod TakingOver
 mod Takes

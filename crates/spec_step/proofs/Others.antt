@@ -23,7 +23,7 @@ use Rattle.link.specs.Reading.{reading}
 use Rattle.spec_pair.specs.Box.{In}
 use Rattle.spec_binding.specs.Books.{is_lone, IsBook}
 use Rattle.spec_binding.specs.Uses.{IsTranslated}
-use Rattle.spec_binding.specs.Ledgers.{Ledger, alone_ledger, may_ask, restarted_ledger, rests_for, taken_ledger, sought_keys}
+use Rattle.spec_binding.specs.Ledgers.{Ledger, lone_ledger, may_ask, restarted_ledger, rests_for, taken_ledger, sought_keys}
 use Rattle.spec_binding.specs.Resets.{back_in, restart_link, restart_notes, retaken}
 use Rattle.spec_binding.specs.Rows.{answered, idle_row, noted_by, taken_answer, taken_ended, taken_what, alone_row, is_full}
 use Rattle.waiting.specs.declared.waits.Ended.TheVariants.{AllPairs, One}
@@ -66,7 +66,7 @@ use Rattle.spec_step.proofs.Freeing.{Comes-of, filter-same, filter-both}
 use Rattle.spec_step.proofs.Limits.{count-left, asks-left}
 use Rattle.spec_step.proofs.Lines.{acts-shown, both-stopped, line-quiet}
 use Rattle.spec_step.proofs.Near.{asks-learnt}
-use Rattle.spec_step.proofs.Rooting.{Rooted, alone-rooted, restart-rooted, taken-roots, alone-row-roots, idle-roots}
+use Rattle.spec_step.proofs.Rooting.{Rooted, lone-rooted, restart-rooted, taken-roots, alone-row-roots, idle-roots}
 use Rattle.spec_step.proofs.Sending.{Frames, own-six, answer-other}
 use Rattle.spec_step.proofs.Telling.{at_hand}
 use Rattle.spec_step.proofs.Turning.{back_as}
@@ -495,9 +495,9 @@ datagram-asks frames s (Err fault) is = nothing-asks [] s
 word-asks : Frames → (s : GatewayAndOutput) (n : ℕ) (o : Option Reason) → IsBook s.shown.ledger.book → Ask-on [] (frees_unless o) s (word_by s n o)
 word-asks frames s n None is =
     let g = s.shown in let b = g.ledger.book in
-    let mid = scene (record g { ledger = alone_ledger g.moment g.ledger; link = closed_at g.link n }) (with_notes s.told (retaken (id_of g) g.moment (back_in b.entries))) in
+    let mid = scene (record g { ledger = lone_ledger g.moment g.ledger; link = closed_at g.link n }) (with_notes s.told (retaken (id_of g) g.moment (back_in b.entries))) in
     asking-then [] [] nobody of_pairs s mid (word_taken s n)
-    (quiet-asks [] s mid (table-quiet s (alone_ledger g.moment g.ledger) (closed_at g.link n) (retaken (id_of g) g.moment (back_in b.entries)) (alone-rooted b (id_of g) g.moment is.keys))) (pairs-ask frames mid AllPairs all-apart)
+    (quiet-asks [] s mid (table-quiet s (lone_ledger g.moment g.ledger) (closed_at g.link n) (retaken (id_of g) g.moment (back_in b.entries)) (lone-rooted b (id_of g) g.moment is.keys))) (pairs-ask frames mid AllPairs all-apart)
 word-asks frames s n (Some reason) is = nothing-asks [] s
 
 -- ---- ticks

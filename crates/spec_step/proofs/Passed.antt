@@ -20,6 +20,7 @@ use Rattle.spec_step.specs.Truly.{Sending, known_of, packets_of}
 use Rattle.spec_step.specs.Verdict.{exit_by, next_to}
 use Rattle.spec_step.proofs.Erring.{IsErrorGoing, error-may, error-pairs}
 use Rattle.spec_step.proofs.Sending.{near-mac}
+use Rattle.spec_step.proofs.Steady.{ServesNow, served-now, steady-same}
 use Rattle.spec_step.proofs.Telling.{Told, at_hand}
 
 -- the frame by which an error is passed on, and the side at which it is sent
@@ -40,9 +41,9 @@ is-passed g side bytes by next passes book synced going next_is =
     }
 
 pub passed-tells : (s : GatewayAndOutput) (side : Side) (bytes : List ℕ) (by : Translation) (next : Mac) → IsPassedOn (known_of s.shown) (MayGoBy s.shown []) (at_hand side bytes) by (passing s.shown bytes by next)
-    → is_own_frame s.shown.networks (exit_by by) (passed_frame s.shown.networks by next bytes) ≡ false → is_translation (exit_by by) (passed_frame s.shown.networks by next bytes) ≡ false → is_error_frame (passed_frame s.shown.networks by next bytes) ≡ true
+    → ServesNow s.shown.ledger.book by → is_own_frame s.shown.networks (exit_by by) (passed_frame s.shown.networks by next bytes) ≡ false → is_translation (exit_by by) (passed_frame s.shown.networks by next bytes) ≡ false → is_error_frame (passed_frame s.shown.networks by next bytes) ≡ true
     → Told (at_hand side bytes ∷ []) s (framed s (exit_by by) (passed_frame s.shown.networks by next bytes))
-passed-tells s side bytes by next passed own apart is =
+passed-tells s side bytes by next passed serves own apart is =
     let d : Sending = record { packet = at_hand side bytes; by = by; sent = passing s.shown bytes by next } in
     record {
       all = record {
@@ -54,9 +55,11 @@ passed-tells s side bytes by next passed own apart is =
         translated = rw (own, apart) refl;
         used = refl;
         each = tt;
+        served = tt;
         passed = d ∷ [];
         errors = rw (own, is) refl;
         each_error = (passed, tt);
+        served_errors = (served-now s (framed s (exit_by by) (passed_frame s.shown.networks by next bytes)) by refl serves, tt);
         own = [];
         own_are = rw own refl;
         each_own = tt;
@@ -66,6 +69,7 @@ passed-tells s side bytes by next passed own apart is =
         once = IsPermutation-refl (at_hand side bytes ∷ packets_of s.shown.kept);
       };
       roots = λ p t. inl t;
+      steady = steady-same s (framed s (exit_by by) (passed_frame s.shown.networks by next bytes)) [] (refl, (refl, refl));
       within = λ h. h;
       later = omega arith;
     }

@@ -54,7 +54,7 @@ use Rattle.spec_step.proofs.WhileApart.{all-sought-apart, apart-paired, idle-apa
 
 -- ---- notes that release nothing
 
-abbrev NoRelease : NoteKind → Type 0
+abbrev pub NoRelease : NoteKind → Type 0
 NoRelease (Used p) = Unit {0}
 NoRelease (Released p) = ⊥
 NoRelease (Retaken p) = Unit {0}
@@ -63,10 +63,10 @@ NoRelease Synced = Unit {0}
 NoRelease Crashed = Unit {0}
 NoRelease (Booted number) = Unit {0}
 
-abbrev NoReleases : List Note → Type 0
+abbrev pub NoReleases : List Note → Type 0
 NoReleases notes = AllByRecursion (λ (n : Note). NoRelease n.what) notes
 
-abbrev IsMute : Transition → Type 0
+abbrev pub IsMute : Transition → Type 0
 IsMute r = (i : GatewayId) (now : ℕ) → NoReleases (noted_by i now r.what)
 
 quiet-mute : IsMute quiet
@@ -150,16 +150,16 @@ mark-mute b full k = at (is_paired b.stage) (slot_of b.entries k)
 
 -- ---- parts that release nothing
 
-record Quiet (s s2 : GatewayAndOutput) : Type 0 where
-  notes : List Note
-  notes_are : s2.told.notes ≡ s.told.notes ++ notes
-  none : NoReleases notes
+pub record Quiet (s s2 : GatewayAndOutput) : Type 0 where
+  pub notes : List Note
+  pub notes_are : s2.told.notes ≡ s.told.notes ++ notes
+  pub none : NoReleases notes
 
 none-join : (ns ms : List Note) → NoReleases ns → NoReleases ms → NoReleases (ns ++ ms)
 none-join [] ms x y = y
 none-join (n ∷ ns) ms x y = (x.0, none-join ns ms x.1 y)
 
-quiet-then : (a b c : GatewayAndOutput) → Quiet a b → Quiet b c → Quiet a c
+pub quiet-then : (a b c : GatewayAndOutput) → Quiet a b → Quiet b c → Quiet a c
 quiet-then a b c x y = record {
   notes = x.notes ++ y.notes;
   notes_are = y.notes_are ∙ ap (λ (ns : List Note). ns ++ y.notes) x.notes_are ∙ append_assoc a.told.notes x.notes y.notes;
@@ -169,7 +169,7 @@ quiet-then a b c x y = record {
 unseen-quiet : (s s2 : GatewayAndOutput) → IsUnseen s s2 → Quiet s s2
 unseen-quiet s s2 u = record { notes = []; notes_are = u.notes ∙ sym (append-nil s.told.notes); none = tt }
 
-row-quiet : (s : GatewayAndOutput) (r : Transition) → IsMute r → Quiet s (by_row s r)
+pub row-quiet : (s : GatewayAndOutput) (r : Transition) → IsMute r → Quiet s (by_row s r)
 row-quiet s r mute = record { notes = noted_by (id_of s.shown) s.shown.moment r.what; notes_are = refl; none = mute (id_of s.shown) s.shown.moment }
 
 wanted-quiet : (s : GatewayAndOutput) (e : Endpoint) → Quiet s (wanted_by s e)
@@ -192,7 +192,7 @@ all-marked-quiet s (k ∷ ks) =
     (row-quiet s (alone_row s.shown.ledger.book true (is_full s.shown.link) k) (mark-mute s.shown.ledger.book (is_full s.shown.link) k))
     (all-marked-quiet (sought_done true s k) ks)
 
-gone-quiet : Reads → (s : GatewayAndOutput) → KeepsBytes s.shown → Quiet s (gone_alone s)
+pub gone-quiet : Reads → (s : GatewayAndOutput) → KeepsBytes s.shown → Quiet s (gone_alone s)
 gone-quiet reads s kept =
     let keys = sought_keys true s.shown.ledger.book.entries in
     let marked = all_sought_done true s keys in
@@ -282,7 +282,7 @@ all-alone : (l : Ledger) (ns : List Note) → NoReleases ns → AllByRecursion (
 all-alone l [] all = tt
 all-alone l (n ∷ ns) all = (any-alone l n.what all.0, all-alone l ns all.1)
 
-ticked-notes : (s : GatewayAndOutput) → ((link_ticked s).told.notes ≡ s.told.notes) × (is_apart (link_ticked s).shown ≡ is_apart s.shown)
+pub ticked-notes : (s : GatewayAndOutput) → ((link_ticked s).told.notes ≡ s.told.notes) × (is_apart (link_ticked s).shown ≡ is_apart s.shown)
 ticked-notes s = at (is_due_on_tick (handed_in s.shown).link s.shown.moment)
   where
     at : (b : Bool) → (let g = handed_in s.shown in let x : GatewayAndOutput = cond b (scene (record g { link = sent_on_tick g.link g.moment }) (with_datagram s.told (datagram_in g))) (scene g s.told) in (x.told.notes ≡ s.told.notes) × (is_apart x.shown ≡ is_apart s.shown))

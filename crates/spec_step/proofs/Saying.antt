@@ -14,7 +14,7 @@ use Rattle.spec_binding.specs.Books.{IsBook, is_synced}
 use Rattle.spec_binding.specs.Ledgers.{Ledger}
 use Rattle.spec_binding.specs.WellFormed.{IsWellFormedEndpoint}
 use Rattle.spec_binding.specs.Rows.{after, is_full, noted_by, wish_of}
-use Rattle.spec_binding.proofs.Offered.{wish-keeps}
+use Rattle.spec_binding.proofs.Offered.{wish-keeps, wish-moves-none}
 use Rattle.waiting.specs.declared.waits.Ended.{Ended}
 use Rattle.waiting.specs.declared.waits.WaitsFor.{WaitsFor}
 use Rattle.waiting.specs.declared.waits.WaitsFor.TheVariants as wait
@@ -51,11 +51,12 @@ use Rattle.spec_step.specs.Verdict.{error_hop, error_plan, exit_by, hop_back, ho
 use Rattle.spec_step.proofs.Packets.{PlanFits, kept-filter, kept-more, plan-fits, source-formed}
 use Rattle.spec_step.proofs.Own.{complaint_scene, echo-leaves, exit_in, refusal-leaves, refused-leaves, said-beside, said_scene}
 use Rattle.spec_step.proofs.Passing.{IsSound}
-use Rattle.spec_step.proofs.Sending.{AllTranslate, Frames, answer-is, answer-own, carried-leaves, complaint-is, complaint-own, found-translate, is-sent, next-six, own-six, request-other, sending-tells}
+use Rattle.spec_step.proofs.Sending.{AllTranslate, Frames, answer-is, answer-own, carried-leaves, complaint-is, complaint-own, found-serve, found-translate, is-sent, next-six, own-six, request-other, sending-tells}
 use Rattle.spec_step.proofs.Sends.{plan-sends}
+use Rattle.spec_step.proofs.Steady.{RowStays, ServesNow, row-steady, served-from, steady-same}
 use Rattle.spec_step.proofs.Takings.{IsUseless, keeping-tells, wanted-for-known, wish-useless}
 use Rattle.spec_step.proofs.Telling.{Told, at_hand, framed-tells, own-tells, split-kept, tells-nothing, tells-quietly, tells-then, tells-unseen}
-use Rattle.spec_step.proofs.Erring.{ErrorSays, IsErrorGoing, error-says}
+use Rattle.spec_step.proofs.Erring.{ErrorSays, IsErrorGoing, error-says, error-serves}
 use Rattle.spec_step.proofs.Passed.{is-passed, passed-tells}
 use Rattle.spec_step.proofs.Rooting.{RowRoots, wish-roots}
 use Rattle.std.proofs.lemmas.List.Sorted.{IsPermutation-sym, IsPermutation-trans, IsPermutation-refl}
@@ -96,10 +97,11 @@ pub saying-nothing : (s : GatewayAndOutput) (hand : List AtHand) → Saying hand
 saying-nothing s hand = λ is w. (record { tells = tells-nothing s hand; sound = is; wired = w }, refl)
 
 -- a row that uses no pair
-pub row-says : (s : GatewayAndOutput) (row : Transition) → IsUseless row → RowRoots s.shown.ledger.book row → (IsBook s.shown.ledger.book → IsBook (after s.shown.ledger.book row)) → Saying [] s (by_row s row)
-row-says s row useless roots keeps = λ is w. (
+pub row-says : (s : GatewayAndOutput) (row : Transition) → IsUseless row → RowRoots s.shown.ledger.book row → (IsBook s.shown.ledger.book → IsBook (after s.shown.ledger.book row)) → (IsBook s.shown.ledger.book → RowStays s.shown.ledger.book row) → Saying [] s (by_row s row)
+row-says s row useless roots keeps stays = λ is w. (
   record {
-    tells = tells-quietly s (by_row s row) (noted_by (id_of s.shown) s.shown.moment row.what) refl refl (useless (id_of s.shown) s.shown.moment) refl (roots (id_of s.shown) s.shown.moment) (refl, (refl, omega arith));
+    tells = tells-quietly s (by_row s row) (noted_by (id_of s.shown) s.shown.moment row.what) refl refl (useless (id_of s.shown) s.shown.moment) refl (roots (id_of s.shown) s.shown.moment)
+        (row-steady s row (stays is.book)) (refl, (refl, omega arith));
     sound = record { book = keeps is.book; kept = is.kept };
     wired = w;
   },
@@ -112,6 +114,7 @@ wanted-says s e formed =
     let apart = is_apart s.shown in
     let full = is_full s.shown.link in
     row-says s (wish_of b apart full e).row (wish-useless b apart full e) (wish-roots b apart full e) (λ is. wish-keeps b apart full e is formed)
+    (λ is x p p_is. inl (wish-moves-none b apart full e x p is formed p_is))
 
 wanted-for-says : (s : GatewayAndOutput) (flow : Flow) (by : Translation) → IsWellFormedEndpoint (source_of flow) → Saying [] s (wanted_for s flow by)
 wanted-for-says s flow (Outward p) formed = wanted-says s (source_of flow) formed
@@ -163,11 +166,11 @@ renewed-says frames s exit hop = at exit (asks_at hop.0 s.shown.moment (station_
     -- nothing false is told where only the neighbours change
     asked : (side : Side) → Saying [] s (scene (neighbour_asked s.shown side hop) s.told)
     asked Inside = λ is w. (
-      record { tells = tells-unseen s _ refl refl refl refl (refl, (refl, omega arith)); sound = record { book = is.book; kept = is.kept }; wired = wired Inside w },
+      record { tells = tells-unseen s _ refl refl (refl, (refl, refl)) refl (refl, (refl, omega arith)); sound = record { book = is.book; kept = is.kept }; wired = wired Inside w },
       known Inside,
     )
     asked Outside = λ is w. (
-      record { tells = tells-unseen s _ refl refl refl refl (refl, (refl, omega arith)); sound = record { book = is.book; kept = is.kept }; wired = wired Outside w },
+      record { tells = tells-unseen s _ refl refl (refl, (refl, refl)) refl (refl, (refl, omega arith)); sound = record { book = is.book; kept = is.kept }; wired = wired Outside w },
       known Outside,
     )
 
@@ -203,9 +206,11 @@ again-says frames s exit hop = at (asks_again s.shown.moment (wait.Hop exit hop)
             translated = refl;
             used = refl;
             each = tt;
+            served = tt;
             passed = [];
             errors = refl;
             each_error = tt;
+            served_errors = tt;
             own = [];
             own_are = refl;
             each_own = tt;
@@ -215,6 +220,7 @@ again-says frames s exit hop = at (asks_again s.shown.moment (wait.Hop exit hop)
             once = subst (λ (ps : List AtHand). IsPermutation (packets_of s.shown.kept) ps) (sym same) (IsPermutation-refl (packets_of s.shown.kept));
           };
           roots = λ p t. inl t;
+          steady = steady-same s mid [] (refl, (refl, refl));
           within = λ h. h;
           later = omega arith;
         };
@@ -249,7 +255,8 @@ sending-says frames s one side bytes by next read plan at book wired = λ is w.
             (subst (λ (k : Known). is_own_frame k.networks (exit_by by) frame ≡ false) (sym same)
             (frames.own.sent s.shown.networks side by next bytes wired.0.0 wired.0.1.placed (next-six s.shown flow by next wired planned.next_is) read.passes read.of_side read.are planned.way))
             (frames.sent s.shown.networks side by next bytes wired.0.0 (next-six s.shown flow by next wired planned.next_is) read.passes read.of_side planned.way)
-            (subst (λ (x : GatewayAndOutput). AllTranslate x.shown.ledger.book by) (sym at) found.0);
+            (subst (λ (x : GatewayAndOutput). AllTranslate x.shown.ledger.book by) (sym at) found.0)
+            (subst (λ (x : GatewayAndOutput). ServesNow x.shown.ledger.book by) (sym at) (found-serve s flow by book (read-from s side bytes flow read) read.synced planned.pairs));
         sound = record {
           book = subst IsBook (sym c.book) is.book;
           kept = subst (λ (ws : List HeldPacket). AllByRecursion (λ (x : HeldPacket). AreBytes x.bytes) ws) (sym c.kept) is.kept;
@@ -393,6 +400,7 @@ passed-says frames s side bytes by next read goes next_is = λ is w. (
   record {
     tells = passed-tells s side bytes by next
         (is-passed s.shown side bytes by next read.passes is.book read.synced goes next_is)
+        (error-serves s.shown (error_flow_in bytes) by read.synced goes.pairs)
         (frames.own.passed s.shown.networks side by next bytes w.0.0 w.0.1.placed (six w) read.passes read.are goes.way)
         (frames.passed_apart s.shown.networks (exit_by by) by next bytes w.0.0 (six w) read.passes)
         (frames.passed s.shown.networks by next bytes w.0.0 (six w) read.passes);
@@ -492,9 +500,11 @@ module _ (frames : Frames) (s : GatewayAndOutput) (ended : Ended) where
       translated = x.all.translated;
       used = x.all.used;
       each = x.all.each;
+      served = served-from s start (released s ended) x.all.done refl refl x.all.served;
       passed = x.all.passed;
       errors = x.all.errors;
       each_error = x.all.each_error;
+      served_errors = served-from s start (released s ended) x.all.passed refl refl x.all.served_errors;
       own = x.all.own;
       own_are = x.all.own_are;
       each_own = x.all.each_own;
@@ -504,6 +514,7 @@ module _ (frames : Frames) (s : GatewayAndOutput) (ended : Ended) where
       once = IsPermutation-trans _ _ _ (IsPermutation-sym _ _ (split-kept ended s.shown.kept)) x.all.once;
     };
     roots = x.roots;
+    steady = record { id = x.steady.id; synced = x.steady.synced; stays = x.steady.stays };
     within = x.within;
     later = x.later;
   }

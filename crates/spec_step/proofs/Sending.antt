@@ -17,7 +17,10 @@ use Rattle.arp.proofs.Offered.{mac-forgetful, near-six}
 use Rattle.frames.specs.Frame.{frame_of}
 use Rattle.ipv4.specs.declared.flows.Flow.{Flow}
 use Rattle.spec_binding.specs.Books.{Book, IsBook, is_synced}
-use Rattle.spec_binding.specs.Rows.{carry_row, is_full, noted_by}
+use Rattle.spec_binding.specs.Rows.{carry_row, is_full, noted_by, wish_of}
+use Rattle.spec_binding.specs.Serving.{serving}
+use Rattle.spec_binding.specs.WellFormed.{IsWellFormedEndpoint}
+use Rattle.spec_binding.proofs.Offered.{change-leaves}
 use Rattle.waiting.specs.Packets.{HeldPacket}
 use Rattle.packet_rules.specs.declared.complaints.Complaint.{Complaint}
 use Rattle.packet_rules.specs.declared.networks.Network.{Network}
@@ -53,8 +56,9 @@ use Rattle.spec_step.proofs.FrameKinds.{other-by, sent-no_error}
 use Rattle.spec_step.proofs.Packets.{Reads}
 use Rattle.spec_step.proofs.Rooting.{same-rooted}
 use Rattle.spec_step.proofs.Sends.{AreFound, IsOwn, IsPlanned}
+use Rattle.spec_step.proofs.Steady.{ServesNow, served-now, steady-same}
 use Rattle.spec_step.proofs.Telling.{SameSaid, Told, at_hand, within-by}
-use Rattle.spec_step.proofs.Translating.{Translates, carry-note, target-translates, wish-owns, wish-still}
+use Rattle.spec_step.proofs.Translating.{Translates, carry-note, target-translates, wish-owns, wish-serves, wish-still}
 
 -- the contract by which a tally stays within its limits
 pub record Limited : Type 0 where
@@ -153,6 +157,24 @@ found-translate s flow (Hairpin own other) is synced found =
       (first.0, wish-still s.shown.ledger.book (is_apart s.shown) (is_full s.shown.link) (source_of flow) is other second.0),
       (first.1, second.1),
     )
+
+-- the pair that the source has, or gets, is its endpoint's pair afterwards
+source-serves : (s : GatewayAndOutput) (flow : Flow) (p : Pair) → IsBook s.shown.ledger.book → IsWellFormedEndpoint (source_of flow) → is_synced s.shown.ledger.book.stage ≡ true → IsOwn s.shown flow p
+    → ServesNow (wanted_for s flow (Outward p)).shown.ledger.book (Outward p)
+source-serves s flow p is formed synced own =
+    let b = s.shown.ledger.book in
+    let apart = is_apart s.shown in
+    let full = is_full s.shown.link in (
+      ap is_synced (change-leaves b (wish_of b apart full (source_of flow)).row.change).stage ∙ synced,
+      subst (λ (q : Pair). serving (wanted_for s flow (Outward p)).shown.ledger.book q.endpoint ≡ Some q) (sym own.1.1)
+          (wish-serves b apart full (source_of flow) is formed own.0 own.1.0),
+    )
+
+pub found-serve : (s : GatewayAndOutput) (flow : Flow) (by : Translation) → IsBook s.shown.ledger.book → IsWellFormedEndpoint (source_of flow) → is_synced s.shown.ledger.book.stage ≡ true → AreFound s.shown flow by
+    → ServesNow (wanted_for s flow by).shown.ledger.book by
+found-serve s flow (Outward p) is formed synced found = source-serves s flow p is formed synced found
+found-serve s flow (Inward p) is formed synced found = tt
+found-serve s flow (Hairpin own other) is formed synced found = source-serves s flow own is formed synced found.0
 
 -- ---- the notes of the pairs
 
@@ -294,8 +316,8 @@ complaint-own frames g side bytes complaint next are w there =
 -- what is told of a packet that is sent is true: its frame, and the notes of its pairs
 pub sending-tells : (s : GatewayAndOutput) (side : Side) (bytes : List ℕ) (flow : Flow) (flags : TcpFlags) (by : Translation) (frame : List ℕ)
     → IsSentBy (known_of s.shown) (at_hand side bytes) by (let x : Sent = record { side = exit_by by; bytes = frame } in x) → is_own_frame s.shown.networks (exit_by by) frame ≡ false → is_translation (exit_by by) frame ≡ true → AllTranslate s.shown.ledger.book by
-    → Told (at_hand side bytes ∷ []) s (carried_all (framed s (exit_by by) frame) flow flags by)
-sending-tells s side bytes flow flags by frame sent own is all =
+    → ServesNow s.shown.ledger.book by → Told (at_hand side bytes ∷ []) s (carried_all (framed s (exit_by by) frame) flow flags by)
+sending-tells s side bytes flow flags by frame sent own is all serves =
     let two = carried_all (framed s (exit_by by) frame) flow flags by in
     let c = carried-leaves (framed s (exit_by by) frame) flow flags by in
     let x : Sent = record { side = exit_by by; bytes = frame } in
@@ -312,9 +334,11 @@ sending-tells s side bytes flow flags by frame sent own is all =
         translated = subst (λ (n : Networks). translated_frames n (x ∷ []) ≡ x ∷ []) (sym nets) (rw (own, is) refl);
         used = all-used s.shown by all ∙ sym (append-nil (pairs_of by));
         each = (subst (λ (k : Known). IsSentBy k (at_hand side bytes) by x) (sym c.known) sent, tt);
+        served = (served-now s two by c.book serves, tt);
         passed = [];
         errors = subst (λ (n : Networks). error_frames n (x ∷ []) ≡ []) (sym nets) (rw (own, none) refl);
         each_error = tt;
+        served_errors = tt;
         own = [];
         own_are = subst (λ (n : Networks). own_frames n (x ∷ []) ≡ []) (sym nets) (rw own refl);
         each_own = tt;
@@ -324,6 +348,7 @@ sending-tells s side bytes flow flags by frame sent own is all =
         once = subst (λ (ws : List HeldPacket). IsPermutation (at_hand side bytes ∷ packets_of s.shown.kept) (at_hand side bytes ∷ packets_of ws)) (sym c.kept) (IsPermutation-refl (at_hand side bytes ∷ packets_of s.shown.kept));
       };
       roots = same-rooted s.shown.ledger.book.entries two.shown.ledger.book.entries (retaken_pairs (all_notes s.shown by)) (ap (λ (b : Book). b.entries) c.book);
+      steady = steady-same s two (all_notes s.shown by) (ap (λ (b : Book). b.entries) c.book, (ap (λ (b : Book). b.stage) c.book, ap (λ (b : Book). b.id) c.book));
       within = within-by s.shown two.shown c.said;
       later = c.said.1.1;
     }

@@ -22,7 +22,7 @@ use Rattle.link.specs.Link.{Link, after_take, is_due_on_tick, is_restart, is_tim
 use Rattle.link.specs.Reading.{reading}
 use Rattle.spec_binding.specs.declared.changes.Transition.{Transition}
 use Rattle.spec_binding.specs.Books.{Book, empty_book, is_lone, is_synced}
-use Rattle.spec_binding.specs.Ledgers.{alone_ledger, may_ask, restarted_ledger, rests_for, taken_ledger, sought_keys}
+use Rattle.spec_binding.specs.Ledgers.{lone_ledger, may_ask, restarted_ledger, rests_for, taken_ledger, sought_keys}
 use Rattle.spec_binding.specs.Resets.{begun_anew, restarted}
 use Rattle.spec_binding.specs.Rows.{after, answered, idle_row, is_full, row_of, taken_answer, taken_book, taken_ended, unsynced_after, wish_of, alone_row}
 use Rattle.spec_binding.proofs.Offered.{change-leaves}
@@ -429,7 +429,7 @@ datagram-calms s (Err fault) = nothing-calms s
 word-calms : (s : GatewayAndOutput) (n : ℕ) (o : Option Reason) → word_refusal s.shown n ≡ o → Calming s (word_by s n o)
 word-calms s n None taken = λ is.
     let g = s.shown in
-    let mid : Shown = record g { ledger = alone_ledger g.moment g.ledger; link = _ } in
+    let mid : Shown = record g { ledger = lone_ledger g.moment g.ledger; link = _ } in
     let synced : is_synced g.ledger.book.stage ≡ true = at (is_synced g.ledger.book.stage) _ taken in
     released-calms (scene mid _) AllPairs
     (calm-by g mid (ap (λ (x : Bool). (x && not g.stopped) && not g.away) (sym synced)) refl refl (λ k. k) is)

@@ -17,7 +17,7 @@ use Rattle.link.specs.declared.datagrams.Datagram.{Datagram}
 use Rattle.link.specs.declared.faults.LinkFault.{LinkFault}
 use Rattle.link.specs.Link.{after_take, closed_at, is_due_on_tick, is_restart, records_taken, refusal, sent_on_tick}
 use Rattle.spec_binding.specs.declared.changes.Transition.{Transition}
-use Rattle.spec_binding.specs.Ledgers.{alone_ledger, restarted_ledger, rests_for, taken_ledger, sought_keys}
+use Rattle.spec_binding.specs.Ledgers.{lone_ledger, restarted_ledger, rests_for, taken_ledger, sought_keys}
 use Rattle.spec_binding.specs.Resets.{back_in, restart_link, restart_notes, retaken}
 use Rattle.spec_binding.specs.Rows.{answered, is_full, taken_answer, taken_ended, wish_of, alone_row}
 use Rattle.waiting.specs.declared.waits.Ended.{Ended}
@@ -303,7 +303,7 @@ datagram-stands s (Err fault) = nothing-moves s
 pub word-stands : (s : GatewayAndOutput) (n : ℕ) (o : Option Reason) → Stands s (word_by s n o)
 word-stands s n None =
     let g = s.shown in
-    let mid = scene (record g { ledger = alone_ledger g.moment g.ledger; link = closed_at g.link n }) (with_notes s.told (retaken (id_of g) g.moment (back_in g.ledger.book.entries))) in
+    let mid = scene (record g { ledger = lone_ledger g.moment g.ledger; link = closed_at g.link n }) (with_notes s.told (retaken (id_of g) g.moment (back_in g.ledger.book.entries))) in
     stands-then s mid (word_by s n None) (stands-by s mid refl refl refl refl) (released-stands mid AllPairs)
 word-stands s n (Some reason) = nothing-moves s
 

@@ -11,7 +11,7 @@ use Rattle.packet_rules.specs.declared.reasons.Reason.{Reason}
 use Rattle.vrrp_states.specs.Table as table
 use Rattle.spec_step.specs.declared.events.Event.{Event}
 use Rattle.spec_step.specs.declared.events.Event.TheVariants.{Frame, Datagram as Comes, Tick, Stop, PeerOff, Side as SideIs}
-use Rattle.spec_step.specs.Machine.{AreBytes, Goes, HasBytes, HasPushed, IsAlone, IsStanding, KeepsBytes, letter_in, letters_in, words_in}
+use Rattle.spec_step.specs.Machine.{AreBytes, Goes, HasBytes, HasPushed, IsLoneRightly, IsStanding, KeepsBytes, letter_in, letters_in, words_in}
 use Rattle.spec_step.specs.Parts.{idle_taken, old_dropped, alone_taken}
 use Rattle.spec_step.specs.Shown.{GatewayAndOutput}
 use Rattle.spec_step.specs.Steps.{Does, FrameDoes, IsStepOn, ended_on, stopped, ticked, word_refusal}
@@ -40,7 +40,7 @@ begun_on s Stop = s
 begun_on s (PeerOff n) = s
 begun_on s (SideIs side up) = s
 
-pub does-arrives : Reads → (s : GatewayAndOutput) (event : Event) (done : GatewayAndOutput) (h : List Record) → Does s event done → HasBytes event → HasPushed s.shown h → IsSound s.shown → IsAlone s.shown → Arrives (letters_in event) (words_in event) (begun_on s event) done h
+pub does-arrives : Reads → (s : GatewayAndOutput) (event : Event) (done : GatewayAndOutput) (h : List Record) → Does s event done → HasBytes event → HasPushed s.shown h → IsSound s.shown → IsLoneRightly s.shown → Arrives (letters_in event) (words_in event) (begun_on s event) done h
 does-arrives reads s (Frame side bytes) done h does has stands is alone =
     arrives-by [] [] s done h (frame-goes reads s side bytes.now (arrival_on s.shown side bytes.now) done refl has does) stands is alone
 does-arrives reads s (Comes bytes) done h does has stands is alone =
@@ -90,26 +90,26 @@ ended-goes s Stop done h a = answered-goes [] [] s h done a
 ended-goes s (PeerOff n) done h a = answered-goes [] (n ∷ []) s h done a
 ended-goes s (SideIs side up) done h a = ended-still [] [] s h done a
 
-ended-keeps : (s : GatewayAndOutput) (event : Event) (done : GatewayAndOutput) (h : List Record) → Arrives (letters_in event) (words_in event) (begun_on s event) done h → IsSound (ended_on event done).shown × IsAlone (ended_on event done).shown
+ended-keeps : (s : GatewayAndOutput) (event : Event) (done : GatewayAndOutput) (h : List Record) → Arrives (letters_in event) (words_in event) (begun_on s event) done h → IsSound (ended_on event done).shown × IsLoneRightly (ended_on event done).shown
 ended-keeps s (Frame side bytes) done h a = answered-keeps [] [] s h done a
 ended-keeps s (Comes bytes) done h a = answered-keeps (letter_in (reading bytes.now)) [] s h done a
 ended-keeps s (Tick now) done h a = ticked-keeps [] [] (ticked s now) h done a
 ended-keeps s Stop done h a = answered-keeps [] [] s h done a
 ended-keeps s (PeerOff n) done h a = answered-keeps [] (n ∷ []) s h done a
-ended-keeps s (SideIs side up) done h a = (a.passes.sound, a.alone)
+ended-keeps s (SideIs side up) done h a = (a.passes.sound, a.lone)
 
-pub step-goes : Reads → (s : GatewayAndOutput) (event : Event) (s2 : GatewayAndOutput) (h : List Record) → IsStepOn s event s2 → HasBytes event → IsBook s.shown.ledger.book → IsAlone s.shown → KeepsBytes s.shown → HasPushed s.shown h → Goes (letters_in event) (words_in event) s s2 h
+pub step-goes : Reads → (s : GatewayAndOutput) (event : Event) (s2 : GatewayAndOutput) (h : List Record) → IsStepOn s event s2 → HasBytes event → IsBook s.shown.ledger.book → IsLoneRightly s.shown → KeepsBytes s.shown → HasPushed s.shown h → Goes (letters_in event) (words_in event) s s2 h
 step-goes reads s event s2 h step has book alone kept pushed =
     let a = does-arrives reads s event step.done h step.does has pushed (record { book = book; kept = kept }) alone in
     subst (λ (x : GatewayAndOutput). Goes (letters_in event) (words_in event) s x h) (sym step.sends) (ended-goes s event step.done h a)
 
-pub step-keeps : Reads → (s : GatewayAndOutput) (event : Event) (s2 : GatewayAndOutput) (h : List Record) → IsStepOn s event s2 → HasBytes event → IsBook s.shown.ledger.book → IsAlone s.shown → KeepsBytes s.shown → HasPushed s.shown h → IsBook s2.shown.ledger.book × (IsAlone s2.shown × KeepsBytes s2.shown)
+pub step-keeps : Reads → (s : GatewayAndOutput) (event : Event) (s2 : GatewayAndOutput) (h : List Record) → IsStepOn s event s2 → HasBytes event → IsBook s.shown.ledger.book → IsLoneRightly s.shown → KeepsBytes s.shown → HasPushed s.shown h → IsBook s2.shown.ledger.book × (IsLoneRightly s2.shown × KeepsBytes s2.shown)
 step-keeps reads s event s2 h step has book alone kept pushed =
     let a = does-arrives reads s event step.done h step.does has pushed (record { book = book; kept = kept }) alone in
     let k = ended-keeps s event step.done h a in
-    subst (λ (x : GatewayAndOutput). IsBook x.shown.ledger.book × (IsAlone x.shown × KeepsBytes x.shown)) (sym step.sends) (k.0.book, (k.1, k.0.kept))
+    subst (λ (x : GatewayAndOutput). IsBook x.shown.ledger.book × (IsLoneRightly x.shown × KeepsBytes x.shown)) (sym step.sends) (k.0.book, (k.1, k.0.kept))
 
-pub parts-stand : Reads → (s : GatewayAndOutput) (event : Event) (done : GatewayAndOutput) (h : List Record) → Does s event done → HasBytes event → IsBook s.shown.ledger.book → IsAlone s.shown → KeepsBytes s.shown → HasPushed s.shown h → (h2 : List Record) × IsStanding done.shown h2
+pub parts-stand : Reads → (s : GatewayAndOutput) (event : Event) (done : GatewayAndOutput) (h : List Record) → Does s event done → HasBytes event → IsBook s.shown.ledger.book → IsLoneRightly s.shown → KeepsBytes s.shown → HasPushed s.shown h → (h2 : List Record) × IsStanding done.shown h2
 parts-stand reads s event done h does has book alone kept pushed =
     let a = does-arrives reads s event done h does has pushed (record { book = book; kept = kept }) alone in
-    (a.passes.works.history, record { book = a.passes.sound.book; alone = a.alone; kept = a.passes.sound.kept; pushed = a.passes.works.agrees })
+    (a.passes.works.history, record { book = a.passes.sound.book; lone = a.lone; kept = a.passes.sound.kept; pushed = a.passes.works.agrees })

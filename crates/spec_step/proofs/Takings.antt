@@ -30,6 +30,7 @@ use Rattle.packet_rules.specs.declared.translations.Translation.TheVariants.{Out
 use Rattle.spec_step.specs.Parts.{keeping, waiting, wanted_for}
 use Rattle.spec_step.specs.Shown.{GatewayAndOutput}
 use Rattle.spec_step.specs.Truly.{known_of, packets_of, used_pairs}
+use Rattle.spec_step.proofs.Steady.{steady-same}
 use Rattle.spec_step.proofs.Telling.{Told, at_hand, swap-front}
 
 -- ---- what decides where packets go
@@ -125,9 +126,11 @@ keeping-tells s side bytes w =
         translated = refl;
         used = refl;
         each = tt;
+        served = tt;
         passed = [];
         errors = refl;
         each_error = tt;
+        served_errors = tt;
         own = [];
         own_are = refl;
         each_own = tt;
@@ -140,6 +143,7 @@ keeping-tells s side bytes w =
             (IsPermutation-append_right (packets_of made.lost) _ _ (IsPermutation-append_comm (at_hand side bytes ∷ []) (packets_of (with_room w s.shown.kept))))));
       };
       roots = λ p t. inl t;
+      steady = steady-same s (keeping s side bytes w) [] (refl, (refl, refl));
       within = λ h. h;
       later = omega arith;
     }

@@ -26,14 +26,16 @@ use Rattle.spec_step.specs.OwnAnswers.{AreWithin, IsOwnOf, OwnFrame, Purpose, co
 use Rattle.spec_step.specs.Parts.{framed, old_dropped}
 use Rattle.spec_step.specs.PassedOn.{ArePassedOn, IsPassedOn, TellsAll, error_frames}
 use Rattle.spec_step.specs.Shown.{GatewayAndOutput, Shown, scene, station_on, with_station}
-use Rattle.spec_step.specs.Truly.{AreSent, AtHand, Known, Sending, Tells, is_own, known_of, packets_of, translated_frames, used_in, used_pairs}
+use Rattle.spec_step.specs.Truly.{AreSent, AreServed, AtHand, Known, Sending, Tells, is_own, known_of, packets_of, translated_frames, used_in, used_pairs}
 use Rattle.spec_step.proofs.FrameKinds.{other-none}
 use Rattle.spec_step.proofs.Rooting.{has-more, has-then, same-rooted}
+use Rattle.spec_step.proofs.Steady.{SameTable, Steady, served-append, served-more, serves-first, serves-second, steady-same, steady-then}
 
--- what is told of a part, and the pairs by which the gateway translates after it
+-- what is told of a part, the pairs by which the gateway translates after it, and that endpoints keep their pairs
 pub record Told (hand : List AtHand) (s s2 : GatewayAndOutput) : Type 0 where
   pub all : TellsAll hand s s2
   pub roots : (p : Pair) → IsTranslated s2.shown.ledger.book.entries p → MayGoBy s.shown all.notes p
+  pub steady : Steady s s2 all.notes
   pub within : AreWithin s.shown → AreWithin s2.shown
   pub later : s.shown.moment ≤ s2.shown.moment
 
@@ -139,9 +141,11 @@ tells-nothing s hand = record {
     translated = refl;
     used = refl;
     each = tt;
+    served = tt;
     passed = [];
     errors = refl;
     each_error = tt;
+    served_errors = tt;
     own = [];
     own_are = refl;
     each_own = tt;
@@ -151,6 +155,7 @@ tells-nothing s hand = record {
     once = IsPermutation-refl (hand ++ packets_of s.shown.kept);
   };
   roots = λ p t. inl t;
+  steady = steady-same s s [] (refl, (refl, refl));
   within = λ h. h;
   later = omega arith;
 }
@@ -221,6 +226,12 @@ module _ (h h2 : List AtHand) (a b c : GatewayAndOutput) (same : known_of c.show
       ∙ ap (tallied c.shown.moment side y.all.own) (one ∙ ap (λ (n : ℕ). tallied n side x.all.own ta) (sym moment))
       ∙ sym (tallied-append c.shown.moment side x.all.own y.all.own ta)
 
+  both-served : (ds es : List Sending) → AreServed a ds b → AreServed b es c → AreServed a (ds ++ es) c
+  both-served ds es first second =
+      served-append a c ds es
+      (served-more a b a c (serves-first a b c x.all.notes y.all.notes x.steady y.steady moment x.all.notes_are y.all.notes_are) ds first)
+      (served-more b c a c (serves-second a b c x.all.notes y.all.notes x.steady y.steady moment x.all.notes_are y.all.notes_are) es second)
+
   -- what is told of two parts, one after the other, is true of both together
   pub tells-then : Told (h ++ h2) a c
   tells-then = record {
@@ -233,9 +244,11 @@ module _ (h h2 : List AtHand) (a b c : GatewayAndOutput) (same : known_of c.show
       translated = both-translated;
       used = flat_map-append (λ (n : Note). used_in n.what) x.all.notes y.all.notes ∙ ap (λ ps. ps ++ used_pairs y.all.notes) x.all.used ∙ ap (λ ps. flat_map (λ (t : Sending). pairs_of t.by) x.all.done ++ ps) y.all.used ∙ sym (flat_map-append (λ (t : Sending). pairs_of t.by) x.all.done y.all.done);
       each = each-append (known_of c.shown) x.all.done y.all.done (subst (λ k. AreSent k x.all.done) (sym same) x.all.each) y.all.each;
+      served = both-served x.all.done y.all.done x.all.served y.all.served;
       passed = x.all.passed ++ y.all.passed;
       errors = both-errors;
       each_error = both-passed;
+      served_errors = both-served x.all.passed y.all.passed x.all.served_errors y.all.served_errors;
       own = x.all.own ++ y.all.own;
       own_are = both-own;
       each_own = own-append (known_of c.shown) x.all.own y.all.own (subst (λ k. AllByRecursion (IsOwnOf k) x.all.own) (sym same) x.all.each_own) y.all.each_own;
@@ -245,14 +258,15 @@ module _ (h h2 : List AtHand) (a b c : GatewayAndOutput) (same : known_of c.show
       once = both-once;
     };
     roots = λ p t. has-then a.shown b.shown x.all.notes y.all.notes x.roots p (y.roots p t);
+    steady = steady-then a b c x.all.notes y.all.notes x.steady y.steady moment;
     within = λ h. y.within (x.within h);
     later = omega (arith, x.later, y.later);
   }
 
 -- nothing false is told of a part that makes only these notes, which name no use, and leaves the packets that wait
 pub tells-quietly : (s s2 : GatewayAndOutput) (notes : List Note) → s2.told.frames ≡ s.told.frames → s2.told.notes ≡ s.told.notes ++ notes → used_pairs notes ≡ [] → s2.shown.kept ≡ s.shown.kept
-    → ((p : Pair) → IsTranslated s2.shown.ledger.book.entries p → MayGoBy s.shown notes p) → SameSaid s.shown s2.shown → Told [] s s2
-tells-quietly s s2 notes frames noted none kept roots said = record {
+    → ((p : Pair) → IsTranslated s2.shown.ledger.book.entries p → MayGoBy s.shown notes p) → Steady s s2 notes → SameSaid s.shown s2.shown → Told [] s s2
+tells-quietly s s2 notes frames noted none kept roots steady said = record {
   all = record {
     frames = [];
     frames_are = frames ∙ sym (append-nil s.told.frames);
@@ -262,9 +276,11 @@ tells-quietly s s2 notes frames noted none kept roots said = record {
     translated = refl;
     used = none;
     each = tt;
+    served = tt;
     passed = [];
     errors = refl;
     each_error = tt;
+    served_errors = tt;
     own = [];
     own_are = refl;
     each_own = tt;
@@ -274,14 +290,16 @@ tells-quietly s s2 notes frames noted none kept roots said = record {
     once = subst (λ (ws : List HeldPacket). IsPermutation (packets_of s.shown.kept) (packets_of ws)) (sym kept) (IsPermutation-refl (packets_of s.shown.kept));
   };
   roots = roots;
+  steady = steady;
   within = within-by s.shown s2.shown said;
   later = said.1.1;
 }
 
 -- nothing false is told of a part that sends and notes nothing, and leaves the table
-pub tells-unseen : (s s2 : GatewayAndOutput) → s2.told.frames ≡ s.told.frames → s2.told.notes ≡ s.told.notes → s2.shown.ledger.book.entries ≡ s.shown.ledger.book.entries → s2.shown.kept ≡ s.shown.kept → SameSaid s.shown s2.shown → Told [] s s2
-tells-unseen s s2 frames notes entries kept said =
-    tells-quietly s s2 [] frames (notes ∙ sym (append-nil s.told.notes)) refl kept (same-rooted s.shown.ledger.book.entries s2.shown.ledger.book.entries [] entries) said
+pub tells-unseen : (s s2 : GatewayAndOutput) → s2.told.frames ≡ s.told.frames → s2.told.notes ≡ s.told.notes → SameTable s.shown s2.shown → s2.shown.kept ≡ s.shown.kept → SameSaid s.shown s2.shown → Told [] s s2
+tells-unseen s s2 frames notes same kept said =
+    tells-quietly s s2 [] frames (notes ∙ sym (append-nil s.told.notes)) refl kept (same-rooted s.shown.ledger.book.entries s2.shown.ledger.book.entries [] same.0)
+    (steady-same s s2 [] same) said
 
 -- nothing false is told where a frame of another kind is sent
 pub framed-tells : (s : GatewayAndOutput) (side : Side) (bytes : List ℕ) → is_other s.shown.networks side bytes ≡ true → Told [] s (framed s side bytes)
@@ -297,9 +315,11 @@ framed-tells s side bytes other =
         translated = rw (none.0, none.1.0) refl;
         used = refl;
         each = tt;
+        served = tt;
         passed = [];
         errors = rw (none.0, none.1.1) refl;
         each_error = tt;
+        served_errors = tt;
         own = [];
         own_are = rw none.0 refl;
         each_own = tt;
@@ -309,6 +329,7 @@ framed-tells s side bytes other =
         once = IsPermutation-refl (packets_of s.shown.kept);
       };
       roots = λ p t. inl t;
+      steady = steady-same s (framed s side bytes) [] (refl, (refl, refl));
       within = λ h. h;
       later = omega arith;
     }
@@ -337,9 +358,11 @@ own-tells s Inside bytes purpose frame own is within =
         translated = rw own refl;
         used = refl;
         each = tt;
+        served = tt;
         passed = [];
         errors = rw own refl;
         each_error = tt;
+        served_errors = tt;
         own = o ∷ [];
         own_are = rw own refl;
         each_own = (is, tt);
@@ -349,6 +372,7 @@ own-tells s Inside bytes purpose frame own is within =
         once = IsPermutation-refl (o.packet ∷ packets_of s.shown.kept);
       };
       roots = λ p t. inl t;
+      steady = steady-same s (own_scene s o) [] (refl, (refl, refl));
       within = λ h. (within h.0, h.1);
       later = omega arith;
     }
@@ -365,9 +389,11 @@ own-tells s Outside bytes purpose frame own is within =
         translated = rw own refl;
         used = refl;
         each = tt;
+        served = tt;
         passed = [];
         errors = rw own refl;
         each_error = tt;
+        served_errors = tt;
         own = o ∷ [];
         own_are = rw own refl;
         each_own = (is, tt);
@@ -377,6 +403,7 @@ own-tells s Outside bytes purpose frame own is within =
         once = IsPermutation-refl (o.packet ∷ packets_of s.shown.kept);
       };
       roots = λ p t. inl t;
+      steady = steady-same s (own_scene s o) [] (refl, (refl, refl));
       within = λ h. (h.0, within h.1);
       later = omega arith;
     }
@@ -401,9 +428,11 @@ old-tells s =
         translated = refl;
         used = refl;
         each = tt;
+        served = tt;
         passed = [];
         errors = refl;
         each_error = tt;
+        served_errors = tt;
         own = [];
         own_are = refl;
         each_own = tt;
@@ -413,6 +442,7 @@ old-tells s =
         once = IsPermutation-trans _ _ _ parts (IsPermutation-append_comm (packets_of young) (packets_of old));
       };
       roots = λ p t. inl t;
+      steady = steady-same s (old_dropped s) [] (refl, (refl, refl));
       within = λ h. h;
       later = omega arith;
     }
@@ -440,6 +470,7 @@ truly-of hand s s2 x =
       translated = x.translated;
       used = x.used;
       each = x.each;
+      served = x.served;
       dropped = map view x.passed ++ (about ++ x.dropped);
       once = subst (λ ps. IsPermutation (hand ++ packets_of s.shown.kept) (map view x.done ++ ps))
           (ap (λ ps. map view x.passed ++ ps) (sym (append_assoc about x.dropped kept)) ∙ sym (append_assoc (map view x.passed) (about ++ x.dropped) kept)) x.once;

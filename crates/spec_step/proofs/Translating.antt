@@ -15,8 +15,9 @@ use Rattle.nat_types.specs.declared.notes.NoteKind.TheVariants.{Retaken}
 use Rattle.nat_types.specs.declared.notes.NoteKind.TheVariants as kinds
 use Rattle.nat_types.specs.Same.{same_key}
 use Rattle.nat_types.proofs.Offered.{key-false, key-self}
+use Rattle.slots.specs.declared.ranks.Rank.TheVariants.{First}
 use Rattle.bindings.specs.declared.entries.Entry.{Entry}
-use Rattle.bindings.specs.Entries.{entry_in, entry_of, slot_of, translates}
+use Rattle.bindings.specs.Entries.{entry_in, entry_of, is_of_rank, slot_of, translates}
 use Rattle.bindings.specs.Lists.{put_in}
 use Rattle.bindings.proofs.Offered.{entry-serves, entry-slot, slot-key, slot-put}
 use Rattle.ipv4.specs.declared.flows.Flow.{Flow}
@@ -27,11 +28,14 @@ use Rattle.spec_binding.specs.declared.changes.Want.TheVariants as want
 use Rattle.spec_binding.specs.declared.changes.PortRequest.{PortRequest}
 use Rattle.spec_binding.specs.Books.{Book, IsBook, is_lone, is_synced}
 use Rattle.spec_binding.specs.Rows.{after, carry_row, is_at_limit, known_wish, may_want, new_pair, new_wish, none_row, noted_by, paired_wish, port_for, quiet, row, use_row, used_row, wish, wish_by, wish_of}
-use Rattle.spec_binding.proofs.Offered.{at-key, chosen-says}
+use Rattle.spec_binding.specs.Serving.{serving}
+use Rattle.spec_binding.specs.WellFormed.{IsWellFormedEndpoint}
+use Rattle.spec_binding.proofs.Offered.{at-key, chosen-says, wish-keeps}
 use Rattle.packet_rules.specs.Flows.{target_of}
 use Rattle.spec_step.specs.Shown.{Shown}
 use Rattle.spec_step.specs.Truly.{used_pairs}
 use Rattle.spec_step.specs.Verdict.{pair_at, pair_in, target_pair}
+use Rattle.spec_step.proofs.Steady.{own-serves, serves-by}
 
 -- packets are translated by the pair
 pub record Translates (b : Book) (p : Pair) : Type 0 where
@@ -145,6 +149,72 @@ module _ (b : Book) (apart full : Bool) (e : Endpoint) (is : IsBook b) where
           → Translates (after b (let w : PortRequest = cond t (wish_by b apart full e (entry_of b.entries e)) (wish want.NotNow quiet) in w.row)) (new_pair e port)
       at true synced says = by-says synced (entry_of b.entries e) refl port says
       at false synced says = absurd (cc)
+
+  -- ---- the pair is the endpoint's pair
+
+  -- the pair of an endpoint's entry that translates
+  known-there : (x : Entry) → entry_of b.entries e ≡ Some x → (port : Port) → x.pair.key.port ≡ port → translates x.state ≡ true → serving b e ≡ Some (new_pair e port)
+  known-there x there port at live =
+      let found = entry-slot b.entries e x is.keys there in
+      let formed = is.formed x.pair.key x found in
+      let endpoint = (entry-serves b.entries e x there).1 in
+      let same = pair-is x.pair e port endpoint (ap (λ (q : Endpoint). q.protocol) (sym endpoint) ∙ formed.protocol) at in
+      serves-by (entry_of b.entries e) x (new_pair e port) there same live
+
+  known-serves : (x : Entry) → entry_of b.entries e ≡ Some x → (p : Pair) (s : EntryState) → x.pair ≡ p → x.state ≡ s → (port : Port) → (known_wish p s).answer ≡ want.Port port
+      → serving (after b (known_wish p s).row) e ≡ Some (new_pair e port)
+  known-serves x there p (state.Pending true) pair st port says = let one : p.key.port ≡ port = cc in known-there x there port (ap (λ (q : Pair). q.key.port) pair ∙ one) (ap translates st)
+  known-serves x there p (state.Pending false) pair st port says = absurd (cc)
+  known-serves x there p state.Doomed pair st port says = absurd (cc)
+  known-serves x there p state.Live pair st port says = let one : p.key.port ≡ port = cc in known-there x there port (ap (λ (q : Pair). q.key.port) pair ∙ one) (ap translates st)
+  known-serves x there p (state.Closing true) pair st port says = let one : p.key.port ≡ port = cc in known-there x there port (ap (λ (q : Pair). q.key.port) pair ∙ one) (ap translates st)
+  known-serves x there p (state.Closing false) pair st port says = absurd (cc)
+  known-serves x there p state.Alone pair st port says = let one : p.key.port ≡ port = cc in known-there x there port (ap (λ (q : Pair). q.key.port) pair ∙ one) (ap translates st)
+  known-serves x there p state.Held pair st port says = let one : p.key.port ≡ port = cc in known-there x there port (ap (λ (q : Pair). q.key.port) pair ∙ one) (ap translates st)
+
+  -- a pair that is added for an endpoint, of the gateway's own, in a state in which it translates
+  new-there : (q port : Port) (s : EntryState) (what : Option NoteKind) → port_for b e ≡ Some q → q ≡ port → translates s ≡ true → is_of_rank First s ≡ true → IsBook (after b (row (Add (entry_in s (new_pair e q))) None what))
+      → serving (after b (row (Add (entry_in s (new_pair e q))) None what)) e ≡ Some (new_pair e port)
+  new-there q port s what chosen same live own book =
+      let y = entry_in s (new_pair e q) in
+      let fresh = chosen-says b e q chosen in
+      let found = slot-put y b.entries (new_pair e q).key fresh.free ∙ cond-true (same_key (new_pair e q).key (new_pair e q).key) (Some y) (slot_of b.entries (new_pair e q).key) (key-self (new_pair e q).key) in
+      own-serves (put_in y b.entries) y book.keys book.endpoints found own live ∙ ap (λ (x : Port). Some (new_pair e x)) same
+
+  new-serves : (o : Option Port) → port_for b e ≡ o → IsBook (after b (new_wish b apart full e o).row) → (port : Port) → (new_wish b apart full e o).answer ≡ want.Port port → serving (after b (new_wish b apart full e o).row) e ≡ Some (new_pair e port)
+  new-serves None there book port says = absurd (cc)
+  new-serves (Some q) there book port says = at (is_lone b.stage) book says
+    where
+      second : (apart full : Bool) → IsBook (after b (paired_wish apart full (new_pair e q)).row) → (paired_wish apart full (new_pair e q)).answer ≡ want.Port port → serving (after b (paired_wish apart full (new_pair e q)).row) e ≡ Some (new_pair e port)
+      second true full book says = let same : q ≡ port = cc in new-there q port state.Alone (Some (kinds.Alone (new_pair e q))) there same refl refl book
+      second false true book says = absurd (cc)
+      second false false book says = absurd (cc)
+
+      at : (t : Bool) → IsBook (after b (let w : PortRequest = cond t (wish (want.Port q) (row (Add (entry_in state.Live (new_pair e q))) None (Some (Retaken (new_pair e q))))) (paired_wish apart full (new_pair e q)) in w.row))
+          → (let w : PortRequest = cond t (wish (want.Port q) (row (Add (entry_in state.Live (new_pair e q))) None (Some (Retaken (new_pair e q))))) (paired_wish apart full (new_pair e q)) in w.answer) ≡ want.Port port
+          → serving (after b (let w : PortRequest = cond t (wish (want.Port q) (row (Add (entry_in state.Live (new_pair e q))) None (Some (Retaken (new_pair e q))))) (paired_wish apart full (new_pair e q)) in w.row)) e ≡ Some (new_pair e port)
+      at true book says = let same : q ≡ port = cc in new-there q port state.Live (Some (Retaken (new_pair e q))) there same refl refl book
+      at false book says = second apart full book says
+
+  -- an endpoint whose wish is answered with a port goes by that pair afterwards
+  pub wish-serves : IsWellFormedEndpoint e → (port : Port) → (wish_of b apart full e).answer ≡ want.Port port → serving (after b (wish_of b apart full e).row) e ≡ Some (new_pair e port)
+  wish-serves formed port says = at (is_synced b.stage) (entry_of b.entries e) refl (wish-keeps b apart full e is formed) says
+    where
+      limited : (t : Bool) → IsBook (after b (let w : PortRequest = cond t (wish want.HostLimit quiet) (new_wish b apart full e (port_for b e)) in w.row))
+          → (let w : PortRequest = cond t (wish want.HostLimit quiet) (new_wish b apart full e (port_for b e)) in w.answer) ≡ want.Port port
+          → serving (after b (let w : PortRequest = cond t (wish want.HostLimit quiet) (new_wish b apart full e (port_for b e)) in w.row)) e ≡ Some (new_pair e port)
+      limited true book says = absurd (cc)
+      limited false book says = new-serves (port_for b e) refl book port says
+
+      by : (o : Option Entry) → entry_of b.entries e ≡ o → IsBook (after b (wish_by b apart full e o).row) → (wish_by b apart full e o).answer ≡ want.Port port → serving (after b (wish_by b apart full e o).row) e ≡ Some (new_pair e port)
+      by (Some x) there book says = known-serves x there x.pair x.state refl refl port says
+      by None there book says = limited (is_at_limit b e.address) book says
+
+      at : (t : Bool) (o : Option Entry) → entry_of b.entries e ≡ o → IsBook (after b (let w : PortRequest = cond t (wish_by b apart full e o) (wish want.NotNow quiet) in w.row))
+          → (let w : PortRequest = cond t (wish_by b apart full e o) (wish want.NotNow quiet) in w.answer) ≡ want.Port port
+          → serving (after b (let w : PortRequest = cond t (wish_by b apart full e o) (wish want.NotNow quiet) in w.row)) e ≡ Some (new_pair e port)
+      at true o there book says = by o there book says
+      at false o there book says = absurd (cc)
 
   -- ---- a pair that translates still does, whatever an endpoint wishes
 

@@ -1,6 +1,6 @@
 -- What each part of a step tells is true, and so is what a whole step tells: at interfaces, datagrams, the operator's
 -- word and ticks.
-use Rattle.std.proofs.Common.{◌≡◌, ℕ, Bool, true, false, cond, not, ◌&&◌, List, [], ◌∷◌, ◌++◌, length, Option, Some, None, Result, Ok, Err, refl, sym, ap, subst, ◌∙◌, arith, min}
+use Rattle.std.proofs.Common.{◌≡◌, ℕ, Bool, true, false, cond, not, ◌&&◌, List, [], ◌∷◌, ◌++◌, length, Option, Some, None, Result, Ok, Err, refl, sym, ap, subst, ◌∙◌, arith, min, inl}
 use Rattle.std.specs.List.{AllByRecursion}
 use Rattle.std.proofs.Math.Nat.{le-max_left}
 use Rattle.addresses.specs.declared.ethernet.Mac.{Mac}
@@ -20,10 +20,10 @@ use Rattle.link.specs.Link.{Link, after_take, closed_at, is_due_on_tick, is_rest
 use Rattle.link.specs.Reading.{reading}
 use Rattle.link.proofs.Offered.{all_taken, reading_takes}
 use Rattle.spec_binding.specs.Books.{is_lone, is_synced}
-use Rattle.spec_binding.specs.Ledgers.{alone_ledger, may_ask, restarted_ledger, rests_for, taken_ledger, sought_keys}
+use Rattle.spec_binding.specs.Ledgers.{lone_ledger, may_ask, restarted_ledger, rests_for, taken_ledger, sought_keys}
 use Rattle.spec_binding.specs.Resets.{back_in, restart_link, restart_notes, retaken}
 use Rattle.spec_binding.specs.Rows.{answered, idle_row, noted_by, taken_answer, taken_ended, taken_what, alone_row, is_full}
-use Rattle.spec_binding.proofs.Offered.{alone-keeps, idle-keeps, restart-keeps, taken-keeps, alone-row-keeps}
+use Rattle.spec_binding.proofs.Offered.{lone-keeps, alone-moves-none, idle-keeps, idle-moves-none, restart-keeps, taken-keeps, alone-row-keeps, word-moves-none}
 use Rattle.waiting.specs.declared.waits.Ended.TheVariants.{AllPairs, One}
 use Rattle.waiting.specs.declared.waits.WaitsFor.TheVariants as wait
 use Rattle.packet_rules.specs.declared.networks.Networks.{Networks}
@@ -54,8 +54,9 @@ use Rattle.spec_step.proofs.Turning.{back_as, turn-by}
 use Rattle.spec_step.proofs.Packets.{kept-filter}
 use Rattle.spec_step.proofs.Passing.{IsSound}
 use Rattle.spec_step.proofs.Saying.{Saying, Speaks, framed-says, packet-says, released-says, row-says, saying-nothing, saying-then, speaks-then, error-packet-says, echo-says, refused-says}
-use Rattle.spec_step.proofs.Rooting.{alone-rooted, idle-roots, restart-rooted, taken-roots, alone-row-roots}
+use Rattle.spec_step.proofs.Rooting.{lone-rooted, idle-roots, restart-rooted, taken-roots, alone-row-roots}
 use Rattle.spec_step.proofs.Sending.{Frames, advert-other, answer-other, gratuitous-other, own-six}
+use Rattle.spec_step.proofs.Steady.{restart-steady, taken-steady}
 use Rattle.spec_step.proofs.Telling.{Told, at_hand, old-tells, tells-quietly, tells-then, tells-unseen}
 use Rattle.spec_step.proofs.Unused.{idle-useless, restart-useless, retaken-useless, taken-useless, alone-useless}
 use Rattle.spec_step.specs.Others.{is_other}
@@ -74,12 +75,12 @@ set-up-outside g station same w wired = ((w.0.0, record { placed = w.0.1.placed;
 
 pub station-speaks : (s : GatewayAndOutput) (side : Side) (station : Interface) → station.network ≡ (station_on s.shown side).network → station.said ≡ (station_on s.shown side).said → (IsSetUp s.shown → IsWired station) → Speaks [] s (scene (with_station s.shown side station) s.told)
 station-speaks s Inside station same said wired = λ is w. record {
-  tells = tells-unseen s (scene (with_station s.shown Inside station) s.told) refl refl refl refl (said, (refl, omega arith));
+  tells = tells-unseen s (scene (with_station s.shown Inside station) s.told) refl refl (refl, (refl, refl)) refl (said, (refl, omega arith));
   sound = record { book = is.book; kept = is.kept };
   wired = set-up-inside s.shown station same w (wired w);
 }
 station-speaks s Outside station same said wired = λ is w. record {
-  tells = tells-unseen s (scene (with_station s.shown Outside station) s.told) refl refl refl refl (refl, (said, omega arith));
+  tells = tells-unseen s (scene (with_station s.shown Outside station) s.told) refl refl (refl, (refl, refl)) refl (refl, (said, omega arith));
   sound = record { book = is.book; kept = is.kept };
   wired = set-up-outside s.shown station same w (wired w);
 }
@@ -204,7 +205,7 @@ frame-speaks frames s side bytes (Err reason) s2 read are does =
 routed-says : (now : ℕ) (g : Shown) (told : Output) (b : Bool) → Saying [] (scene g told) (scene (let x : Shown = cond b (record g { inside = started g.inside now; outside = started g.outside now }) g in x) told)
 routed-says now g told true = λ is w. (
   record {
-    tells = tells-unseen (scene g told) (scene (record g { inside = started g.inside now; outside = started g.outside now }) told) refl refl refl refl (refl, (refl, omega arith));
+    tells = tells-unseen (scene g told) (scene (record g { inside = started g.inside now; outside = started g.outside now }) told) refl refl (refl, (refl, refl)) refl (refl, (refl, omega arith));
     sound = record { book = is.book; kept = is.kept };
     wired = (w.0, (record { own = w.1.0.own; known = w.1.0.known }, record { own = w.1.1.own; known = w.1.1.known }));
   },
@@ -230,7 +231,8 @@ record-first s r formed =
     let s3 = scene (record_shown g r) told in
     let first : Saying [] s s2 = λ is w. (
       record {
-        tells = tells-quietly s s2 (noted_by (id_of g) g.moment (taken_what b rests r)) refl refl (taken-useless b rests r (id_of g) g.moment) refl (taken-roots b rests r (id_of g) g.moment) (refl, (refl, omega arith));
+        tells = tells-quietly s s2 (noted_by (id_of g) g.moment (taken_what b rests r)) refl refl (taken-useless b rests r (id_of g) g.moment) refl (taken-roots b rests r (id_of g) g.moment)
+            (taken-steady s s2 rests r is.book formed refl refl) (refl, (refl, omega arith));
         sound = record { book = taken-keeps b rests r is.book formed; kept = is.kept };
         wired = w;
       },
@@ -251,7 +253,7 @@ records-say frames s (r ∷ rs) all = saying-then [] [] s (record_done s r) (rec
 
 pub link-says : (s : GatewayAndOutput) (e : Link) → Saying [] s (with_link s e)
 link-says s e = λ is w. (
-  record { tells = tells-unseen s (with_link s e) refl refl refl refl (refl, (refl, omega arith)); sound = record { book = is.book; kept = is.kept }; wired = w },
+  record { tells = tells-unseen s (with_link s e) refl refl (refl, (refl, refl)) refl (refl, (refl, omega arith)); sound = record { book = is.book; kept = is.kept }; wired = w },
   refl,
 )
 
@@ -268,7 +270,8 @@ reset-first s =
     let mid = reset_scene s in
     λ is w. (
       record {
-        tells = tells-quietly s mid notes refl refl (restart-useless b g.moment) refl (restart-rooted b g.moment is.book.keys) (refl, (refl, omega arith));
+        tells = tells-quietly s mid notes refl refl (restart-useless b g.moment) refl (restart-rooted b g.moment is.book.keys)
+            (restart-steady s mid notes is.book refl) (refl, (refl, omega arith));
         sound = record { book = restart-keeps b is.book; kept = is.kept };
         wired = w;
       },
@@ -304,7 +307,7 @@ datagram-says frames s bytes (Err fault) read are = saying-nothing s []
 abbrev pub word_scene : GatewayAndOutput → ℕ → GatewayAndOutput
 word_scene s n =
     let g = s.shown in let b = g.ledger.book in
-    scene (record g { ledger = alone_ledger g.moment g.ledger; link = closed_at g.link n }) (with_notes s.told (retaken (id_of g) g.moment (back_in b.entries)))
+    scene (record g { ledger = lone_ledger g.moment g.ledger; link = closed_at g.link n }) (with_notes s.told (retaken (id_of g) g.moment (back_in b.entries)))
 
 pub word-first : (s : GatewayAndOutput) (n : ℕ) → is_synced s.shown.ledger.book.stage ≡ true → Saying [] s (word_scene s n)
 word-first s n synced =
@@ -313,8 +316,9 @@ word-first s n synced =
     let mid = word_scene s n in
     λ is w. (
       record {
-        tells = tells-quietly s mid notes refl refl (retaken-useless (id_of g) g.moment (back_in b.entries)) refl (alone-rooted b (id_of g) g.moment is.book.keys) (refl, (refl, omega arith));
-        sound = record { book = alone-keeps b is.book synced; kept = is.kept };
+        tells = tells-quietly s mid notes refl refl (retaken-useless (id_of g) g.moment (back_in b.entries)) refl (lone-rooted b (id_of g) g.moment is.book.keys)
+            (record { id = refl; synced = λ t. refl; stays = λ x p t p_is. inl (word-moves-none b x p is.book p_is) }) (refl, (refl, omega arith));
+        sound = record { book = lone-keeps b is.book synced; kept = is.kept };
         wired = w;
       },
       refl,
@@ -341,7 +345,7 @@ idle-says : (s : GatewayAndOutput) (k : Key) → Saying [] s (idle_done s k)
 idle-says s k =
     let b = s.shown.ledger.book in
     let ask = may_ask s.shown.moment b s.shown.link in
-    row-says s (idle_row b ask k) (idle-useless b ask k) (idle-roots b ask k) (λ is. idle-keeps b ask k is)
+    row-says s (idle_row b ask k) (idle-useless b ask k) (idle-roots b ask k) (λ is. idle-keeps b ask k is) (λ is x p p_is. idle-moves-none b ask k x p is p_is)
 
 pub all-idle-say : (s : GatewayAndOutput) (ks : List Key) → Saying [] s (all_idle_done s ks)
 all-idle-say s [] = saying-nothing s []
@@ -352,6 +356,7 @@ sought-says apart s k =
     let b = s.shown.ledger.book in
     let full = is_full s.shown.link in
     row-says s (alone_row b apart full k) (alone-useless b apart full k) (alone-row-roots b apart full k) (λ is. alone-row-keeps b apart full k is)
+    (λ is x p p_is. inl (alone-moves-none b apart full k x p is p_is))
 
 pub all-sought-say : (apart : Bool) (s : GatewayAndOutput) (ks : List Key) → Saying [] s (all_sought_done apart s ks)
 all-sought-say apart s [] = saying-nothing s []
@@ -376,13 +381,13 @@ old-says s = λ is w. (
 
 stopped-says : (s : GatewayAndOutput) → Saying [] s (stopped s)
 stopped-says s = λ is w. (
-  record { tells = tells-unseen s (stopped s) refl refl refl refl (refl, (refl, omega arith)); sound = record { book = is.book; kept = is.kept }; wired = w },
+  record { tells = tells-unseen s (stopped s) refl refl (refl, (refl, refl)) refl (refl, (refl, omega arith)); sound = record { book = is.book; kept = is.kept }; wired = w },
   refl,
 )
 
 pub ticked-speaks : (s : GatewayAndOutput) (now : ℕ) → Speaks [] s (ticked s now)
 ticked-speaks s now = λ is w. record {
-  tells = tells-unseen s (ticked s now) refl refl refl refl (refl, (refl, le-max_left s.shown.moment (min now last_moment)));
+  tells = tells-unseen s (ticked s now) refl refl (refl, (refl, refl)) refl (refl, (refl, le-max_left s.shown.moment (min now last_moment)));
   sound = record { book = is.book; kept = is.kept };
   wired = w;
 }
@@ -396,32 +401,32 @@ turn-says frames s s2 takes =
   where
     left-says : (middle : GatewayAndOutput) → Saying [] middle (left middle)
     left-says middle = λ is w. (
-      record { tells = tells-unseen middle (left middle) refl refl refl refl (refl, (refl, omega arith)); sound = record { book = is.book; kept = is.kept }; wired = w },
+      record { tells = tells-unseen middle (left middle) refl refl (refl, (refl, refl)) refl (refl, (refl, omega arith)); sound = record { book = is.book; kept = is.kept }; wired = w },
       refl,
     )
 
     back : (starts : Bool) → Saying [] s (scene (back_as starts s.shown) s.told)
     back true = λ is w. (
       record {
-        tells = tells-unseen s (scene (back_as true s.shown) s.told) refl refl refl refl (refl, (refl, omega arith));
+        tells = tells-unseen s (scene (back_as true s.shown) s.told) refl refl (refl, (refl, refl)) refl (refl, (refl, omega arith));
         sound = record { book = is.book; kept = is.kept };
         wired = (w.0, (record { own = w.1.0.own; known = w.1.0.known }, record { own = w.1.1.own; known = w.1.1.known }));
       },
       refl,
     )
     back false = λ is w. (
-      record { tells = tells-unseen s (scene (back_as false s.shown) s.told) refl refl refl refl (refl, (refl, omega arith)); sound = record { book = is.book; kept = is.kept }; wired = w },
+      record { tells = tells-unseen s (scene (back_as false s.shown) s.told) refl refl (refl, (refl, refl)) refl (refl, (refl, omega arith)); sound = record { book = is.book; kept = is.kept }; wired = w },
       refl,
     )
 
 -- nothing false is told at a change of a side's cable
 plugged-says : (s : GatewayAndOutput) (side : Side) (up : Bool) → Saying [] s (side_plugged s side up)
 plugged-says s Inside up = λ is w. (
-  record { tells = tells-unseen s (side_plugged s Inside up) refl refl refl refl (refl, (refl, omega arith)); sound = record { book = is.book; kept = is.kept }; wired = (w.0, (record { own = w.1.0.own; known = w.1.0.known }, w.1.1)) },
+  record { tells = tells-unseen s (side_plugged s Inside up) refl refl (refl, (refl, refl)) refl (refl, (refl, omega arith)); sound = record { book = is.book; kept = is.kept }; wired = (w.0, (record { own = w.1.0.own; known = w.1.0.known }, w.1.1)) },
   refl,
 )
 plugged-says s Outside up = λ is w. (
-  record { tells = tells-unseen s (side_plugged s Outside up) refl refl refl refl (refl, (refl, omega arith)); sound = record { book = is.book; kept = is.kept }; wired = (w.0, (w.1.0, record { own = w.1.1.own; known = w.1.1.known })) },
+  record { tells = tells-unseen s (side_plugged s Outside up) refl refl (refl, (refl, refl)) refl (refl, (refl, omega arith)); sound = record { book = is.book; kept = is.kept }; wired = (w.0, (w.1.0, record { own = w.1.1.own; known = w.1.1.known })) },
   refl,
 )
 
@@ -459,15 +464,15 @@ answered-tells : (s : GatewayAndOutput) → Told [] s (link_answered s)
 answered-tells s = at (handed_in s.shown).link.due
   where
     at : (b : Bool) → Told [] s (let g = handed_in s.shown in scene (record g { link = sent_on_answer g.link }) (let t : Output = cond b (with_datagram s.told (datagram_in g)) s.told in t))
-    at true = tells-unseen s _ refl refl refl refl (refl, (refl, omega arith))
-    at false = tells-unseen s _ refl refl refl refl (refl, (refl, omega arith))
+    at true = tells-unseen s _ refl refl (refl, (refl, refl)) refl (refl, (refl, omega arith))
+    at false = tells-unseen s _ refl refl (refl, (refl, refl)) refl (refl, (refl, omega arith))
 
 ticked-tells : (s : GatewayAndOutput) → Told [] s (link_ticked s) × ((known_of (link_ticked s).shown ≡ known_of s.shown) × (IsSetUp s.shown → IsSetUp (link_ticked s).shown))
 ticked-tells s = at (is_due_on_tick (handed_in s.shown).link s.shown.moment)
   where
     at : (b : Bool) → (let x : GatewayAndOutput = (let g = handed_in s.shown in cond b (scene (record g { link = sent_on_tick g.link g.moment }) (with_datagram s.told (datagram_in g))) (scene g s.told)) in Told [] s x × ((known_of x.shown ≡ known_of s.shown) × (IsSetUp s.shown → IsSetUp x.shown)))
-    at true = (tells-unseen s _ refl refl refl refl (refl, (refl, omega arith)), (refl, λ w. w))
-    at false = (tells-unseen s _ refl refl refl refl (refl, (refl, omega arith)), (refl, λ w. w))
+    at true = (tells-unseen s _ refl refl (refl, (refl, refl)) refl (refl, (refl, omega arith)), (refl, λ w. w))
+    at false = (tells-unseen s _ refl refl (refl, (refl, refl)) refl (refl, (refl, omega arith)), (refl, λ w. w))
 
 answered-ends : (h : List AtHand) (s done : GatewayAndOutput) → Told h s done → IsSetUp done.shown → Told (h ++ []) s (link_answered done) × IsSetUp (link_answered done).shown
 answered-ends h s done x w = (tells-then h [] s done (link_answered done) refl x (answered-tells done), w)

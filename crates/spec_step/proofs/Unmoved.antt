@@ -26,12 +26,12 @@ use Rattle.link.specs.Reading.{reading}
 use Rattle.link.proofs.Offered.{all_taken as all_formed, reading_takes}
 use Rattle.spec_binding.specs.declared.changes.Transition.{Transition}
 use Rattle.spec_binding.specs.Books.{Book, IsBook, empty_book, is_lone, is_synced}
-use Rattle.spec_binding.specs.Ledgers.{Ledger, alone_ledger, carried_ledger, ledger_after, may_ask, restarted_ledger, rests_for, sought_keys, taken_ledger}
+use Rattle.spec_binding.specs.Ledgers.{Ledger, lone_ledger, carried_ledger, ledger_after, may_ask, restarted_ledger, rests_for, sought_keys, taken_ledger}
 use Rattle.spec_binding.specs.Resets.{back_in, begun_anew, restart_link, restart_notes, restarted, retaken}
 use Rattle.spec_binding.specs.Rows.{after, alone_row, answered, carry_row, idle_row, is_full, noted_by, row_of, taken_answer, taken_book, taken_ended, taken_what, unsynced_after, wish_of}
 use Rattle.spec_binding.specs.Serving.{Stays, serving}
 use Rattle.spec_binding.specs.WellFormed.{IsWellFormedEndpoint}
-use Rattle.spec_binding.proofs.Offered.{alone-keeps, alone-moves-none, alone-row-keeps, change-leaves, idle-keeps, idle-moves-none, restart-keeps, restart-moves-none, taken-keeps, taken-moves-none, wish-keeps, wish-moves-none, word-moves-none}
+use Rattle.spec_binding.proofs.Offered.{lone-keeps, alone-moves-none, alone-row-keeps, change-leaves, idle-keeps, idle-moves-none, restart-keeps, restart-moves-none, taken-keeps, taken-moves-none, wish-keeps, wish-moves-none, word-moves-none}
 use Rattle.spec_pair.specs.Talk.{note}
 use Rattle.waiting.specs.declared.waits.Ended.{Ended}
 use Rattle.waiting.specs.declared.waits.Ended.TheVariants.{AllPairs, One}
@@ -61,6 +61,7 @@ use Rattle.spec_step.proofs.Arriving.{read-on}
 use Rattle.spec_step.proofs.Accounting.{restarted-id, taken-id}
 use Rattle.spec_step.proofs.Packets.{PlanFits, Reads, kept-filter, kept-more, plan-fits, read-formed}
 use Rattle.spec_step.proofs.Passing.{IsSound}
+use Rattle.spec_step.proofs.Steady.{restarted-synced, stays-noted, taken-same}
 use Rattle.spec_step.proofs.Stepping.{begun_on}
 use Rattle.spec_step.proofs.Takes.{IsUnseen, echoes, errors, flows, refusals, releases}
 use Rattle.spec_step.proofs.Truths.{word-synced}
@@ -144,12 +145,6 @@ noted-moves s l e notes keeps synced id stays = λ is. record {
   notes_are = refl;
   stays = λ x p s_is p_is. stays x p is.book s_is p_is;
 }
-
--- the note of a row that releases the pair
-stays-noted : (b : Book) (x : Endpoint) (p : Pair) (id : GatewayId) (now : ℕ) (what : Option NoteKind) → Stays b x p what → (serving b x ≡ Some p) ⊎ Contains (noted_by id now what) (note id now (Released p))
-stays-noted b x p id now what (inl is) = inl is
-stays-noted b x p id now what (inr is) =
-    inr (subst (λ (o : Option NoteKind). Contains (noted_by id now o) (note id now (Released p))) (sym is) (0, omega arith, refl))
 
 row-moves : (s : GatewayAndOutput) (row : Transition) → (IsBook s.shown.ledger.book → IsBook (after s.shown.ledger.book row))
     → ((x : Endpoint) (p : Pair) → IsBook s.shown.ledger.book → serving s.shown.ledger.book x ≡ Some p → Stays (after s.shown.ledger.book row) x p row.what) → Unmoving s (by_row s row)
@@ -243,13 +238,6 @@ frame-moves reads s side bytes (Err reason) s2 read are does =
 
 -- ---- records
 
-taken-same : (b : Book) (rests : Bool) (r : Record) → is_synced b.stage ≡ true → ((taken_book b rests r).id ≡ b.id) × (is_synced (taken_book b rests r).stage ≡ true)
-taken-same b rests r synced = at (is_synced b.stage) synced
-  where
-    at : (t : Bool) → t ≡ true → (let x : Book = cond t (after b (row_of b rests r)) (unsynced_after b r) in (x.id ≡ b.id) × (is_synced x.stage ≡ true))
-    at true is = let beside = change-leaves b (row_of b rests r).change in (beside.id, ap is_synced beside.stage ∙ synced)
-    at false is = absurd (cc)
-
 routed-moves : (now : ℕ) (g : Shown) (told : Output) (b : Bool) → Unmoving (scene g told) (scene (let x : Shown = cond b (record g { inside = started g.inside now; outside = started g.outside now }) g in x) told)
 routed-moves now g told true = still-moves (scene g told) _ refl refl refl (λ k. k)
 routed-moves now g told false = nothing-moves (scene g told)
@@ -279,13 +267,6 @@ records-move reads s [] all = nothing-moves s
 records-move reads s (r ∷ rs) all = unmoving-then s (record_done s r) (records_done s (r ∷ rs)) (record-moves reads s r all.0) (records-move reads (record_done s r) rs all.1)
 
 -- ---- datagrams, and the operator's word
-
-restarted-synced : (b : Book) → is_synced b.stage ≡ true → is_synced (restarted b).stage ≡ true
-restarted-synced b synced = at (is_synced b.stage) synced
-  where
-    at : (t : Bool) → t ≡ true → is_synced (let x : Book = cond t (begun_anew b) (empty_book b.id b.zero b.one b.limit b.alone) in x).stage ≡ true
-    at true is = refl
-    at false is = absurd (cc)
 
 link-moves : (s : GatewayAndOutput) (e : Link) → Unmoving s (with_link s e)
 link-moves s e = still-moves s (with_link s e) refl refl refl (λ k. k)
@@ -326,9 +307,9 @@ word-moves : Reads → (s : GatewayAndOutput) (n : ℕ) (o : Option Reason) → 
 word-moves reads s n None is =
     let g = s.shown in let b = g.ledger.book in
     let notes = retaken b.id g.moment (back_in b.entries) in
-    let mid = scene (record g { ledger = alone_ledger g.moment g.ledger; link = closed_at g.link n }) (with_notes s.told notes) in
-    let first : Unmoving s mid = noted-moves s (alone_ledger g.moment g.ledger) (closed_at g.link n) notes
-    (λ book. alone-keeps b book (word-synced s.shown n is)) (λ t. refl) refl
+    let mid = scene (record g { ledger = lone_ledger g.moment g.ledger; link = closed_at g.link n }) (with_notes s.told notes) in
+    let first : Unmoving s mid = noted-moves s (lone_ledger g.moment g.ledger) (closed_at g.link n) notes
+    (λ book. lone-keeps b book (word-synced s.shown n is)) (λ t. refl) refl
     (λ x p book t p_is. inl (word-moves-none b x p book p_is)) in
     unmoving-then s mid (word_taken s n) first (released-moves reads mid AllPairs)
 word-moves reads s n (Some reason) is = nothing-moves s

@@ -25,8 +25,8 @@ abbrev pub HasPushed : Shown → List Record → Type 0
 HasPushed g h = Stands g.ledger.book g.link h
 
 -- a gateway is lone only while no boot of the peer is known, or the known one was closed
-abbrev pub IsAlone : Shown → Type 0
-IsAlone g = is_lone g.ledger.book.stage ≡ true → (g.link.known ≡ 0) ⊎ (g.link.closed ≡ true)
+abbrev pub IsLoneRightly : Shown → Type 0
+IsLoneRightly g = is_lone g.ledger.book.stage ≡ true → (g.link.known ≡ 0) ⊎ (g.link.closed ≡ true)
 
 -- each number is a byte
 abbrev pub AreBytes : List ℕ → Type 0
@@ -37,10 +37,10 @@ abbrev pub KeepsBytes : Shown → Type 0
 KeepsBytes g = AllByRecursion (λ w. AreBytes w.bytes) g.kept
 
 -- What a step requires of a gateway that has pushed or promised `h` in the session: its book is a book, it is lone only
--- where IsAlone allows it, and the packets that it keeps are bytes.
+-- where IsLoneRightly allows it, and the packets that it keeps are bytes.
 pub record IsStanding (g : Shown) (h : List Record) : Type 0 where
   pub book : IsBook g.ledger.book
-  pub alone : IsAlone g
+  pub lone : IsLoneRightly g
   pub kept : KeepsBytes g
   pub pushed : HasPushed g h
 

@@ -31,7 +31,7 @@ use Rattle.link.specs.Link.{Link, after_take, closed_at, datagram_of, is_due_on_
 use Rattle.link.specs.Reading.{reading}
 use Rattle.spec_binding.specs.declared.changes.Transition.{Transition}
 use Rattle.spec_binding.specs.Books.{is_lone, is_synced}
-use Rattle.spec_binding.specs.Ledgers.{alone_ledger, carried_ledger, ledger_after, may_ask, rests_for, restarted_ledger, sought_keys, taken_ledger}
+use Rattle.spec_binding.specs.Ledgers.{lone_ledger, carried_ledger, ledger_after, may_ask, rests_for, restarted_ledger, sought_keys, taken_ledger}
 use Rattle.spec_binding.specs.Resets.{back_in, restart_link, restart_notes, retaken}
 use Rattle.spec_binding.specs.Rows.{alone_row, answered, carry_row, idle_row, is_full, noted_by, taken_answer, taken_ended, taken_what, wish_of}
 use Rattle.waiting.specs.declared.waits.Ended.{Ended}
@@ -436,7 +436,7 @@ datagram_taken s bytes = datagram_read s (reading bytes)
 abbrev pub word_taken : GatewayAndOutput → ℕ → GatewayAndOutput
 word_taken s n = let g = s.shown in let book = g.ledger.book in
     released
-    (scene (record g { ledger = alone_ledger g.moment g.ledger; link = closed_at g.link n })
+    (scene (record g { ledger = lone_ledger g.moment g.ledger; link = closed_at g.link n })
     (with_notes s.told (retaken (id_of g) g.moment (back_in book.entries))))
     AllPairs
 

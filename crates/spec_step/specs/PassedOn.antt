@@ -18,7 +18,7 @@ use Rattle.output.specs.Output.{Sent}
 use Rattle.spec_step.specs.Others.{IsErrorBy, MayGoBy}
 use Rattle.spec_step.specs.OwnAnswers.{IsOwnOf, OwnFrame, own_frames, tallied}
 use Rattle.spec_step.specs.Shown.{GatewayAndOutput, Shown}
-use Rattle.spec_step.specs.Truly.{AreSent, AtHand, Known, Sending, is_own, known_of, near_on, packets_of, translated_frames, used_pairs}
+use Rattle.spec_step.specs.Truly.{AreSent, AreServed, AtHand, Known, Sending, is_own, known_of, near_on, packets_of, translated_frames, used_pairs}
 use Rattle.spec_step.specs.Verdict.{exit_by}
 
 -- The frame is the error passed on: it goes the way that the rules say, by its pairs, by all of which packets may go,
@@ -42,8 +42,8 @@ error_frames networks frames = filter (λ f. not (is_own networks f) && is_error
 -- From a scene to a later one, with the packets `hand` at hand: what was added to the output, with the errors and the
 -- gateway's own frames. `Tells` says it of the packets that were translated. The errors that were passed on, and the
 -- packets that were answered or complained of, are others of those at hand or kept before, each once, and none is kept
--- afterwards. The gateway translated by the errors' pairs before, or takes them up in the step. Each own frame is
--- counted at its side.
+-- afterwards. The gateway translated by the errors' pairs before, or takes them up in the step; outward an error goes by
+-- its endpoint's pair, as a packet does. Each own frame is counted at its side.
 pub record TellsAll (hand : List AtHand) (old new : GatewayAndOutput) : Type 0 where
   pub frames : List Sent
   pub frames_are : new.told.frames ≡ old.told.frames ++ frames
@@ -53,9 +53,11 @@ pub record TellsAll (hand : List AtHand) (old new : GatewayAndOutput) : Type 0 w
   pub translated : translated_frames new.shown.networks frames ≡ map (λ d. d.sent) done
   pub used : used_pairs notes ≡ flat_map (λ d. pairs_of d.by) done
   pub each : AreSent (known_of new.shown) done
+  pub served : AreServed old done new
   pub passed : List Sending
   pub errors : error_frames new.shown.networks frames ≡ map (λ d. d.sent) passed
   pub each_error : ArePassedOn (known_of new.shown) (MayGoBy old.shown notes) passed
+  pub served_errors : AreServed old passed new
   pub own : List OwnFrame
   pub own_are : own_frames new.shown.networks frames ≡ map (λ o. o.sent) own
   pub each_own : AllByRecursion (IsOwnOf (known_of new.shown)) own

@@ -8,7 +8,7 @@ use Rattle.link.specs.declared.datagrams.Datagram.{Datagram}
 use Rattle.link.specs.declared.faults.LinkFault.{LinkFault}
 use Rattle.link.specs.Link.{after_take, closed_at, is_restart, records_taken, refusal}
 use Rattle.link.specs.Reading.{reading}
-use Rattle.spec_binding.specs.Ledgers.{alone_ledger, restarted_ledger, rests_for, sought_keys}
+use Rattle.spec_binding.specs.Ledgers.{lone_ledger, restarted_ledger, rests_for, sought_keys}
 use Rattle.spec_binding.specs.Resets.{back_in, restart_link, restart_notes, retaken}
 use Rattle.spec_binding.specs.Rows.{taken_ended}
 use Rattle.waiting.specs.declared.waits.Ended.{Ended}
@@ -96,7 +96,7 @@ own_datagram s (Err fault) = []
 abbrev pub own_word : GatewayAndOutput → ℕ → Option Reason → List Sent
 own_word s n None = let g = s.shown in let book = g.ledger.book in
     own_released
-    (scene (record g { ledger = alone_ledger g.moment g.ledger; link = closed_at g.link n })
+    (scene (record g { ledger = lone_ledger g.moment g.ledger; link = closed_at g.link n })
     (with_notes s.told (retaken (id_of g) g.moment (back_in book.entries))))
     AllPairs
 own_word s n (Some reason) = []

@@ -1,7 +1,7 @@
 -- Told truly: the translated frames of a step are, one for one and in order, translations of different packets at hand,
 -- by the pairs that the step's Used notes name. The packets at hand are the event's own packet and the kept packets.
 use Rattle.std.specs.Prelude.{◌≡◌, ℕ, Bool, not, ◌&&◌, List, [], ◌∷◌, ◌++◌, map, Some, Ok}
-use Rattle.std.specs.List.{filter, flat_map}
+use Rattle.std.specs.List.{AllByRecursion, filter, flat_map}
 use Rattle.std.specs.List.Sorted.{IsPermutation}
 use Rattle.addresses.specs.declared.ethernet.Mac.{Mac}
 use Rattle.nat_types.specs.declared.gateways.Side.{Side}
@@ -26,6 +26,7 @@ use Rattle.interfaces.specs.Stations.{IsWired as IsWiredStation}
 use Rattle.output.specs.Output.{Sent}
 use Rattle.spec_step.specs.declared.events.Event.{Event}
 use Rattle.spec_step.specs.declared.events.Event.TheVariants.{Frame, Datagram, Tick, Stop, PeerOff, Side as SideIs}
+use Rattle.spec_step.specs.Apart.{GoesByServing}
 use Rattle.spec_step.specs.Shown.{GatewayAndOutput, Shown}
 use Rattle.spec_step.specs.Verdict.{exit_by}
 
@@ -115,6 +116,10 @@ abbrev pub AreSent : Known → List Sending → Type 0
 AreSent k [] = Unit {0}
 AreSent k (d ∷ ds) = IsSentBy k d.packet d.by d.sent × AreSent k ds
 
+-- each of these sendings goes by its endpoint's pair, of two by the one on a port that the gateway owns
+abbrev pub AreServed : GatewayAndOutput → List Sending → GatewayAndOutput → Type 0
+AreServed old done new = AllByRecursion (λ d. GoesByServing old d.by new) done
+
 -- whether a frame that was sent is the gateway's own, in these networks
 abbrev pub is_own : Networks → Sent → Bool
 is_own networks f = is_own_frame networks f.side f.bytes
@@ -123,8 +128,9 @@ is_own networks f = is_own_frame networks f.side f.bytes
 abbrev pub translated_frames : Networks → List Sent → List Sent
 translated_frames networks frames = filter (λ f. not (is_own networks f) && is_translation f.side f.bytes) frames
 
--- From a scene to a later one, with the packets `hand` at hand: what was added to the output is told truly. Each packet
--- at hand or kept before is sent once, or dropped, or kept afterwards.
+-- From a scene to a later one, with the packets `hand` at hand: what was added to the output is told truly. Of two pairs
+-- of its source a packet goes by the one on a port that the gateway owns. Each packet at hand or kept before is sent once,
+-- or dropped, or kept afterwards.
 pub record Tells (hand : List AtHand) (old new : GatewayAndOutput) : Type 0 where
   pub frames : List Sent
   pub frames_are : new.told.frames ≡ old.told.frames ++ frames
@@ -134,6 +140,7 @@ pub record Tells (hand : List AtHand) (old new : GatewayAndOutput) : Type 0 wher
   pub translated : translated_frames new.shown.networks frames ≡ map (λ d. d.sent) done
   pub used : used_pairs notes ≡ flat_map (λ d. pairs_of d.by) done
   pub each : AreSent (known_of new.shown) done
+  pub served : AreServed old done new
   pub dropped : List AtHand
   pub once : IsPermutation (hand ++ packets_of old.shown.kept)
       (map (λ d. d.packet) done ++ (dropped ++ packets_of new.shown.kept))

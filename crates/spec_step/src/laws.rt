@@ -31,7 +31,7 @@ ghost use Rattle.spec_trace.specs.Past.{Idle};
 ghost use Rattle.spec_pair.specs.Talk.{note};
 ghost use Rattle.waiting.specs.Packets.{HeldPacket, hop_count};
 ghost use Rattle.bindings.specs.declared.entries.Entry.{Entry};
-ghost use Rattle.bindings.specs.Entries.{is_alone};
+ghost use Rattle.bindings.specs.Entries.{is_alone, is_marked, slot_of};
 ghost use Rattle.spec_binding.specs.declared.setups.Stage.TheVariants.{Paired};
 ghost use Rattle.spec_binding.specs.Books.{IsBook, is_lone, is_synced};
 ghost use Rattle.spec_binding.specs.Ledgers.{go_on_all, release_all};
@@ -44,7 +44,7 @@ ghost use Rattle.spec_step.specs.Apart.{IsUnmoved, WaitsForNobody};
 ghost use Rattle.spec_step.specs.Verdict.{error_plan, plan_of, reading_on, verdict};
 ghost use Rattle.spec_step.specs.Founding.{HasRanges, begun, bounds_of, founded, link_places};
 ghost use Rattle.spec_step.specs.GoingOn.{GoesByOwn, HasAllPairs, HasNoPort, MayBegin, MayGoOn, MayPassOn};
-ghost use Rattle.spec_step.specs.Machine.{AreBytes, Goes, HasBytes, HasPushed, IsAlone, IsStanding, KeepsBytes};
+ghost use Rattle.spec_step.specs.Machine.{AreBytes, Goes, HasBytes, HasPushed, IsLoneRightly, IsStanding, KeepsBytes};
 ghost use Rattle.spec_step.specs.Machine.{letters_in, words_in};
 ghost use Rattle.spec_step.specs.LettingGo.{CanAskForAll, HasRested, IsLetGo, NotesRelease};
 ghost use Rattle.spec_step.specs.LettingGo.{ReleasesAlone};
@@ -74,7 +74,7 @@ use rewrite::hides_inside;
 pub fn steps_go()
     ensures { (s : GatewayAndOutput) (event : Event) (s2 : GatewayAndOutput) (h : List Record)
         → IsStepOn s event s2
-        → HasBytes event → IsBook s.shown.ledger.book → IsAlone s.shown → KeepsBytes s.shown
+        → HasBytes event → IsBook s.shown.ledger.book → IsLoneRightly s.shown → KeepsBytes s.shown
         → HasPushed s.shown h → Goes (letters_in event) (words_in event) s s2 h }
 {
     readings_law();
@@ -84,17 +84,17 @@ pub fn steps_go()
 pub fn steps_keep()
     ensures { (s : GatewayAndOutput) (event : Event) (s2 : GatewayAndOutput) (h : List Record)
         → IsStepOn s event s2
-        → HasBytes event → IsBook s.shown.ledger.book → IsAlone s.shown → KeepsBytes s.shown
+        → HasBytes event → IsBook s.shown.ledger.book → IsLoneRightly s.shown → KeepsBytes s.shown
         → HasPushed s.shown h
-        → IsBook s2.shown.ledger.book × (IsAlone s2.shown × KeepsBytes s2.shown) }
+        → IsBook s2.shown.ledger.book × (IsLoneRightly s2.shown × KeepsBytes s2.shown) }
 {
     readings_law();
 }
 
 /// A step tells truly: the translated frames that it sends are, one for one and in order,
 /// translations of different packets. The pairs are those that the step's Used notes name, and each
-/// frame goes on its packet's way and to its next hop. And what the step requires for that holds
-/// after it.
+/// frame goes on its packet's way and to its next hop; of two pairs of its source a packet goes by
+/// the one on a port that the gateway owns. And what the step requires for that holds after it.
 pub fn steps_tell()
     ensures truly { (s : GatewayAndOutput) (event : Event) (s2 : GatewayAndOutput)
         → IsStepOn s event s2
@@ -114,7 +114,8 @@ pub fn steps_tell()
 /// A step passes errors on. Its error frames are, one for one and in order, errors at hand that
 /// were passed on: each another packet, and none of those that were translated. Each error goes on
 /// the way that the rules say for it, to its next hop, by pairs by which the gateway translated
-/// before or that a Retaken note of the step names. The step's own frames are, one for one and in
+/// before or that a Retaken note of the step names, and of two pairs of an endpoint by the one on a
+/// port that the gateway owns. The step's own frames are, one for one and in
 /// order, answers to Echos at hand and complaints of packets at hand. Each is of another packet
 /// still, goes to that packet's sender, and is counted at its side.
 pub fn steps_pass_on()
@@ -278,7 +279,7 @@ pub fn other_frames()
 pub fn parts_stand()
     ensures { (s : GatewayAndOutput) (event : Event) (done : GatewayAndOutput) (h : List Record)
         → Does s event done
-        → HasBytes event → IsBook s.shown.ledger.book → IsAlone s.shown → KeepsBytes s.shown
+        → HasBytes event → IsBook s.shown.ledger.book → IsLoneRightly s.shown → KeepsBytes s.shown
         → HasPushed s.shown h → (h2 : List Record) × IsStanding done.shown h2 }
 {
     readings_law();
@@ -413,8 +414,9 @@ pub fn takes_over()
 /// at a lone gateway. Else, where the peer may be asked for all such entries, the entry is closing,
 /// or gone where its pair was made alone. The pair's release is noted, and of a pair that was made
 /// alone it is so wherever the gateway isn't lone. A gateway that is apart releases no other pair.
+/// No tick releases a marked pair, of which the peer's answer is awaited.
 pub fn ticks_let_go()
-    ensures alone { (s : GatewayAndOutput) (now : ℕ) (s2 : GatewayAndOutput) (x : Entry)
+    ensures lone { (s : GatewayAndOutput) (now : ℕ) (s2 : GatewayAndOutput) (x : Entry)
         → IsStepOn s (Tick now) s2 → is_lone s.shown.ledger.book.stage ≡ true
         → HasRested s.shown.ledger s2.shown.moment x → IsLetGo s x s2 }
     ensures paired { (s : GatewayAndOutput) (now : ℕ) (s2 : GatewayAndOutput) (x : Entry)
@@ -429,6 +431,10 @@ pub fn ticks_let_go()
         → IsStepOn s (Tick now) s2 → IsBook s.shown.ledger.book → KeepsBytes s.shown
         → is_apart s2.shown ≡ true → s2.told.notes ≡ s.told.notes ++ notes
         → AllByRecursion (λ n. ReleasesAlone s.shown.ledger n.what) notes }
+    ensures marked { (s : GatewayAndOutput) (now : ℕ) (s2 : GatewayAndOutput) (x : Entry)
+        → IsStepOn s (Tick now) s2 → IsBook s.shown.ledger.book → KeepsBytes s.shown
+        → slot_of s.shown.ledger.book.entries x.pair.key ≡ Some x → is_marked x.state ≡ true
+        → NotesRelease s x.pair s2 → ⊥ }
 {
     readings_law();
 }

@@ -1,2 +1,2 @@
 -- The lemmas that crates above this one use.
-pub use Rattle.spec_trace.proofs.Plain.{fits_plain, kept_plain}
+pub use Rattle.spec_trace.proofs.Plain.{all_go_plain, fits_plain, kept_plain, was_none}

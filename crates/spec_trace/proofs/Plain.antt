@@ -93,3 +93,27 @@ fits_plain (n ∷ t) h = (
   λ f. ((fits_word n.what t h.1).0 (f.0.0, f.1.0), (fits_plain t h.1).0 (f.0.1, f.1.1)),
   λ f. let a = (fits_word n.what t h.1).1 f.0 in let b = (fits_plain t h.1).1 f.1 in ((a.0, b.0), (a.1, b.1)),
 )
+
+goes_word : (i : GatewayId) (p : Pair) (j : GatewayId) (w : NoteKind) (did : Bool) → plain.IsPlainWord w → past.goes_after i p j w did ≡ plain.goes_after i p j w did
+goes_word i p j (Used q) did h = refl
+goes_word i p j (Released q) did h = refl
+goes_word i p j (Retaken q) did h = refl
+goes_word i p j (Alone q) did h = absurd h
+goes_word i p j Synced did h = refl
+goes_word i p j Crashed did h = refl
+goes_word i p j (Booted n) did h = refl
+
+pub goes_plain : (i : GatewayId) (p : Pair) (t : List Note) → plain.IsPlain t → past.goes_on i p t ≡ plain.goes_on i p t
+goes_plain i p [] h = refl
+goes_plain i p (n ∷ t) h =
+    ap (past.goes_after i p n.by n.what) (goes_plain i p t h.1)
+    ∙ goes_word i p n.by n.what (plain.goes_on i p t) h.0
+
+pub all_go_plain : (Translates : GatewayId → Pair → Type 0) (t : List Note) → plain.IsPlain t → past.GoesOn Translates t → plain.GoesOn Translates t
+all_go_plain Translates t is goes i synced p =
+    let same : past.goes_on i p t ≡ plain.goes_on i p t = goes_plain i p t is in
+    let both : IsTrue (past.goes_on i p t) ↔ Translates i p = goes i synced p in
+    (λ h. both.0 (same ∙ h), λ h. sym same ∙ both.1 h)
+
+pub was_none : (p : Pair) (t : List Note) → plain.IsPlain t → IsTrue (past.was_alone p t) → ⊥
+was_none p t is alone = both_ways (past.was_alone p t) (none_alone p t is) alone

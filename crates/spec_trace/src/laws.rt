@@ -149,9 +149,10 @@ pub fn one_more_sentence()
         Idle (t ++ n ∷ []) ↔ past.IdleAt n.by n.at n.what (reverse t) × Idle t }
 {}
 
-/// In a trace without a note Alone no pair is private, One port and One endpoint together are Fits, and the words
-/// Agreed deletion, Open and Kept are what they are without that note.
+/// In a trace without a note Alone no pair was alone and none is private, One port and One endpoint together are Fits,
+/// and the words Agreed deletion, Open, Kept and Goes on are what they are without that note.
 pub fn none_was_alone()
+    ensures alone { (p : Pair) (t : List Note) → plain.IsPlain (reverse t) → WasAlone p t → ⊥ }
     ensures private { (i : GatewayId) (p : Pair) (t : List Note) → plain.IsPlain (reverse t) →
         IsPrivate i p t → ⊥ }
     ensures fits { (t : List Note) → plain.IsPlain (reverse t) →
@@ -162,6 +163,8 @@ pub fn none_was_alone()
         past.is_open p (reverse t) ≡ plain.is_open p (reverse t) }
     ensures kept { (holds : GatewayId → Pair → Bool) (t : List Note) → plain.IsPlain (reverse t) →
         Kept (λ i p. IsTrue (holds i p)) t ↔ plain.Kept (λ i p. IsTrue (holds i p)) (reverse t) }
+    ensures goes_on { (i : GatewayId) (p : Pair) (t : List Note) → plain.IsPlain (reverse t) →
+        past.goes_on i p (reverse t) ≡ plain.goes_on i p (reverse t) }
 {}
 
 /// While no pair is private, each open pair is held by each synced gateway, whatever was alone before.

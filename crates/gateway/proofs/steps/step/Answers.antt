@@ -12,8 +12,8 @@ returns-clause-gateway c =
     let done = scene_on c.take_event.new.forwarder c.take_event.new.page in
     let s2 = scene_on c.end_event.new.forwarder c.end_event.new.page in
     let step : IsStepOn s c.args.event s2 = record { done = done; does = c.in_ok-outcome.ensures.does; sends = c.end_event.ensures } in
-    let go = c.steps_go.ensures s c.args.event s2 g.history step c.recall_event.ensures g.book g.alone g.bytes g.pushed in
-    let keep = c.steps_keep.ensures s c.args.event s2 g.history step c.recall_event.ensures g.book g.alone g.bytes g.pushed in
+    let go = c.steps_go.ensures s c.args.event s2 g.history step c.recall_event.ensures g.book g.lone g.bytes g.pushed in
+    let keep = c.steps_keep.ensures s c.args.event s2 g.history step c.recall_event.ensures g.book g.lone g.bytes g.pushed in
     let lasts = step-lasts s c.args.event done s2 g.moment c.in_ok-outcome.ensures.does c.end_event.ensures in
     record {
       book = keep.0;

@@ -1,7 +1,7 @@
 use Rattle.std.proofs.Common.{refl}
 use Rattle.spec_binding.specs.Books.{empty_book, founded_book}
 use Rattle.spec_binding.specs.Ledgers.{sought_keys}
-use Rattle.spec_binding.proofs.Settling.{alone-accounts, begun-accounts, carried-accounts, fed-accounts, foreign-accounts, go-on-accounts, later-accounts, let-go-accounts, restarted-accounts, taken-accounts, wished-accounts}
+use Rattle.spec_binding.proofs.Settling.{lone-accounts, begun-accounts, carried-accounts, fed-accounts, foreign-accounts, go-on-accounts, later-accounts, let-go-accounts, restarted-accounts, taken-accounts, wished-accounts}
 use Rattle.spec_binding.proofs.laws.accounts_kept.Goals as goal
 
 pub returns-clause-begun : goal.returns-clause-begun
@@ -31,8 +31,8 @@ returns-clause-carried c = carried-accounts
 pub returns-clause-restarted : goal.returns-clause-restarted
 returns-clause-restarted c = restarted-accounts
 
-pub returns-clause-alone : goal.returns-clause-alone
-returns-clause-alone c = alone-accounts
+pub returns-clause-lone : goal.returns-clause-lone
+returns-clause-lone c = lone-accounts
 
 pub returns-clause-release_all : goal.returns-clause-release_all
 returns-clause-release_all c = let-go-accounts

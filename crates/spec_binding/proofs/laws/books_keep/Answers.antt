@@ -1,4 +1,4 @@
-use Rattle.spec_binding.proofs.Keeping.{change-keeps, taken-keeps, wish-keeps, idle-keeps, carry-keeps, restart-keeps, alone-keeps, fed-keeps, restart-agrees}
+use Rattle.spec_binding.proofs.Keeping.{change-keeps, taken-keeps, wish-keeps, idle-keeps, carry-keeps, restart-keeps, lone-keeps, fed-keeps, restart-agrees}
 use Rattle.spec_binding.proofs.laws.books_keep.Goals as goal
 
 pub returns-clause-change : goal.returns-clause-change
@@ -19,8 +19,8 @@ returns-clause-carried c = carry-keeps
 pub returns-clause-restarted : goal.returns-clause-restarted
 returns-clause-restarted c = restart-keeps
 
-pub returns-clause-alone : goal.returns-clause-alone
-returns-clause-alone c = alone-keeps
+pub returns-clause-lone : goal.returns-clause-lone
+returns-clause-lone c = lone-keeps
 
 pub returns-clause-fed : goal.returns-clause-fed
 returns-clause-fed c = fed-keeps

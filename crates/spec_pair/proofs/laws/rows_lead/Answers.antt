@@ -26,8 +26,8 @@ returns-clause-peer_off c = laws.off_leads
 pub returns-clause-doomed : goal.returns-clause-doomed
 returns-clause-doomed c = laws.doomed_leads
 
-pub returns-clause-alone : goal.returns-clause-alone
-returns-clause-alone c = more.alone_leads
+pub returns-clause-lone : goal.returns-clause-lone
+returns-clause-lone c = more.lone_leads
 
 pub returns-clause-promised : goal.returns-clause-promised
 returns-clause-promised c = more.promising_leads
