@@ -3,7 +3,8 @@
 use addresses::Ip;
 use cases_words::Case;
 use settings::{
-    FragmentSettings, GatewaySettings, IcmpSettings, InterfaceSettings, Neighbour, PortRange, Settings,
+    FragmentSettings, GatewaySettings, IcmpSettings, InterfaceSettings, Neighbour, PortRange,
+    Settings,
 };
 
 /// Prints the built-in settings as a settings file spells them.
