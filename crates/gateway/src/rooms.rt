@@ -93,8 +93,8 @@ pub(crate) const STOP_ROOM: Room = Room {
     notes: 0,
 };
 
-/// Returns the capacity for an ARP packet: an answer, and the packet whose wait it may end, with the
-/// octets of all that wait.
+/// Returns the capacity for an ARP packet: an answer, and the packet whose wait it may end, with
+/// the octets of all that wait.
 fn arp_room(forwarder: &Forwarder) -> Room
     ensures room { result ≡ room_for (and_kept an_arp_packet forwarder.now) }
     ensures few { result.octets ≤ most_octets }
