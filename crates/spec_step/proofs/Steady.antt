@@ -4,7 +4,6 @@ use Rattle.std.proofs.Common.{◌≡◌, ◌⊎◌, inl, inr, ℕ, Bool, true, f
 use Rattle.std.specs.List.{Contains}
 use Rattle.std.specs.Option.{option_or}
 use Rattle.std.proofs.lemmas.Bool.{cond-true}
-use Rattle.std.proofs.lemmas.List.{append-nil}
 use Rattle.std.proofs.lemmas.List.Elements.{Contains-append_left, Contains-append_right}
 use Rattle.nat_types.specs.declared.gateways.GatewayId.{GatewayId}
 use Rattle.nat_types.specs.declared.notes.Note.{Note}
@@ -23,7 +22,7 @@ use Rattle.spec_pair.specs.Talk.{note}
 use Rattle.spec_binding.specs.declared.changes.Transition.{Transition}
 use Rattle.spec_binding.specs.declared.setups.Stage.{Stage}
 use Rattle.spec_binding.specs.Books.{Book, IsBook, empty_book, is_synced}
-use Rattle.spec_binding.specs.Resets.{begun_anew, restart_notes, restarted}
+use Rattle.spec_binding.specs.Resets.{begun_anew, restarted}
 use Rattle.spec_binding.specs.Rows.{after, noted_by, row_of, taken_book, taken_what, unsynced_after}
 use Rattle.spec_binding.specs.Serving.{Stays, serving, serving_by}
 use Rattle.spec_binding.proofs.Offered.{change-leaves, restart-moves-none, taken-moves-none, unranked}

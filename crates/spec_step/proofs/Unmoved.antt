@@ -1,5 +1,5 @@
 -- No step moves an endpoint to another pair: its pair stays, where it translates, until its release is noted.
-use Rattle.std.proofs.Common.{◌≡◌, ◌⊎◌, inl, inr, ℕ, Bool, true, false, cond, ◌&&◌, List, [], ◌∷◌, ◌++◌, Option, Some, None, Result, Ok, Err, refl, sym, ap, subst, ◌∙◌, append_assoc, arith}
+use Rattle.std.proofs.Common.{◌≡◌, ◌⊎◌, inl, inr, ℕ, Bool, true, false, cond, ◌&&◌, List, [], ◌∷◌, ◌++◌, Option, Some, None, Result, Ok, Err, refl, sym, ap, subst, ◌∙◌, append_assoc}
 use Rattle.std.specs.List.{AllByRecursion, Contains}
 use Rattle.std.proofs.lemmas.List.{append-nil}
 use Rattle.std.proofs.lemmas.List.Elements.{Contains-append_left, Contains-append_right}
@@ -7,7 +7,6 @@ use Rattle.addresses.specs.declared.ethernet.Mac.{Mac}
 use Rattle.nat_types.specs.declared.gateways.GatewayId.{GatewayId}
 use Rattle.nat_types.specs.declared.gateways.Side.{Side}
 use Rattle.nat_types.specs.declared.gateways.Side.TheVariants.{Inside, Outside}
-use Rattle.nat_types.specs.declared.notes.NoteKind.{NoteKind}
 use Rattle.nat_types.specs.declared.notes.NoteKind.TheVariants.{Released}
 use Rattle.nat_types.specs.declared.notes.Note.{Note}
 use Rattle.nat_types.specs.declared.pairs.Endpoint.{Endpoint}
@@ -25,10 +24,10 @@ use Rattle.link.specs.Link.{Link, after_take, closed_at, is_due_on_tick, is_rest
 use Rattle.link.specs.Reading.{reading}
 use Rattle.link.proofs.Offered.{all_taken as all_formed, reading_takes}
 use Rattle.spec_binding.specs.declared.changes.Transition.{Transition}
-use Rattle.spec_binding.specs.Books.{Book, IsBook, empty_book, is_lone, is_synced}
+use Rattle.spec_binding.specs.Books.{IsBook, is_lone, is_synced}
 use Rattle.spec_binding.specs.Ledgers.{Ledger, lone_ledger, carried_ledger, ledger_after, may_ask, restarted_ledger, rests_for, sought_keys, taken_ledger}
-use Rattle.spec_binding.specs.Resets.{back_in, begun_anew, restart_link, restart_notes, restarted, retaken}
-use Rattle.spec_binding.specs.Rows.{after, alone_row, answered, carry_row, idle_row, is_full, noted_by, row_of, taken_answer, taken_book, taken_ended, taken_what, unsynced_after, wish_of}
+use Rattle.spec_binding.specs.Resets.{back_in, restart_link, restart_notes, retaken}
+use Rattle.spec_binding.specs.Rows.{after, alone_row, answered, carry_row, idle_row, is_full, noted_by, taken_answer, taken_book, taken_ended, taken_what, wish_of}
 use Rattle.spec_binding.specs.Serving.{Stays, serving}
 use Rattle.spec_binding.specs.WellFormed.{IsWellFormedEndpoint}
 use Rattle.spec_binding.proofs.Offered.{lone-keeps, alone-moves-none, alone-row-keeps, change-leaves, idle-keeps, idle-moves-none, restart-keeps, restart-moves-none, taken-keeps, taken-moves-none, wish-keeps, wish-moves-none, word-moves-none}
