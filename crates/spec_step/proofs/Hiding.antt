@@ -15,7 +15,7 @@ use Rattle.icmp.specs.declared.packets.ErrorFlow.{ErrorFlow}
 use Rattle.icmp.specs.Error.{inside_of}
 use Rattle.icmp.specs.Packet.{IsErrorPacket}
 use Rattle.ipv4.specs.declared.flows.Flow.{Flow}
-use Rattle.ipv4.specs.Header.{Header, IsIpv4, header_of, payload_of}
+use Rattle.ipv4.specs.Header.{Header, IsIpv4, header_of, payload_of, is_unbroken}
 use Rattle.rewrite.specs.PassedOn.{error_outward_of, own_flow, passed_on}
 use Rattle.rewrite.specs.Translated.{header_with}
 use Rattle.packet_rules.specs.declared.networks.Networks.{Networks}
@@ -30,7 +30,7 @@ use Rattle.packet_rules.specs.declared.reasons.Reason.{Reason}
 use Rattle.packet_rules.specs.declared.reasons.Reason.TheVariants.{ShortFrame, NotMine, BadHeader, BadLength, BadHeaderSum, Fragment, TtlOver, NotUdpTcp, BadTransport, BadArp, BadAdvert, NotUp, NoBinding, NoPort, CannotWait, BadDatagram, OldWord, HostLimit, TooLong, TooMany}
 use Rattle.packet_rules.specs.Asked.{IsAskable, is_asked}
 use Rattle.packet_rules.specs.Networks.{IsPlaced, IsWired, may_answer, mtu_of}
-use Rattle.packet_rules.specs.Own.{HidesHosts, answer_frame, complaint_about, complaint_frame, complaint_of, is_told, is_unbroken}
+use Rattle.packet_rules.specs.Own.{HidesHosts, answer_frame, complaint_about, complaint_frame, complaint_of, is_told}
 use Rattle.packet_rules.specs.Steps.{IsPassable}
 use Rattle.output.specs.Output.{Sent}
 use Rattle.spec_step.specs.Machine.{AreBytes}
