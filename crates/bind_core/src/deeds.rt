@@ -331,7 +331,12 @@ pub(crate) fn is_carried(entry: Option<Entry>, pair: Pair) -> bool
     ensures { result ≡ is_carried_by entry pair }
 {
     match entry {
-        Some(entry) => entry.translates() && is_same_pair(entry.pair, pair),
+        Some(entry) => match entry.state {
+            EntryState::Pending { marked: false }
+            | EntryState::Closing { marked: false }
+            | EntryState::Doomed => false,
+            _ => is_same_pair(entry.pair, pair),
+        },
         None => false,
     }
 }

@@ -18,16 +18,6 @@ pub struct Entry {
     pub state: EntryState,
 }
 
-impl Entry {
-    /// Whether packets are translated by the pair: a Live, Alone or Held one, and a marked one.
-    #[inline(always)]
-    pub fn translates(self) -> bool
-        ensures { result ≡ translates self.state }
-    {
-        is_translating(self.state)
-    }
-}
-
 /// The first and the last port of a range.
 #[derive(Clone, Copy, Debug, PartialEq, Eq)]
 pub struct PortBounds {
@@ -90,7 +80,6 @@ pub(crate) fn is_pair_state(state: EntryState) -> bool
     }
 }
 
-#[inline(always)]
 pub(crate) fn is_translating(state: EntryState) -> bool
     ensures { result ≡ translates state }
 {

@@ -290,6 +290,14 @@ impl Table {
         }
     }
 
+    /// Returns how many entries wait for an answer of the peer without a mark: the Pending and Closing ones that don't
+    /// translate. It takes no walk over the entries.
+    pub fn waiting_count(&self) -> usize
+        ensures { result ≡ state_count waits self.now.entries }
+    {
+        self.store.count(Sought::ToMark)
+    }
+
     /// Returns the first entry after a key in the order by protocol (icmp first) and port that waits for an answer
     /// without a mark, or the first of all such for None. Where none waits at all, it takes no walk over the entries.
     pub fn waiting_after(&self, last: Option<Key>) -> Option<Entry>

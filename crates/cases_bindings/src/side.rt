@@ -325,10 +325,14 @@ impl Side {
     /// synced. None where there is no such pair.
     pub(crate) fn inbound(&self, key: Key) -> Option<Endpoint> {
         let entry = self.core.table().pair_of_port(key)?;
-        if entry.translates() && self.core.is_synced() {
-            Some(entry.pair.endpoint)
-        } else {
-            None
+        match entry.state {
+            EntryState::Live
+            | EntryState::Held
+            | EntryState::Alone
+            | EntryState::Pending { marked: true }
+            | EntryState::Closing { marked: true }
+                if self.core.is_synced() => { Some(entry.pair.endpoint) }
+            _ => None,
         }
     }
 

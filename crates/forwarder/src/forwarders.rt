@@ -4,7 +4,7 @@ ghost use Rattle.packet_rules.specs.Asked.{IsWhole};
 ghost use Rattle.packet_rules.specs.declared.reasons.Reason.TheVariants.{TooLong, TtlOver};
 ghost use Rattle.packet_rules.specs.Steps.{Carries};
 ghost use Rattle.spec_step.specs.GivingWay.{turn_of};
-ghost use Rattle.spec_step.specs.Shown.{has_side_out, is_running, is_up, is_whole, serves};
+ghost use Rattle.spec_step.specs.Shown.{has_side_out, is_apart, is_running, is_up, is_whole, serves};
 ghost use Rattle.spec_step.specs.Shown.{station_on};
 ghost use Rattle.spec_step.specs.Verdict.{arrival_on, reading_on};
 ghost use Rattle.forwarder.specs.Forwarder.{shown_of};
@@ -58,6 +58,14 @@ impl Forwarder {
         ensures { result ≡ is_running (shown_of self.now) }
     {
         self.is_up() && !self.away
+    }
+
+    /// Whether the gateway goes on without the other one: it is synced and not lone, and the other
+    /// one hasn't answered for the time that the settings say.
+    pub fn is_apart(&self) -> bool
+        ensures { result ≡ is_apart (shown_of self.now) }
+    {
+        self.core.is_apart(&self.link, self.moment)
     }
 
     /// Whether both sides are whole.

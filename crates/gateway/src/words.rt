@@ -25,9 +25,9 @@ fn word_refusal(forwarder: &Forwarder, boot: u64) -> Option<Reason>
     }
 }
 
-/// Becomes lone: ends the link's session, revives the pairs, and takes the packets that waited for
+/// Goes on alone: ends the link's session, revives the pairs, and takes the packets that waited for
 /// pairs again.
-fn become_lone(forwarder: &mut Forwarder, page: &mut OutputBuffer, boot: u64, list: Vec<HeldPacket>)
+fn go_alone(forwarder: &mut Forwarder, page: &mut OutputBuffer, boot: u64, list: Vec<HeldPacket>)
     requires heard { word_refusal (shown_of forwarder.old) boot ≡ None }
     requires empty { list.items ≡ [] }
     requires list { length forwarder.old.kept ≤ vec_capacity list }
@@ -66,7 +66,7 @@ pub(crate) fn take_word(
     match word_refusal(forwarder, boot) {
         Some(reason) => Outcome::Dropped(reason),
         None => {
-            become_lone(forwarder, page, boot, list);
+            go_alone(forwarder, page, boot, list);
             Outcome::Done
         }
     }
