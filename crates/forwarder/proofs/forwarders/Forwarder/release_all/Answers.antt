@@ -22,8 +22,8 @@ next-octets all n m w below is more =
     let next : drop n all ≡ w ∷ drop m all = drop-cons all n w below ∙ ap (λ (v : HeldPacket). v ∷ drop (suc n) all) (sym is) ∙ ap (λ (k : ℕ). w ∷ drop k all) (sym more) in
     ap octets_in next ∙ sum_by-cons (λ (v : HeldPacket). beyond (length v.bytes)) w (drop m all)
 
-pub take_again-requires-clause-room : goal.take_again-requires-clause-room
-take_again-requires-clause-room c =
+pub take_again-requires : goal.take_again-requires
+take_again-requires c =
     let all : List HeldPacket = ended_by AllPairs c.args.self.now.kept in
     let gives = c.into_iter-packet-iterator.ensures.into_iter_gives in
     let items : c.take_ended.new.list.items ≡ all = c.take_ended.ensures.taken ∙ ap (λ (ws : List HeldPacket). ws ++ all) c.requires.empty in
@@ -33,10 +33,12 @@ take_again-requires-clause-room c =
     let inv = c.loop-packet.invariant in
     let next = next-octets all (length c.loop-packet.yielded) (suc (length c.loop-packet.yielded)) c.in-Some.packet turn.0 turn.1 refl in
     record {
-      frames = omega (arith, turn.0, few, inv.frames, c.requires.room.frames);
-      octets = omega (arith, next, inv.octets, c.requires.room.octets);
-      notes = omega (arith, turn.0, few, inv.notes, c.requires.room.notes);
-      pairs = omega (arith, turn.0, few, inv.ready, c.requires.room.pairs);
+      room = record {
+        frames = omega (arith, turn.0, few, inv.frames, c.requires.room.frames);
+        octets = omega (arith, next, inv.octets, c.requires.room.octets);
+        notes = omega (arith, turn.0, few, inv.notes, c.requires.room.notes);
+        pairs = omega (arith, turn.0, few, inv.ready, c.requires.room.pairs);
+      };
     }
 
 pub loop-packet-preserved : goal.loop-packet-preserved

@@ -2,14 +2,16 @@ use Rattle.std.proofs.Common.{arith, refl}
 use Rattle.forwarder.proofs.Taking.{no-octets, one-octets}
 use Rattle.forwarder.proofs.forwarders.Forwarder.release_one.Goals as goal
 
-pub take_again-requires-clause-room : goal.take_again-requires-clause-room
-take_again-requires-clause-room c =
+pub take_again-requires : goal.take_again-requires
+take_again-requires c =
     let one = one-octets c.args.self.now.kept c.take_one.new.self c.take_one.result c.in-Some.packet c.in-Some.is c.take_one.ensures.octets in
     record {
-      frames = c.requires.room.frames;
-      octets = omega (arith, one, c.requires.room.octets);
-      notes = c.requires.room.notes;
-      pairs = c.requires.room.pairs;
+      room = record {
+        frames = c.requires.room.frames;
+        octets = omega (arith, one, c.requires.room.octets);
+        notes = c.requires.room.notes;
+        pairs = c.requires.room.pairs;
+      };
     }
 
 pub returns-in-Some-clause-spends : goal.returns-in-Some-clause-spends

@@ -1,7 +1,7 @@
 use Rattle.std.proofs.Common.{◌≡◌, List, length, Ok, Err, ap, sym, ◌∙◌}
 use Rattle.nat_types.specs.declared.gateways.Side.{Side}
 use Rattle.nat_types.specs.declared.pairs.Endpoint.{Endpoint}
-use Rattle.waiting.specs.declared.waits.WaitsFor.TheVariants.{Hop}
+use Rattle.waiting.specs.declared.waits.WaitsFor.TheVariants.{Hop, Pair}
 use Rattle.waiting.specs.Packets.{HeldPacket, has_place}
 use Rattle.packet_rules.specs.Flows.{source_of}
 use Rattle.packet_rules.specs.Networks.{exit_of}
@@ -35,6 +35,12 @@ ask-requires-clause-place c =
     ∙ ap (λ (w : HeldPacket). has_place c.args.self.now.kept w.wait) c.in_ok-copy-in-Ok-Ask.ensures.packet
     ∙ ap (λ (s : Side). has_place c.args.self.now.kept (Hop s c.in-Ok-Ask.hop)) exit
     ∙ holds.1
+
+pub wait-requires-clause-wait : goal.wait-requires-clause-wait
+wait-requires-clause-wait c =
+    let made = plan-made c.in-Ok-Wait.is c.in-Ok-Wait.field-0-is c.plan.ensures in
+    let holds = plan-holds (shown_of c.args.self.now) c.args.side c.args.packet.flow c.args.packet.size (Ok (WaitFor c.in-Ok-Wait.endpoint)) (sym made) in
+    ap (λ (w : HeldPacket). w.wait) c.in_ok-copy-in-Ok-Wait.ensures.packet ∙ ap Pair holds.1
 
 pub wait-requires-clause-place : goal.wait-requires-clause-place
 wait-requires-clause-place c =
