@@ -1,5 +1,5 @@
 -- A frame that comes in, and is read, is read as a whole frame is.
-use Rattle.std.proofs.Common.{◌≡◌, ℕ, Option, Some, None, Result, Ok, List}
+use Rattle.std.proofs.Common.{◌≡◌, ℕ, Option, Some, None, Ok, List}
 use Rattle.nat_types.specs.declared.gateways.Side.{Side}
 use Rattle.packet_rules.specs.declared.readings.Reading.{Reading}
 use Rattle.packet_rules.specs.declared.reasons.Reason.{Reason}

@@ -1,7 +1,7 @@
 -- What a plan to wait says. Of a packet that waits for a pair: whose pair, and that there is a place. Of one whose next
 -- hop is asked for: its way, its pairs, and that no hardware address is known for that host. Of one that waits for that
 -- hop: that there is a place.
-use Rattle.std.proofs.Common.{◌≡◌, ℕ, Bool, true, false, cond, Option, Some, None, Result, Ok, Err, refl}
+use Rattle.std.proofs.Common.{◌≡◌, Bool, true, false, cond, Option, Some, None, Result, Ok, Err, refl}
 use Rattle.addresses.specs.declared.ethernet.Mac.{Mac}
 use Rattle.addresses.specs.declared.internet.Ip.{Ip}
 use Rattle.addresses.specs.declared.transport.Port.{Port}

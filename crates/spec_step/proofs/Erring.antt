@@ -1,7 +1,7 @@
 -- What a plan says of an error. Of an error that is sent: its way, its pairs, and that its next hop is known. Of one
 -- whose next hop is asked for: its way, its pairs, and that no hardware address is known for that host. Of one that
 -- waits for that hop: that there is a place. No error waits for a pair.
-use Rattle.std.proofs.Common.{◌≡◌, ◌≢◌, ℕ, Bool, true, false, cond, Option, Some, None, Result, Ok, Err, List, [], refl, sym, ap, ◌∙◌, inl}
+use Rattle.std.proofs.Common.{◌≡◌, ◌≢◌, Bool, true, false, cond, Option, Some, None, Result, Ok, Err, List, [], refl, sym, ap, ◌∙◌, inl}
 use Rattle.std.specs.List.{AllByRecursion}
 use Rattle.addresses.specs.declared.ethernet.Mac.{Mac}
 use Rattle.addresses.specs.declared.internet.Ip.{Ip}
