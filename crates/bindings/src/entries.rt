@@ -21,8 +21,8 @@ pub struct Entry {
 impl Entry {
     /// Whether packets are translated by the pair: a Live, Alone or Held one, and a marked one.
     #[inline(always)]
-    pub fn translates(self) -> bool
-        ensures { result ≡ translates self.state }
+    pub fn translates(&self) -> bool
+        ensures { result ≡ translates self.now.state }
     {
         is_translating(self.state)
     }
