@@ -17,7 +17,7 @@ returns-clause-gateway c =
     let lasts = step-lasts s c.args.event done s2 g.moment c.in_ok-outcome.ensures.does c.end_event.ensures in
     record {
       book = keep.0;
-      alone = keep.1.0;
+      lone = keep.1.0;
       bytes = keep.1.1;
       moment = lasts.moment;
       history = go.history;
