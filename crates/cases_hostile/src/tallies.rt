@@ -31,6 +31,13 @@ impl Tally {
         }
     }
 
+    /// Adds the counts of another tally.
+    pub(crate) fn add(&mut self, other: &Tally) {
+        for (times, more) in self.0.iter_mut().zip(other.0.iter()) {
+            *times = times.saturating_add(*more);
+        }
+    }
+
     fn tell(&self, case: &mut Case) {
         for (place, times) in self.0.iter().enumerate() {
             if *times != 0 {
