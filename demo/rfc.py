@@ -1,12 +1,9 @@
 """What the standards ask, measured on the running pair from outside, and held against docs/RFC.md."""
 
-import contextlib
 import functools
 import math
 import signal
-import tempfile
 import time
-from pathlib import Path
 from typing import NamedTuple
 
 import rfc_page
@@ -21,7 +18,7 @@ from rfc_packets import AT_A_BOX
 from rfc_pings import OF_PINGS, Pings, through_a_kill
 from rfc_programs import at_a_narrow_side, by_programs
 from rfc_routers import BY_THE_TABLE, ended, on_the_wire, taken_over
-from scene import scene, show
+from scene import scene, settings_with, show
 
 # What a settings file has in the place of what stands in the demo's: two ports, sides that take 1,400 bytes, and no `[icmp]`.
 TWO_PORTS = ("zero = [20000, 39999]", "zero = [20000, 20001]")
@@ -72,20 +69,6 @@ class Fresh:
 
     def __call__(self, lines=()):
         return self.make(lines)
-
-
-@contextlib.contextmanager
-def settings_with(*changes):
-    """A settings file that is the demo's but for these changes, each a text and what stands in its place."""
-    text = SETTINGS.read_text(encoding="utf-8")
-    for old, new in changes:
-        if old not in text:
-            raise SystemExit(f"demo: {SETTINGS.name} has no {old!r}")
-        text = text.replace(old, new)
-    with tempfile.TemporaryDirectory(prefix="natpair-rfc-") as folder:
-        file = Path(folder) / SETTINGS.name
-        file.write_text(text, encoding="utf-8")
-        yield file
 
 
 def by_sim(options, report):
