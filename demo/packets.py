@@ -207,7 +207,7 @@ def joined(packets):
         body += packet.payload
     size = len(found[0].options) + 20
     frame = found[0].frame
-    return Packet(frame[:14] + fragment_of(frame[14 : 14 + size], 0, body))
+    return Packet(frame[:14] + fragment_of(frame[14 : 14 + size], found[0].fragment & DONT_FRAGMENT, body))
 
 
 def wholes(frames):
