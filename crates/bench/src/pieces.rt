@@ -72,10 +72,9 @@ impl Datagram {
 
     /// Gives a gateway the fragments, and returns whether the datagram was sent on with the last of them.
     fn is_sent<G: Gate>(&self, station: &mut Station<G>, case: &mut Case) -> bool {
-        let [first, second, last] = &self.frames;
-        station.hand(self.side, first, PIECES[0].size, case);
-        station.hand(self.side, second, PIECES[1].size, case);
-        station.hand(self.side, last, PIECES[2].size, case) == Outcome::Sent
+        station.hand(self.side, &self.frames[0], PIECES[0].size, case);
+        station.hand(self.side, &self.frames[1], PIECES[1].size, case);
+        station.hand(self.side, &self.frames[2], PIECES[2].size, case) == Outcome::Sent
     }
 }
 

@@ -33,8 +33,8 @@ impl Tally {
 
     /// Adds the counts of another tally.
     pub(crate) fn add(&mut self, other: &Tally) {
-        for (times, more) in self.0.iter_mut().zip(other.0.iter()) {
-            *times = times.saturating_add(*more);
+        for place in 0..KINDS {
+            self.0[place] = self.0[place].saturating_add(other.0[place]);
         }
     }
 
