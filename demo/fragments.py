@@ -32,9 +32,9 @@ NARROW = ('router = "192.0.2.254"', f'router = "192.0.2.254"\nmtu = {WIDTH}')
 LENGTHS = (1374, 1472, 3000, 65_400)
 # In `kill` each host asks so often, by so many bytes. A ping may last for so long.
 LARGE, AGAIN, LONG_RUN = 3000, 0.02, ("-c", "160", "-i", "0.05", "-W", "1", "-s", "3000")
-# Two hosts' ends send so many datagrams each, one after so many seconds, all under one identification; without a pair so many
-# are enough.
-ENDS, EACH, EACH_AGAIN, ALONE, IDENTIFICATION = ((HOSTS[0], 6001), (HOSTS[1], 6002)), 200, 0.01, 50, 0x1234
+# Two hosts' ends send so many datagrams each, one after so many seconds, all under one identification. Through a lossy cable
+# such a share of them has to come; without a pair so many are enough.
+ENDS, EACH, EACH_AGAIN, COME, ALONE, IDENTIFICATION = ((HOSTS[0], 6001), (HOSTS[1], 6002)), 200, 0.01, 0.9, 50, 0x1234
 # The plain traffic: questions a second, for how long, and how often with `pass` and without. With it the gate may take so
 # much more of a processor at most: times differ by much from run to run, and bench/gateway.py counts instructions.
 RATE, SECONDS, TURNS, MORE = 5000, 4.0, 3, 1.5
@@ -238,7 +238,7 @@ def send_from_both(current, raw, both, count):
 
 
 def identification(current):
-    """Two hosts use one identification towards one receiver."""
+    """Two hosts use one identification towards one receiver, behind a network that loses and turns round."""
     server, raw = Server(current, False), Raw(current, current.networks.host)
     send_from_both(current, Raw(current, current.networks.router), ((BEYOND, 6001), (BEYOND, 6002)), ALONE)
     yield (f"without a pair, by one address: of {2 * ALONE} datagrams some are joined wrongly", f"{server.wrong} wrong",
@@ -246,15 +246,16 @@ def identification(current):
     # The first packet of each waits for its pair.
     send_from_both(current, raw, ENDS, 1)
     server.right, server.wrong = [], 0
-    wires, cut = Wires(current), more(current, "outside", "cut")
+    cable, wires, cut = Lossy(current, "outside", "router", 3), Wires(current), more(current, "outside", "cut")
     send_from_both(current, raw, ENDS, EACH)
-    right = len(set(server.right))
-    yield f"through the pair all {2 * EACH} come as they were", f"{right}, {server.wrong} wrong", (
-        right == len(server.right) == 2 * EACH and server.wrong == 0)
-    names = wires.cut_outward(0)
-    yield "outside each has an identification of its own", f"{len(set(names))}", len(set(names)) == len(names) == 2 * EACH
-    said = cut()
+    names, said, right = wires.cut_outward(0), cut(), len(set(server.right))
+    yield f"{2 * EACH} leave the pair, each under an identification of its own", f"{len(set(names))}", (
+        len(set(names)) == len(names) == 2 * EACH)
     yield "so many packets box 0 says it has cut", str(said), said == 2 * EACH
+    changed = cable.end()[1:]
+    yield "then fragments are lost, doubled, late", ", ".join(map(str, changed)), all(changed)
+    yield (f"{COME:.0%} come all the same, and none is joined wrongly", f"{right}, {server.wrong} wrong",
+           right >= COME * 2 * EACH and server.wrong == 0)
 
 
 def plain_turn(options, passes):

@@ -14,6 +14,8 @@ LARGE = b"large"
 # datagrams may be cut.
 RAW = 255
 IP_MTU_DISCOVER, MAY_CUT = 10, 0
+# How a socket says that its datagrams have no checksum: who joins fragments of two then sees a text, and not nothing.
+SO_NO_CHECK = 11
 # An answer comes within so many seconds, or never; each flow has its pair within so many.
 LATE, PATIENCE = 1.0, 20
 
@@ -34,10 +36,11 @@ def numbers_of(text):
 
 
 def datagrams(space, place):
-    """A socket of a namespace for datagrams that may be cut."""
+    """A socket of a namespace for datagrams that may be cut and have no checksum."""
     with space.entered():
         sock = socket.socket(socket.AF_INET, socket.SOCK_DGRAM)
     sock.setsockopt(socket.SOL_SOCKET, SO_RCVBUFFORCE, ROOM)
+    sock.setsockopt(socket.SOL_SOCKET, SO_NO_CHECK, 1)
     sock.setsockopt(socket.IPPROTO_IP, IP_MTU_DISCOVER, MAY_CUT)
     sock.setblocking(False)
     sock.bind(place)
@@ -141,8 +144,7 @@ class Raw:
 
 
 def parts_of(source, text, identification):
-    """A datagram of this text to the server, in fragments. It has no checksum, so that whoever joins fragments of two sees a
-    text, and not nothing."""
+    """A datagram of this text to the server, in fragments and without a checksum."""
     datagram = udp(source, (SERVER, PORT), text)
     header = PLAIN._replace(identification=identification)
     return cut(ipv4(source[0], SERVER, UDP, datagram[:6] + bytes(2) + datagram[8:], header))
