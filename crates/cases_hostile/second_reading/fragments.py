@@ -156,3 +156,45 @@ def cut(frame, most, identification=None):
         piece[6:8] = wire.two(word | (MORE if start + len(part) < len(body) else 0))
         pieces.append(frame[:ETHERNET] + summed(piece) + part)
     return pieces
+
+
+def sample(start, stop, is_last=False, source=1, change=0):
+    """A fragment of a sample datagram, from one byte of its payload up to another one."""
+    head = bytearray(20)
+    head[0], head[8], head[9], head[15] = 0x45, 64, wire.UDP, source
+    head[2:4] = wire.two(20 + stop - start)
+    head[6:8] = wire.two(start // 8 | (0 if is_last else MORE))
+    return bytes(12) + wire.IPV4 + summed(head) + bytes((place + change) % 251 for place in range(start, stop))
+
+
+def outcomes_of(*frames):
+    """What each of these comes to, at a side without fragments: refused, held, or the length of the whole packet."""
+    gathering = Gathering()
+    came = [gathering.take(frame, 0) for frame in frames]
+    return [each if isinstance(each, str) else len(each) - ETHERNET for each in came]
+
+
+def self_test():
+    """What contradicts, what is there already, what is broken, too many, too old and too long."""
+    three = first, middle, last = sample(0, 16), sample(16, 32), sample(32, 48, True)
+    for there, those in ((first, ((8, 24), (0, 24), (0, 8), (8, 48), (0, 48), (8, 16, True))),
+                         (last, ((48, 64), (48, 64, True), (24, 40), (32, 40, True))),
+                         (middle, ((8, 16, True), (8, 12, True)))):
+        others = [each for each in three if each != there]
+        for words in those:
+            assert outcomes_of(there, sample(*words), *others) == [HELD, REFUSED, HELD, HELD], words
+    assert outcomes_of(first, sample(0, 16, change=1), middle, last) == [HELD, REFUSED, HELD, HELD]
+    assert outcomes_of(first, first, middle, middle, last, last) == [HELD, REFUSED, HELD, REFUSED, 68, HELD]
+    assert outcomes_of(sample(0, 0), sample(0, 15), last, middle, first) == [REFUSED, REFUSED, HELD, HELD, 68]
+    many = [sample(8 * place, 8 * place + 8) for place in range(65)]
+    assert outcomes_of(*many, sample(520, 528, True))[63:] == [HELD, REFUSED, HELD]
+    long = [sample(place, min(place + 1480, 65_515), place + 1480 >= 65_515) for place in range(0, 65_515, 1480)]
+    assert outcomes_of(*long)[-1] == LONGEST
+    assert outcomes_of(*long[:-1], sample(65_120, 65_516, True))[-1] == REFUSED
+    gathering = Gathering()
+    assert all(gathering.take(sample(0, 16, source=number), 0) == HELD for number in range(65))
+    assert len(gathering.datagrams) == OF_A_SIDE and gathering.datagrams[0].source[-1] == 1
+    gathering.drop_old(LIFE - 1)
+    assert len(gathering.datagrams) == OF_A_SIDE
+    gathering.drop_old(LIFE)
+    assert not gathering.datagrams
