@@ -1,0 +1,82 @@
+-- A payload into which fragments are written one after another, the last of the list first.
+use Rattle.std.proofs.Common.{◌≡◌, ◌⊎◌, inl, inr, ℕ, zero, suc, ◌+◌, ◌-◌, ◌<◌, ◌≤◌, Bool, true, false, cond, ◌&&◌, nat_lt, nat_le, List, [], ◌∷◌, ◌++◌, length, take, drop, replicate, map, get_or, refl, ap, ap₂, ◌∙◌, sym, subst, arith, length-append}
+use Rattle.std.specs.List.{range_with_len}
+use Rattle.std.proofs.lemmas.Bool.{cases_lt, and_from, and_left, and_right, lt-ltb, le-ltb, le-leb, lt-leb}
+use Rattle.std.proofs.lemmas.List.{get_or_append_left, get_or-append_right, get_or-take, get_or-drop, length-take-le, length-drop}
+use Rattle.std.proofs.lemmas.List.FromFn.{fill_by_all, get_or-map-range_with_len, length-map-range_with_len}
+use Rattle.frames.specs.Bytes.{Puts}
+use Rattle.fragments.specs.Fragment.{carried, carries, end_of, first_of}
+use Rattle.fragments.specs.Whole.{byte_at}
+
+-- bytes written at a place: what stands where
+put-get : (at k : ℕ) (bytes old : List ℕ) → at + length bytes ≤ length old
+    → get_or (take at old ++ bytes ++ drop (at + length bytes) old) k 0 ≡ cond (nat_le at k && nat_lt k (at + length bytes)) (get_or bytes (k - at) 0) (get_or old k 0)
+put-get at k bytes old fits = by (cases_lt k at) (cases_lt k (at + length bytes))
+  where
+    Goal : ℕ → Type 0
+    Goal x = x ≡ cond (nat_le at k && nat_lt k (at + length bytes)) (get_or bytes (k - at) 0) (get_or old k 0)
+
+    front : length (take at old) ≡ at
+    front = length-take-le at old (omega (arith, fits))
+
+    two : length (take at old ++ bytes) ≡ at + length bytes
+    two = length-append (take at old) bytes ∙ ap (λ (n : ℕ). n + length bytes) front
+
+    rest : List ℕ
+    rest = drop (at + length bytes) old
+
+    outside : (nat_le at k && nat_lt k (at + length bytes)) ≡ false → get_or (take at old ++ bytes ++ rest) k 0 ≡ get_or old k 0 → Goal (get_or (take at old ++ bytes ++ rest) k 0)
+    outside no same = same ∙ sym (ap (λ (b : Bool). cond b (get_or bytes (k - at) 0) (get_or old k 0)) no)
+
+    inside : (nat_le at k && nat_lt k (at + length bytes)) ≡ true → get_or (take at old ++ bytes ++ rest) k 0 ≡ get_or bytes (k - at) 0 → Goal (get_or (take at old ++ bytes ++ rest) k 0)
+    inside yes same = same ∙ sym (ap (λ (b : Bool). cond b (get_or bytes (k - at) 0) (get_or old k 0)) yes)
+
+    by : (k < at) ⊎ (at ≤ k) → (k < at + length bytes) ⊎ (at + length bytes ≤ k) → Goal (get_or (take at old ++ bytes ++ rest) k 0)
+    by (inl before) _ =
+        outside (and_left _ _ (lt-leb at k before))
+        (get_or_append_left (take at old ++ bytes) rest 0 k (omega (arith, two, before))
+        ∙ (get_or_append_left (take at old) bytes 0 k (omega (arith, front, before)) ∙ get_or-take at old k 0 before))
+    by (inr from) (inl here) =
+        inside (and_from _ _ (le-leb at k from) (lt-ltb k (at + length bytes) here))
+        (get_or_append_left (take at old ++ bytes) rest 0 k (omega (arith, two, here))
+        ∙ get_or-append_right (take at old) bytes at k 0 front from)
+    by (inr from) (inr behind) =
+        outside (and_right _ _ (le-ltb k (at + length bytes) behind))
+        (get_or-append_right (take at old ++ bytes) rest (at + length bytes) k 0 two behind
+        ∙ (get_or-drop (at + length bytes) old (k - (at + length bytes)) 0
+        ∙ ap (λ (n : ℕ). get_or old n 0) (let n : at + length bytes + (k - (at + length bytes)) ≡ k = omega (arith, behind) in n)))
+
+length-put : (at : ℕ) (bytes old : List ℕ) → at + length bytes ≤ length old → length (take at old ++ bytes ++ drop (at + length bytes) old) ≡ length old
+length-put at bytes old fits = omega (
+  arith,
+  length-append (take at old ++ bytes) (drop (at + length bytes) old),
+  length-append (take at old) bytes,
+  length-take-le at old (omega (arith, fits)),
+  length-drop (at + length bytes) old,
+  fits,
+)
+
+-- the bytes of these fragments, up to a place
+abbrev pub bytes_to : ℕ → List (List ℕ) → List ℕ
+bytes_to n fragments = map (byte_at fragments) (range_with_len 0 n)
+
+-- one more fragment is written before the others
+pub filled-more : (n : ℕ) (f : List ℕ) (fs : List (List ℕ)) (old new : List ℕ) → end_of f ≤ n → old ≡ bytes_to n fs → Puts (first_of f) (carried f) old new → new ≡ bytes_to n (f ∷ fs)
+unfolding carries
+filled-more n f fs old new within was put =
+    let size : length old ≡ n = ap length was ∙ length-map-range_with_len (byte_at fs) 0 n in
+    let fits : first_of f + length (carried f) ≤ length old = omega (arith, within, size) in
+    let long : length new ≡ n = ap length put ∙ length-put (first_of f) (carried f) old fits ∙ size in
+    fill_by_all (byte_at (f ∷ fs)) new n 0 long
+    (λ k below. ap (λ (xs : List ℕ). get_or xs k 0) put
+    ∙ (put-get (first_of f) k (carried f) old fits
+    ∙ ap (λ (x : ℕ). cond (carries k f) (get_or (carried f) (k - first_of f) 0) x)
+    (ap (λ (xs : List ℕ). get_or xs k 0) was ∙ get_or-map-range_with_len (byte_at fs) 0 n k k 0 below (omega arith))))
+
+-- no fragment is written yet
+zeros : (f : ℕ → ℕ) (a n : ℕ) → ((k : ℕ) → f k ≡ 0) → replicate n 0 ≡ map f (range_with_len a n)
+zeros f a zero none = refl
+zeros f a (suc n) none = ap₂ (λ (x : ℕ) (xs : List ℕ). x ∷ xs) (sym (none a)) (zeros f (a + 1) n none)
+
+pub filled-none : (n : ℕ) → replicate n 0 ≡ bytes_to n []
+filled-none n = zeros (byte_at []) 0 n (λ k. refl)

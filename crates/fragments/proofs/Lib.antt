@@ -1,0 +1,11 @@
+mod Counting
+mod Filling
+mod Grammar
+mod Keeping
+mod Later
+mod Making
+mod Orders
+mod Placing
+mod Sizes
+mod Spelling
+mod Trimming

@@ -1,0 +1,20 @@
+//! Fragments of IPv4 packets: put together to whole packets as they come, and cut where a packet is too long.
+#![tactic(auto)]
+
+mod appending;
+mod copies;
+mod cuts;
+mod datagrams;
+mod gatherings;
+mod headers;
+mod laws;
+mod names;
+mod options;
+mod views;
+mod wholes;
+
+pub use cuts::{append_piece, piece_count};
+pub use gatherings::{Came, Gathering};
+pub use laws::fragment_grammar;
+pub use names::Name;
+pub use views::is_fragment;
