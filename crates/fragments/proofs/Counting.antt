@@ -100,7 +100,7 @@ count-most p (f ∷ fs) most = by (p f) refl (count-most p fs most.1)
     by true is rest = omega (arith, count-cons p f fs, ap tally is, count-none p fs (most.0 is))
     by false is rest = omega (arith, count-cons p f fs, ap tally is, rest)
 
-all-of : {X : Type 0} (P Q : X → Type 0) → ((x : X) → P x → Q x) → (xs : List X) → AllByRecursion P xs → AllByRecursion Q xs
+pub all-of : {X : Type 0} (P Q : X → Type 0) → ((x : X) → P x → Q x) → (xs : List X) → AllByRecursion P xs → AllByRecursion Q xs
 all-of P Q more [] all = tt
 all-of P Q more (x ∷ xs) all = (more x all.0, all-of P Q more xs all.1)
 

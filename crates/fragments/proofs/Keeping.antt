@@ -441,6 +441,6 @@ pub taken-kept : (now : ℕ) (frame : List ℕ) (ds : List Datagram) → IsFragm
 unfolding taken
 taken-kept now frame ds is kept = by (is_broken (trimmed frame)) refl
   where
-    by : (b : Bool) → is_broken (trimmed frame) ≡ b → AreKept (cond b (refused ds) (arrived now (trimmed frame) (find (is_named (name_of (trimmed frame))) ds) ds)).left
+    by : (b : Bool) → is_broken (trimmed frame) ≡ b → AreKept (cond b (refused None ds) (arrived now (trimmed frame) (find (is_named (name_of (trimmed frame))) ds) ds)).left
     by true broken = kept
     by false fine = kept-taken now (trimmed frame) ds (trimmed-fragment frame is) fine kept

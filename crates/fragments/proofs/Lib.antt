@@ -1,4 +1,7 @@
+mod ByPlace
+mod Bytes
 mod Counting
+mod Cutting
 mod Filling
 mod Grammar
 mod Keeping
@@ -6,6 +9,9 @@ mod Later
 mod Making
 mod Orders
 mod Placing
+mod Ranges
+mod Shares
 mod Sizes
 mod Spelling
 mod Trimming
+pub mod Offered

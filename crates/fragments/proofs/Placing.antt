@@ -1,8 +1,9 @@
 -- The first item of a list that passes a test: found, taken out, changed, by its position.
-use Rattle.std.proofs.Common.{◌≡◌, ℕ, zero, suc, ◌+◌, ◌<◌, ◌≤◌, Bool, true, false, not, cond, nat_lt, Option, Some, None, List, [], ◌∷◌, ◌++◌, length, get_or, set, refl, ap, ◌∙◌, sym, subst, arith}
-use Rattle.std.specs.List.{find, position, position_or_len, remove}
+use Rattle.std.proofs.Common.{◌≡◌, ℕ, zero, suc, ◌+◌, ◌<◌, ◌≤◌, Bool, true, false, not, cond, ◌||◌, nat_lt, Option, Some, None, List, [], ◌∷◌, ◌++◌, length, get_or, set, refl, ap, ◌∙◌, sym, subst, arith}
+use Rattle.std.specs.List.{count_by, find, list_any, position, position_or_len, remove}
 use Rattle.std.proofs.lemmas.Bool.{ltb-false}
 use Rattle.std.proofs.lemmas.List.Quantifiers.{position-Some}
+use Rattle.std.proofs.lemmas.List.Sums.{sum_by-cons}
 use Rattle.fragments.specs.Gathered.{with_first, without_first}
 
 -- the item at this index is the first that passes
@@ -78,3 +79,55 @@ none-removed p xs none = unremoved p xs (past-none p xs none)
 
 pub none-found : {X : Type 0} (p : X → Bool) (xs : List X) → position p xs ≡ None → find p xs ≡ None
 none-found p xs none = unfound p xs (past-none p xs none)
+
+-- ---- a list with one item behind it
+-- the first that passes is found, else the last item, where it passes
+pub found-before : {X : Type 0} (p : X → Bool) (xs : List X) (y : X) (i : ℕ) (d : X) → IsFirst p xs i d → find p (xs ++ y ∷ []) ≡ Some (get_or xs i d)
+found-before p [] y i d is = absurd (let w = is.within in omega arith)
+found-before p (x ∷ xs) y zero d is = rw is.passes refl
+found-before p (x ∷ xs) y (suc i) d is = rw (not-yet p x xs i d is) (found-before p xs y i d (later-first p x xs i d is))
+
+found-past : {X : Type 0} (p : X → Bool) (xs : List X) (y : X) → length xs ≤ position_or_len p xs → find p (xs ++ y ∷ []) ≡ (let o : Option X = cond (p y) (Some y) None in o)
+found-past p [] y past = refl
+found-past p (x ∷ xs) y past =
+    let known = past-all p x xs past in
+    rw known.0 (found-past p xs y known.1)
+
+pub found-behind : {X : Type 0} (p : X → Bool) (xs : List X) (y : X) → position p xs ≡ None → find p (xs ++ y ∷ []) ≡ (let o : Option X = cond (p y) (Some y) None in o)
+found-behind p xs y none = found-past p xs y (past-none p xs none)
+
+pub any-before : {X : Type 0} (p : X → Bool) (xs : List X) (y : X) (i : ℕ) (d : X) → IsFirst p xs i d → list_any p (xs ++ y ∷ []) ≡ true
+any-before p [] y i d is = absurd (let w = is.within in omega arith)
+any-before p (x ∷ xs) y zero d is = rw is.passes refl
+any-before p (x ∷ xs) y (suc i) d is = rw (not-yet p x xs i d is) (any-before p xs y i d (later-first p x xs i d is))
+
+any-past : {X : Type 0} (p : X → Bool) (xs : List X) (y : X) → length xs ≤ position_or_len p xs → list_any p (xs ++ y ∷ []) ≡ p y
+any-past p [] y past = or-false (p y)
+  where
+    or-false : (b : Bool) → (b || false) ≡ b
+    or-false true = refl
+    or-false false = refl
+any-past p (x ∷ xs) y past =
+    let known = past-all p x xs past in
+    rw known.0 (any-past p xs y known.1)
+
+pub any-behind : {X : Type 0} (p : X → Bool) (xs : List X) (y : X) → position p xs ≡ None → list_any p (xs ++ y ∷ []) ≡ p y
+any-behind p xs y none = any-past p xs y (past-none p xs none)
+
+pub any-last : {X : Type 0} (p : X → Bool) (xs : List X) (y : X) → p y ≡ true → list_any p (xs ++ y ∷ []) ≡ true
+any-last p [] y is = rw is refl
+any-last {X} p (x ∷ xs) y is = by (p x) (any-last p xs y is)
+  where
+    by : (b : Bool) → list_any p (xs ++ y ∷ []) ≡ true → (b || list_any p (xs ++ y ∷ [])) ≡ true
+    by true rest = refl
+    by false rest = rest
+
+-- where none passes, none is counted
+uncounted : {X : Type 0} (p : X → Bool) (xs : List X) → length xs ≤ position_or_len p xs → count_by p xs ≡ 0
+uncounted p [] past = refl
+uncounted {X} p (x ∷ xs) past =
+    let known = past-all p x xs past in
+    sum_by-cons (λ (y : X). cond (p y) 1 0) x xs ∙ rw known.0 (uncounted p xs known.1)
+
+pub none-counted : {X : Type 0} (p : X → Bool) (xs : List X) → position p xs ≡ None → count_by p xs ≡ 0
+none-counted p xs none = uncounted p xs (past-none p xs none)

@@ -1,9 +1,10 @@
 -- The fragments in which a packet is sent that is too long for its exit (RFC 791, section 3.2).
-use Rattle.std.specs.Prelude.{◌≡◌, ◌≤◌, ℕ, ◌+◌, ◌-◌, ◌*◌, ◌/◌, Bool, ◌==◌, nat_le, List, ◌++◌, length, take, drop, map, if◌then◌else◌}
+use Rattle.std.specs.Prelude.{◌≡◌, ◌≤◌, ◌<◌, ℕ, ◌+◌, ◌-◌, ◌*◌, ◌/◌, ◌%◌, Bool, ◌==◌, nat_le, List, ◌++◌, length, take, drop, map, if◌then◌else◌}
 use Rattle.std.specs.List.{range_with_len}
 use Rattle.frames.specs.Frame.{IsFrame}
 use Rattle.ipv4.specs.Header.{IsIpv4, header_of, options_of, payload_of}
-use Rattle.fragments.specs.Fragment.{ipv4_in}
+use Rattle.fragments.specs.Bytes.{AreBytes}
+use Rattle.fragments.specs.Fragment.{HasHeader, IsFragment, ipv4_in}
 use Rattle.fragments.specs.Header.{header_with}
 use Rattle.fragments.specs.Options.{later_options}
 use Rattle.fragments.specs.declared.headers.Fields.{Fields}
@@ -12,6 +13,10 @@ use Rattle.fragments.specs.declared.headers.Fields.{Fields}
 pub record IsIpv4Frame (frame : List ℕ) : Type 0 where
   pub whole : IsFrame frame
   pub packet : IsIpv4 (ipv4_in frame)
+
+-- the frame's packet has no Don't Fragment (the flag 0x4000)
+abbrev pub MayBeCut : List ℕ → Type 0
+MayBeCut frame = (header_of (ipv4_in frame)).flags_word / 0x4000 % 2 ≡ 0
 
 -- the limits of an `mtu`, the most bytes of a packet that an exit takes
 pub record IsMtu (mtu : ℕ) : Type 0 where
@@ -89,3 +94,23 @@ identified identification frame =
       flags = header.flags_word;
     }) packet (options_of packet)
     ++ payload_of packet
+
+-- a frame whose packet may be cut for an exit, with this identification
+pub record IsCut (mtu identification : ℕ) (frame : List ℕ) : Type 0 where
+  pub packet : IsIpv4Frame frame
+  pub bytes : AreBytes frame
+  pub may_be_cut : MayBeCut frame
+  pub limits : IsMtu mtu
+  pub fits : identification < 65536
+
+-- what each fragment of such a packet is: a frame of at most `mtu` bytes of IPv4 with a right header, and it is a fragment
+-- where there are several. Each but the last carries as many bytes as a multiple of 8 allows
+pub record IsPiece (mtu identification : ℕ) (frame : List ℕ) (k : ℕ) : Type 0 where
+  pub header : HasHeader (ipv4_in (piece mtu identification frame k))
+  pub short : length (piece mtu identification frame k) ≤ 14 + mtu
+  pub part : 1 < piece_count mtu (ipv4_in frame)
+    → IsFragment (piece mtu identification frame k)
+  pub full : k + 1 < piece_count mtu (ipv4_in frame)
+    → 14 + mtu < length (piece mtu identification frame k) + 8
+  pub eighths : k + 1 < piece_count mtu (ipv4_in frame)
+    → length (piece_payload mtu (ipv4_in frame) k) % 8 ≡ 0

@@ -5,12 +5,14 @@ use Rattle.nat_types.specs.declared.gateways.Side.{Side}
 use Rattle.nat_types.specs.declared.gateways.Side.TheVariants.{Inside, Outside}
 use Rattle.fragments.specs.Fragment.{IsFragment, contradicts, is_broken, is_same, trimmed}
 use Rattle.fragments.specs.Name.{name_of, same_name}
-use Rattle.fragments.specs.Whole.{is_whole, reassembled, whole_length}
+use Rattle.fragments.specs.Whole.{IsReady, is_whole, reassembled, whole_length}
 use Rattle.fragments.specs.declared.names.Name.{Name}
 use Rattle.fragments.specs.declared.datagrams.Effect.{Effect}
 use Rattle.fragments.specs.declared.datagrams.Effect.TheVariants.{Repeats, Contradicts, Waits, TooLong, Completes}
 use Rattle.fragments.specs.declared.gatherings.Came.{Came}
 use Rattle.fragments.specs.declared.gatherings.Came.TheVariants.{Refused, Held, Whole}
+use Rattle.fragments.specs.declared.gatherings.Loss.{Loss}
+use Rattle.fragments.specs.declared.gatherings.Loss.TheVariants.{CrowdedOut, Contradicted, Oversized}
 
 -- a datagram of which fragments are there: their name, when the first of them came, and they themselves, without padding,
 -- in the order in which they came
@@ -49,17 +51,24 @@ effect_of there fragment =
     else if nat_lt 65535 (whole_length (there ++ fragment ∷ [])) then TooLong
     else Completes)
 
--- what is there afterwards, what came of the fragment, and the whole frame where one was made
+-- what is there afterwards, what came of the fragment, why a datagram was given up where one was, and the whole frame where
+-- one was made
 pub record Taking : Type 0 where
   pub left : List Datagram
   pub came : Came
+  pub lost : Option Loss
   pub made : Option (List ℕ)
 
-abbrev pub refused : List Datagram → Taking
-refused left = record { left = left; came = Refused; made = None }
+abbrev pub refused : Option Loss → List Datagram → Taking
+refused lost left = record { left = left; came = Refused; lost = lost; made = None }
 
-abbrev pub held : List Datagram → Taking
-held left = record { left = left; came = Held; made = None }
+abbrev pub held : Option Loss → List Datagram → Taking
+held lost left = record { left = left; came = Held; lost = lost; made = None }
+
+-- a side has no place for one more datagram of a source: 16 of that source are there, or 64 in all
+abbrev pub is_full : ℕ → List Datagram → Bool
+is_full source datagrams =
+    nat_le 16 (count_by (is_from source) datagrams) || nat_le 64 (length datagrams)
 
 -- the datagrams before one more of a source begins: where 16 of that source are there the first of these is given up,
 -- else, where 64 are there, the first of all
@@ -69,6 +78,9 @@ with_place source datagrams =
     then without_first (is_from source) datagrams
     else if nat_le 64 (length datagrams) then drop 1 datagrams
     else datagrams)
+
+unfoldable pub lost_for : ℕ → List Datagram → Option Loss
+lost_for source datagrams = (if is_full source datagrams then Some CrowdedOut else None)
 
 -- a datagram begins with this fragment
 abbrev pub begun : ℕ → List ℕ → List Datagram → List Datagram
@@ -84,19 +96,23 @@ with_fragments name fragments datagrams =
 
 -- what comes of a fragment with this effect: the datagram of this name has these fragments then
 abbrev pub joined : Effect → Name → List (List ℕ) → List Datagram → Taking
-joined Repeats name fragments datagrams = refused datagrams
-joined Contradicts name fragments datagrams = refused (without_first (is_named name) datagrams)
-joined Waits name fragments datagrams = held (with_fragments name fragments datagrams)
-joined TooLong name fragments datagrams = refused (without_first (is_named name) datagrams)
+joined Repeats name fragments datagrams = refused None datagrams
+joined Contradicts name fragments datagrams =
+    refused (Some Contradicted) (without_first (is_named name) datagrams)
+joined Waits name fragments datagrams = held None (with_fragments name fragments datagrams)
+joined TooLong name fragments datagrams =
+    refused (Some Oversized) (without_first (is_named name) datagrams)
 joined Completes name fragments datagrams = record {
   left = without_first (is_named name) datagrams;
   came = Whole;
+  lost = None;
   made = Some (reassembled fragments);
 }
 
 -- what comes of a fragment, beside those of its datagram if it is there
 abbrev pub arrived : ℕ → List ℕ → Option Datagram → List Datagram → Taking
-arrived now fragment None datagrams = held (begun now fragment datagrams)
+arrived now fragment None datagrams =
+    held (lost_for (name_of fragment).source.0 datagrams) (begun now fragment datagrams)
 arrived now fragment (Some d) datagrams =
     joined (effect_of d.fragments fragment) (name_of fragment) (d.fragments ++ fragment ∷ []) datagrams
 
@@ -104,18 +120,32 @@ arrived now fragment (Some d) datagrams =
 unfoldable pub taken : ℕ → List ℕ → List Datagram → Taking
 taken now frame datagrams =
     let fragment = trimmed frame in
-    (if is_broken fragment then refused datagrams
+    (if is_broken fragment then refused None datagrams
     else arrived now fragment (find (is_named (name_of fragment)) datagrams) datagrams)
+
+-- what is there at first: where a whole frame is made the fragments stay, and leave when their datagram ends
+abbrev pub left_by : Option (List ℕ) → List Datagram → List Datagram → List Datagram
+left_by None left datagrams = left
+left_by (Some whole) left datagrams = datagrams
+
+abbrev pub left_first : Taking → List Datagram → List Datagram
+left_first taking datagrams = left_by taking.made taking.left datagrams
+
+-- the datagrams without that of a frame's fragment
+unfoldable pub ended : List ℕ → List Datagram → List Datagram
+ended frame datagrams = without_first (is_named (name_of (trimmed frame))) datagrams
 
 -- the datagrams that are there after a tick
 abbrev pub dropped_old : ℕ → List Datagram → List Datagram
 dropped_old now datagrams = filter (is_young now) datagrams
 
--- the datagrams that are there at the two sides, and the whole frame that was made last
+-- the datagrams that are there at the two sides, the whole frame that was made last, and why the fragment that came last gave
+-- a datagram up, where it did
 pub record Gathered : Type 0 where
   pub inside : List Datagram
   pub outside : List Datagram
   pub whole : List ℕ
+  pub lost : Option Loss
 
 abbrev pub of_side : Side → Gathered → List Datagram
 of_side Inside gathered = gathered.inside
@@ -125,13 +155,33 @@ abbrev pub with_side : Side → List Datagram → Gathered → Gathered
 with_side Inside datagrams gathered = record gathered { inside = datagrams }
 with_side Outside datagrams gathered = record gathered { outside = datagrams }
 
--- what is there after a taking at a side
+-- what is there after a taking at a side, and before the datagram ends that it makes whole
 abbrev pub after : Side → Taking → Gathered → Gathered
 after side taking gathered =
-    record (with_side side taking.left gathered) { whole = unwrap_or taking.made gathered.whole }
+    record (with_side side taking.left gathered) {
+      whole = unwrap_or taking.made gathered.whole;
+      lost = taking.lost;
+    }
+
+abbrev pub after_join : Side → Taking → Gathered → Gathered
+after_join side taking gathered =
+    record (with_side side (left_first taking (of_side side gathered)) gathered) {
+      whole = unwrap_or taking.made gathered.whole;
+      lost = taking.lost;
+    }
+
+abbrev pub after_end : Side → List ℕ → Gathered → Gathered
+after_end side frame gathered =
+    with_side side (ended frame (of_side side gathered)) gathered
+
+abbrev pub without_old : ℕ → Gathered → Gathered
+without_old now gathered = record gathered {
+  inside = dropped_old now gathered.inside;
+  outside = dropped_old now gathered.outside;
+}
 
 abbrev pub none_there : Gathered
-none_there = record { inside = []; outside = []; whole = [] }
+none_there = record { inside = []; outside = []; whole = []; lost = None }
 
 -- no two fragments contradict each other
 abbrev pub AreApart : List (List ℕ) → Type 0
@@ -158,3 +208,18 @@ pub record AreKept (datagrams : List Datagram) : Type 0 where
   pub sources : (source : ℕ) → count_by (is_from source) datagrams ≤ 16
   pub distinct : IsDistinct (λ a b. is_named b.name a) datagrams
   pub each : AllByRecursion IsPartial datagrams
+
+-- what is kept at both sides, and a whole frame of at most 14 + 65,535 bytes
+pub record IsKept (gathered : Gathered) : Type 0 where
+  pub inside : AreKept gathered.inside
+  pub outside : AreKept gathered.outside
+  pub whole : length gathered.whole ≤ 65549
+
+-- a fragment completes those of a datagram that is there: they and it are complete, and of one name. The whole frame is
+-- made of them, and nothing of that name is there afterwards
+pub record MakesWhole (fragment : List ℕ) (datagrams : List Datagram) (taking : Taking) (there : Datagram) : Type 0 where
+  pub found : find (is_named (name_of fragment)) datagrams ≡ Some there
+  pub ready : IsReady (there.fragments ++ fragment ∷ [])
+  pub of_one : AllByRecursion (IsOf (name_of fragment)) (there.fragments ++ fragment ∷ [])
+  pub made : taking.made ≡ Some (reassembled (there.fragments ++ fragment ∷ []))
+  pub gone : AllByRecursion (λ d. is_named (name_of fragment) d ≡ false) taking.left

@@ -1,3 +1,4 @@
+pub mod Bytes
 pub mod Cut
 pub mod Fragment
 pub mod Gathered

@@ -1,15 +1,16 @@
 //! Facts about the definitions: which fragments make a whole, that what was cut makes the packet again, and what stays
 //! within its bounds.
-ghost use Rattle.std.specs.Prelude.{◌≡◌, ◌≤◌, ◌<◌, ◌↔◌, ◌+◌, ℕ, List, [], Some, false, true, length};
+ghost use Rattle.std.specs.Prelude.{◌≡◌, ◌≤◌, ◌<◌, ◌↔◌, ℕ, List, Some, false, true};
 ghost use Rattle.std.specs.List.{AllByRecursion, Contains};
+ghost use Rattle.nat_types.specs.declared.gateways.Side.{Side};
 ghost use Rattle.ipv4.specs.Header.{header_of, ipv4_refusal, is_fragment};
 ghost use Rattle.ipv4.specs.declared.faults.Ipv4Fault.TheVariants.{Fragment};
 ghost use Rattle.fragments.specs.Fragment.{HasHeader, IsFragment, ipv4_in, is_broken, trimmed};
-ghost use Rattle.fragments.specs.Name.{name_of};
-ghost use Rattle.fragments.specs.Whole.{IsComplete, IsReady, is_whole, reassembled};
-ghost use Rattle.fragments.specs.Gathered.{AreApart, AreKept, IsOf, Datagram as Partial, dropped_old, is_young, taken};
+ghost use Rattle.fragments.specs.Whole.{IsComplete, is_whole, reassembled};
+ghost use Rattle.fragments.specs.Gathered.{AreApart, AreKept, Gathered, IsKept, MakesWhole, Datagram as Partial};
+ghost use Rattle.fragments.specs.Gathered.{after, is_young, none_there, of_side, taken, without_old};
 ghost use Rattle.fragments.specs.declared.gatherings.Came.TheVariants.{Whole};
-ghost use Rattle.fragments.specs.Cut.{IsIpv4Frame, IsMtu, cut, identified, piece, piece_count};
+ghost use Rattle.fragments.specs.Cut.{IsCut, IsPiece, cut, identified, piece_count};
 
 /// A packet is refused as a fragment exactly where it has a right header and is one.
 pub fn fragment_grammar()
@@ -33,26 +34,43 @@ pub fn order_law()
 {}
 
 /// At a side at most 64 datagrams are there, of one source at most 16, no two of one name, each of at most 64 fragments
-/// of that name, and none of them whole: so it begins, and so it stays, whatever fragments come.
-pub fn kept_law()
-    ensures none { AreKept [] }
-    ensures taken { (now : ℕ) (frame : List ℕ) (datagrams : List Partial) → IsFragment frame
-        → AreKept datagrams → AreKept (taken now frame datagrams).left }
-    ensures dropped { (now : ℕ) (datagrams : List Partial) → AreKept datagrams
-        → AreKept (dropped_old now datagrams) }
+/// of that name, and none of them whole: so it begins, and so it stays, whatever fragments come. After a tick none of them
+/// began 300 centiseconds ago or earlier.
+pub fn bounded()
+    ensures none { IsKept none_there }
+    ensures taken { (side : Side) (now : ℕ) (frame : List ℕ) (g : Gathered) → IsFragment frame
+        → IsKept g → IsKept (after side (taken now frame (of_side side g)) g) }
+    ensures dropped { (now : ℕ) (g : Gathered) → IsKept g → IsKept (without_old now g) }
+    ensures young { (side : Side) (now : ℕ) (g : Gathered)
+        → AllByRecursion (λ d. is_young now d ≡ true) (of_side side (without_old now g)) }
 {}
 
-/// After a tick no datagram is there that began 300 centiseconds ago or earlier.
-pub fn drop_law()
-    ensures { (now : ℕ) (datagrams : List Partial)
-        → AllByRecursion (λ d. is_young now d ≡ true) (dropped_old now datagrams) }
-{}
-
-/// What a fragment makes whole is made of complete fragments of its name that don't contradict each other.
+/// What a fragment makes whole is made of it and the fragments of its name that are there, which are complete then and are
+/// gone afterwards.
 pub fn whole_law()
     ensures { (now : ℕ) (frame : List ℕ) (datagrams : List Partial) → IsFragment frame
         → AreKept datagrams → (taken now frame datagrams).came ≡ Whole
-        → (fragments : List (List ℕ)) × IsReady fragments × AreApart fragments
-        × AllByRecursion (IsOf (name_of (trimmed frame))) fragments
-        × ((taken now frame datagrams).made ≡ Some (reassembled fragments)) }
+        → (there : Partial)
+        × MakesWhole (trimmed frame) datagrams (taken now frame datagrams) there }
+{}
+
+/// What a packet is cut into is complete, and makes the packet again, with the identification of the cut, in whatever order
+/// it comes and however often each.
+pub fn whole_again()
+    ensures complete { (mtu identification : ℕ) (frame : List ℕ)
+        → IsCut mtu identification frame → IsComplete (cut mtu identification frame) }
+    ensures whole { (mtu identification : ℕ) (frame : List ℕ) (others : List (List ℕ))
+        → IsCut mtu identification frame
+        → ((f : List ℕ) → Contains (cut mtu identification frame) f ↔ Contains others f)
+        → reassembled others ≡ identified identification frame }
+{}
+
+/// A packet is cut into at most 128 fragments with right headers, of at most `mtu` bytes of IPv4. Each but the last carries
+/// as many bytes as a multiple of 8 allows.
+pub fn cut_law()
+    ensures few { (mtu identification : ℕ) (frame : List ℕ)
+        → IsCut mtu identification frame → piece_count mtu (ipv4_in frame) ≤ 128 }
+    ensures pieces { (mtu identification : ℕ) (frame : List ℕ) (k : ℕ)
+        → IsCut mtu identification frame → k < piece_count mtu (ipv4_in frame)
+        → IsPiece mtu identification frame k }
 {}

@@ -14,7 +14,9 @@ mod views;
 mod wholes;
 
 pub use cuts::{append_piece, piece_count};
-pub use gatherings::{Came, Gathering};
-pub use laws::fragment_grammar;
+pub use gatherings::{Came, Gathering, Loss};
+pub use laws::{
+    bounded, complete_law, cut_law, fragment_grammar, order_law, whole_again, whole_law,
+};
 pub use names::Name;
 pub use views::is_fragment;

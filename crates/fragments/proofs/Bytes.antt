@@ -1,0 +1,1 @@
+-- What is kept of frames that are bytes is bytes.
