@@ -2,7 +2,7 @@
 use crate::parts::{Part, tell_frame};
 use crate::pieces;
 use cases_words::{Actor, Case};
-use fragments::{Came, Gathering, is_fragment};
+use fragments::{Came, Gathering, Loss, is_fragment};
 use nat_types::Side;
 use std::alloc::Global;
 
@@ -27,12 +27,17 @@ impl Gathered {
     ///   from PLACE on
     /// - `parts SIDE SOURCE ID PLACE COUNT TIMES NOW`: the same of so many such fragments, one behind the other and all with
     ///   More Fragments: what comes of the last
+    /// - `join SIDE HEX NOW`: the same as `take`, but the fragments of a datagram that is whole stay; `end SIDE HEX`: they go
+    /// - `lost`: why the fragment that came last gave a datagram up, if it did
     /// - `tick NOW`: how many datagrams are there then, inside and outside
     /// - `cut MTU ID HEX`, `cut-long MTU ID TOTAL HEX`: the fragments of a packet, as `pieces` has them
     fn answer(&mut self, case: &mut Case) {
         match case.word() {
             "anew" => self.renew(case),
             "take" => self.take(case),
+            "join" => self.join(case),
+            "end" => self.end(case),
+            "lost" => self.tell_lost(case),
             "part" => self.take_part(case),
             "parts" => self.take_parts(case),
             "tick" => self.tick(case),
@@ -52,6 +57,40 @@ impl Gathered {
         let bytes = case.bytes();
         let now = case.number();
         self.came(side, bytes.as_slice(), now, case);
+    }
+
+    fn join(&mut self, case: &mut Case) {
+        let side = case.side();
+        let bytes = case.bytes();
+        let now = case.number();
+        if !is_fragment(bytes.as_slice()) {
+            case.put("no fragment");
+            return;
+        }
+        match self.gathering.join(side, bytes.as_slice(), now) {
+            Ok(came) => self.tell(Some(came), case),
+            Err(_) => case.fault(),
+        }
+    }
+
+    fn end(&mut self, case: &mut Case) {
+        let side = case.side();
+        let bytes = case.bytes();
+        if is_fragment(bytes.as_slice()) {
+            self.gathering.end(side, bytes.as_slice());
+            case.put("ended");
+        } else {
+            case.put("no fragment");
+        }
+    }
+
+    fn tell_lost(&self, case: &mut Case) {
+        case.put(match self.gathering.lost() {
+            None => "nothing",
+            Some(Loss::CrowdedOut) => "crowded out",
+            Some(Loss::Contradicted) => "contradicted",
+            Some(Loss::Oversized) => "too long",
+        });
     }
 
     fn take_part(&mut self, case: &mut Case) {
@@ -99,7 +138,12 @@ impl Gathered {
     }
 
     fn came(&mut self, side: Side, frame: &[u8], now: u64, case: &mut Case) {
-        match self.taken(side, frame, now, case) {
+        let came = self.taken(side, frame, now, case);
+        self.tell(came, case);
+    }
+
+    fn tell(&self, came: Option<Came>, case: &mut Case) {
+        match came {
             Some(Came::Refused) => case.put("refused"),
             Some(Came::Held) => case.put("held"),
             Some(Came::Whole) => tell_frame(case, "whole", self.gathering.whole()),

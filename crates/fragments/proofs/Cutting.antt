@@ -97,18 +97,6 @@ share mtu frame k is there = record {
   fits = fit (cases_lt (k + 1) (pieces_of mtu frame));
 }
   where
-    h : ℕ
-    h = header_size frame
-
-    n : ℕ
-    n = length (bytes_in frame)
-
-    s : ℕ
-    s = step mtu frame
-
-    size : ℕ
-    size = length (piece_payload mtu (ipv4_in frame) k)
-
     within : k * step mtu frame ≤ length (bytes_in frame)
     within = place-within mtu (header_size frame) (length (bytes_in frame)) (step mtu frame) k is.sized (omega (arith, there, is.counted_is))
 
@@ -138,9 +126,6 @@ options-size packet k = by (k == 0)
     by : (b : Bool) → length (cond b (options_of packet) (later_options (options_of packet))) ≡ length (options_of packet)
     by true = refl
     by false = same_room (options_of packet)
-
-more-flag : Bool → ℕ
-more-flag last = cond last 0 1
 
 flag-bits : (b : Bool) → (let x : ℕ = cond b 0 0x2000 in x) ≡ 8192 * cond b 0 1
 flag-bits true = refl
@@ -256,7 +241,7 @@ module _ (mtu identification : ℕ) (frame : List ℕ) (is : IsCut mtu identific
 
   starts-once : PassesOnce starts the (cut mtu identification frame) 0
   starts-once = counts-one starts the 0 (pieces_of mtu frame) 0 (omega arith) (omega (arith, some-pieces))
-      (eq-eqb (first_of (the 0)) 0 ((reads mtu identification frame 0 is some-pieces).first))
+      (eq-eqb (first_of (the 0)) 0 (omega (arith, (reads mtu identification frame 0 is some-pieces).first)))
       (λ k low high differs. ne_eqb (first_of (the k)) 0 (λ same. later k high differs same))
     where
       later : (k : ℕ) → k < 0 + pieces_of mtu frame → (k ≡ 0 → ⊥) → first_of (the k) ≡ 0 → ⊥
@@ -278,7 +263,6 @@ module _ (mtu identification : ℕ) (frame : List ℕ) (is : IsCut mtu identific
   end-is : payload_end (cut mtu identification frame) ≡ length (bytes_in frame)
   unfolding payload_end
   end-is =
-      let last : ℕ = pieces_of mtu frame - 1 in
       let read = reads mtu identification frame (pieces_of mtu frame - 1) is (omega (arith, some-pieces)) in
       ap (λ (o : Option (List ℕ)). end_of (unwrap_or o [])) ends-once.found
       ∙ omega (arith, read.first, (size-is (pieces_of mtu frame - 1) (omega (arith, some-pieces))).last (omega (arith, some-pieces)))
@@ -296,7 +280,7 @@ module _ (mtu identification : ℕ) (frame : List ℕ) (is : IsCut mtu identific
 
       not-in : (j k : ℕ) → Holds (pieces_of mtu frame) (step mtu frame) x j → k < pieces_of mtu frame → (k ≡ j → ⊥) → (k + 1 < pieces_of mtu frame) ⊎ (pieces_of mtu frame ≤ k + 1) → (x < k * step mtu frame) ⊎ (k * step mtu frame + length (carried (the k)) ≤ x)
       not-in j k holds there differs (inl more) =
-          elim (holds.others k there differs).0 more [
+          elim ((holds.others k there differs).0 more) [
             | inl ahead ↦ inl ahead
             | inr behind ↦ inr (omega (arith, ((size-is k there).more more).0, behind))
           ]
@@ -381,20 +365,12 @@ module _ (mtu identification : ℕ) (frame : List ℕ) (is : IsCut mtu identific
       by true any =
           let one = any-one is_marked the 0 (pieces_of mtu frame) any in
           let read = reads mtu identification frame one.0 is (omega (arith, one.2)) in
-          let three : (header_of (ipv4_in (the one.0))).type_of_service % 4 ≡ 3 = eqb-true _ 3 one.3 in
+          let three : (header_of (ipv4_in (the one.0))).type_of_service % 4 ≡ 3 = eqb-true ((header_of (ipv4_in (the one.0))).type_of_service % 4) 3 one.3 in
           let service : (header_of (ipv4_in frame)).type_of_service % 4 ≡ 3 = ap (λ (s : ℕ). s % 4) (sym read.service) ∙ three in
           ap (λ (s : ℕ). s / 4 * 4 + 3) first_service ∙ marked-service (header_of (ipv4_in frame)).type_of_service service
       by false none = first_service
 
   -- the header, and all
-  fields_again : Fields
-  fields_again = record {
-    service = (header_of (ipv4_in frame)).type_of_service;
-    total = (header_of (ipv4_in frame)).total_length;
-    identification = identification;
-    flags = (header_of (ipv4_in frame)).flags_word;
-  }
-
   fields-is : whole_fields (cut mtu identification frame) ≡ record {
     service = (header_of (ipv4_in frame)).type_of_service;
     total = (header_of (ipv4_in frame)).total_length;

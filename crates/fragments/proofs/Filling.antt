@@ -1,8 +1,8 @@
 -- A payload into which fragments are written one after another, the last of the list first.
-use Rattle.std.proofs.Common.{◌≡◌, ◌⊎◌, inl, inr, ℕ, zero, suc, ◌+◌, ◌-◌, ◌<◌, ◌≤◌, Bool, true, false, cond, ◌&&◌, nat_lt, nat_le, List, [], ◌∷◌, ◌++◌, length, take, drop, replicate, map, get_or, refl, ap, ap₂, ◌∙◌, sym, subst, arith, length-append}
-use Rattle.std.specs.List.{range_with_len}
+use Rattle.std.proofs.Common.{◌≡◌, ◌⊎◌, inl, inr, ℕ, zero, suc, ◌+◌, ◌-◌, ◌<◌, ◌≤◌, Bool, true, false, cond, ◌&&◌, nat_lt, nat_le, List, [], ◌∷◌, ◌++◌, length, take, drop, replicate, map, get_or, refl, ap, ap₂, ◌∙◌, sym, subst, arith, append_assoc, length-append}
+use Rattle.std.specs.List.{AllByRecursion, range_with_len}
 use Rattle.std.proofs.lemmas.Bool.{cases_lt, and_from, and_left, and_right, lt-ltb, le-ltb, le-leb, lt-leb}
-use Rattle.std.proofs.lemmas.List.{get_or_append_left, get_or-append_right, get_or-take, get_or-drop, length-take-le, length-drop}
+use Rattle.std.proofs.lemmas.List.{get_or_append_left, get_or-append_right, get_or-take, get_or-drop, length-take-le, length-drop, drop_all, drop_at, take-append-drop, take_all, take_at}
 use Rattle.std.proofs.lemmas.List.FromFn.{fill_by_all, get_or-map-range_with_len, length-map-range_with_len}
 use Rattle.frames.specs.Bytes.{Puts}
 use Rattle.fragments.specs.Fragment.{carried, carries, end_of, first_of}
@@ -80,3 +80,55 @@ zeros f a (suc n) none = ap₂ (λ (x : ℕ) (xs : List ℕ). x ∷ xs) (sym (no
 
 pub filled-none : (n : ℕ) → replicate n 0 ≡ bytes_to n []
 filled-none n = zeros (byte_at []) 0 n (λ k. refl)
+
+-- ---- a loop that writes the fragments of a list, the last one first
+pub record Filled (n : ℕ) (all left : List (List ℕ)) (payload : List ℕ) : Type 0 where
+  pub front : left ≡ take (length left) all
+  pub written : payload ≡ bytes_to n (drop (length left) all)
+
+pub fill-begins : (n : ℕ) (all : List (List ℕ)) (payload : List ℕ) → payload ≡ replicate n 0 → Filled n all all payload
+fill-begins n all payload zero = record {
+  front = sym (take_all (length all) all (omega arith));
+  written = zero ∙ filled-none n ∙ ap (bytes_to n) (sym (drop_all (length all) all (omega arith)));
+}
+
+-- the list, around the last one of what is left
+split : (all left before : List (List ℕ)) (f : List ℕ) → left ≡ take (length left) all → left ≡ before ++ f ∷ [] → all ≡ before ++ (f ∷ drop (length left) all)
+split all left before f front last =
+    sym (take-append-drop (length left) all)
+    ∙ ap (λ (xs : List (List ℕ)). xs ++ drop (length left) all) (sym front ∙ last)
+    ∙ append_assoc before (f ∷ []) (drop (length left) all)
+
+one-of-all : (P : List ℕ → Type 0) (xs ys : List (List ℕ)) (x : List ℕ) → AllByRecursion P (xs ++ (x ∷ ys)) → P x
+one-of-all P [] ys x all = all.0
+one-of-all P (y ∷ xs) ys x all = one-of-all P xs ys x all.1
+
+pub fill-within : (n : ℕ) (all left before : List (List ℕ)) (f payload : List ℕ) → AllByRecursion (λ (g : List ℕ). end_of g ≤ n) all → Filled n all left payload → left ≡ before ++ f ∷ [] → end_of f ≤ n
+fill-within n all left before f payload within is last =
+    one-of-all (λ (g : List ℕ). end_of g ≤ n) before (drop (length left) all) f
+    (subst (λ (xs : List (List ℕ)). AllByRecursion (λ (g : List ℕ). end_of g ≤ n) xs) (split all left before f is.front last) within)
+
+pub fill-long : (n : ℕ) (all left : List (List ℕ)) (payload : List ℕ) → Filled n all left payload → length payload ≡ n
+fill-long n all left payload is = ap length is.written ∙ length-map-range_with_len (byte_at (drop (length left) all)) 0 n
+
+pub fill-goes : (n : ℕ) (all left before : List (List ℕ)) (f old new : List ℕ) → AllByRecursion (λ (g : List ℕ). end_of g ≤ n) all → Filled n all left old → left ≡ before ++ f ∷ [] → Puts (first_of f) (carried f) old new → Filled n all before new
+fill-goes n all left before f old new within is last put =
+    let around = split all left before f is.front last in
+    let ahead : take (length before) all ≡ before = ap (take (length before)) around ∙ take_at before (f ∷ drop (length left) all) (length before) refl in
+    let behind : drop (length before) all ≡ f ∷ drop (length left) all = ap (drop (length before)) around ∙ drop_at before (f ∷ drop (length left) all) (length before) refl in
+    record {
+      front = sym ahead;
+      written = filled-more n f (drop (length left) all) old new (fill-within n all left before f old within is last) is.written put ∙ ap (bytes_to n) (sym behind);
+    }
+
+pub fill-ends : (n : ℕ) (all left : List (List ℕ)) (payload : List ℕ) → Filled n all left payload → length left ≡ 0 → payload ≡ bytes_to n all
+fill-ends n all left payload is none = is.written ∙ ap (λ (k : ℕ). bytes_to n (drop k all)) none
+
+-- ---- the end of a list
+pub all-within : (m n k : ℕ) (fs : List (List ℕ)) → k ≡ m + n → AllByRecursion (λ (f : List ℕ). end_of f ≤ n) fs → AllByRecursion (λ (f : List ℕ). m + end_of f ≤ k) fs
+all-within m n k [] same all = tt
+all-within m n k (f ∷ fs) same all = (omega (arith, all.0, same), all-within m n k fs same all.1)
+
+pub all-from : (m n k : ℕ) (fs : List (List ℕ)) → n + m ≡ k → AllByRecursion (λ (f : List ℕ). m + end_of f ≤ k) fs → AllByRecursion (λ (f : List ℕ). end_of f ≤ n) fs
+all-from m n k [] same all = tt
+all-from m n k (f ∷ fs) same all = (omega (arith, all.0, same), all-from m n k fs same all.1)

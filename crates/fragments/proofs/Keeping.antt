@@ -90,7 +90,7 @@ length-rest [] = refl
 length-rest (x ∷ xs) = omega arith
 
 -- ---- a list with one item more
-all-push : {X : Type 0} (P : X → Type 0) (xs : List X) (y : X) → AllByRecursion P xs → P y → AllByRecursion P (xs ++ y ∷ [])
+pub all-push : {X : Type 0} (P : X → Type 0) (xs : List X) (y : X) → AllByRecursion P xs → P y → AllByRecursion P (xs ++ y ∷ [])
 all-push P [] y all one = (one, tt)
 all-push P (x ∷ xs) y all one = (all.0, all-push P xs y all.1 one)
 
@@ -210,7 +210,7 @@ room-placed source ds kept = by (nat_le 16 (count_by (is_from source) ds)) refl
         (omega (arith, less.1, kept.few), omega (arith, less.0, kept.sources source))
     by false is = in-full (nat_le 64 (length ds)) refl (leb-false 16 (count_by (is_from source) ds) is)
 
-all-placed : (P : Datagram → Type 0) (source : ℕ) (ds : List Datagram) → AllByRecursion P ds → AllByRecursion P (with_place source ds)
+pub all-placed : (P : Datagram → Type 0) (source : ℕ) (ds : List Datagram) → AllByRecursion P ds → AllByRecursion P (with_place source ds)
 unfolding with_place
 all-placed P source ds all = by (nat_le 16 (count_by (is_from source) ds)) (nat_le 64 (length ds))
   where
@@ -283,7 +283,7 @@ distinct-with {X} e p g right left (x ∷ xs) d = by (p x) (distinct-with e p g 
     by false rest = (all-with-same (e x) p g (right x) xs d.0, rest)
 
 -- what is found is changed, and what holds of all holds of it then
-all-with : {X : Type 0} (P : X → Type 0) (p : X → Bool) (g : X → X) (xs : List X) (x : X) → find p xs ≡ Some x → AllByRecursion P xs → P (g x) → AllByRecursion P (with_first p g xs)
+pub all-with : {X : Type 0} (P : X → Type 0) (p : X → Bool) (g : X → X) (xs : List X) (x : X) → find p xs ≡ Some x → AllByRecursion P xs → P (g x) → AllByRecursion P (with_first p g xs)
 all-with P p g [] x found all new = cc
 all-with {X} P p g (y ∷ xs) x found all new = by (p y) found (λ there. all-with P p g xs x there all.1 new)
   where
@@ -301,7 +301,7 @@ kept-with name fragments ds d found new kept =
       each = all-with IsPartial (is_named name) g ds d found kept.each new;
     }
 
-kept-without : (name : Name) (ds : List Datagram) → AreKept ds → AreKept (without_first (is_named name) ds)
+pub kept-without : (name : Name) (ds : List Datagram) → AreKept ds → AreKept (without_first (is_named name) ds)
 kept-without name ds kept = record {
   few = omega (arith, length-without (is_named name) ds, kept.few);
   sources = λ s. omega (arith, count-without (is_from s) (is_named name) ds, kept.sources s);
@@ -310,7 +310,7 @@ kept-without name ds kept = record {
 }
 
 -- ---- old datagrams are given up
-all-filter : {X : Type 0} (P : X → Type 0) (p : X → Bool) (xs : List X) → AllByRecursion P xs → AllByRecursion P (filter p xs)
+pub all-filter : {X : Type 0} (P : X → Type 0) (p : X → Bool) (xs : List X) → AllByRecursion P xs → AllByRecursion P (filter p xs)
 all-filter P p [] all = tt
 all-filter {X} P p (x ∷ xs) all = by (p x) (all-filter P p xs all.1)
   where

@@ -1,7 +1,9 @@
+mod Adding
 mod ByPlace
 mod Bytes
 mod Counting
 mod Cutting
+mod Ending
 mod Filling
 mod Grammar
 mod Keeping

@@ -7,12 +7,12 @@ use Rattle.nat_types.specs.declared.gateways.Side.{Side}
 use Rattle.nat_types.specs.declared.gateways.Side.TheVariants.{Inside, Outside}
 use Rattle.ipv4.specs.Header.{header_of, options_of}
 use Rattle.fragments.specs.Fragment.{IsFragment, ipv4_in, is_broken, starts, trimmed}
-use Rattle.fragments.specs.Gathered.{AreApart, AreKept, Datagram, Gathered, IsKept, IsOf, IsPartial, MakesWhole, Taking, after, arrived, effect_of, is_named, joined, none_there, of_side, refused, taken, without_first, without_old}
+use Rattle.fragments.specs.Gathered.{AreApart, AreKept, Datagram, Gathered, IsKept, IsOf, IsPartial, MakesWhole, Taking, after, after_end, after_join, arrived, effect_of, ended, is_named, joined, left_by, left_first, none_there, of_side, refused, taken, without_first, without_old}
 use Rattle.fragments.specs.Header.{header_with}
 use Rattle.fragments.specs.Name.{name_of, same_name}
 use Rattle.fragments.specs.Whole.{IsReady, byte_at, first_fragment, first_header_length, payload_end, reassembled, whole_fields, whole_length}
 use Rattle.fragments.proofs.Counting.{all-of, found-all, found-of, found-passes, whole-complete, whole-within}
-use Rattle.fragments.proofs.Keeping.{apart-more, completes, each-more, kept-none, kept-young, same-name, taken-kept, unbroken-each}
+use Rattle.fragments.proofs.Keeping.{apart-more, completes, each-more, kept-none, kept-without, kept-young, same-name, taken-kept, unbroken-each}
 use Rattle.fragments.proofs.Spelling.{length-header, length-options, length-parts}
 use Rattle.fragments.proofs.Trimming.{trimmed-fragment}
 use Rattle.fragments.specs.declared.names.Name.{Name}
@@ -153,3 +153,34 @@ kept-without_old now g kept = record { inside = kept-young now g.inside kept.ins
 
 pub kept-none_there : IsKept none_there
 kept-none_there = record { inside = kept-none; outside = kept-none; whole = omega arith }
+
+-- the same before the datagram ends that becomes whole, and when it ends
+kept-first : (o : Option (List ℕ)) (left ds : List Datagram) → AreKept left → AreKept ds → AreKept (left_by o left ds)
+kept-first None left ds one two = one
+kept-first (Some w) left ds one two = two
+
+pub kept-joined : (now : ℕ) (frame : List ℕ) (ds : List Datagram) → IsFragment frame → AreKept ds → AreKept (left_first (taken now frame ds) ds)
+kept-joined now frame ds is kept = kept-first (taken now frame ds).made (taken now frame ds).left ds (taken-kept now frame ds is kept) kept
+
+pub most-joined : (now : ℕ) (frame w : List ℕ) (ds : List Datagram) → IsFragment frame → AreKept ds → length w ≤ 65549 → length (unwrap_or (taken now frame ds).made w) ≤ 65549
+most-joined now frame w ds is kept most = either (λ (v : List ℕ). length v ≤ 65549) (taken now frame ds).made w (taken-most now frame ds is kept) most
+
+pub kept-ended : (frame : List ℕ) (ds : List Datagram) → AreKept ds → AreKept (ended frame ds)
+unfolding ended
+kept-ended frame ds kept = kept-without (name_of (trimmed frame)) ds kept
+
+pub kept-after_join : (side : Side) (now : ℕ) (frame : List ℕ) (g : Gathered) → IsFragment frame → IsKept g → IsKept (after_join side (taken now frame (of_side side g)) g)
+kept-after_join Inside now frame g is kept = record {
+  inside = kept-joined now frame g.inside is kept.inside;
+  outside = kept.outside;
+  whole = most-joined now frame g.whole g.inside is kept.inside kept.whole;
+}
+kept-after_join Outside now frame g is kept = record {
+  inside = kept.inside;
+  outside = kept-joined now frame g.outside is kept.outside;
+  whole = most-joined now frame g.whole g.outside is kept.outside kept.whole;
+}
+
+pub kept-after_end : (side : Side) (frame : List ℕ) (g : Gathered) → IsKept g → IsKept (after_end side frame g)
+kept-after_end Inside frame g kept = record { inside = kept-ended frame g.inside kept.inside; outside = kept.outside; whole = kept.whole }
+kept-after_end Outside frame g kept = record { inside = kept.inside; outside = kept-ended frame g.outside kept.outside; whole = kept.whole }

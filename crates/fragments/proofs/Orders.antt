@@ -103,7 +103,7 @@ same-any p fs gs same = by (list_any p fs) refl (list_any p gs) refl
     by false one true two = let bad : false ≡ true = sym one ∙ carry gs fs (λ f. (same f).1) two in absurd (cc)
 
 -- the byte at a place is that of the fragment that is found to carry it
-pub byte_of : ℕ → Option (List ℕ) → ℕ
+unfoldable pub byte_of : ℕ → Option (List ℕ) → ℕ
 byte_of k None = 0
 byte_of k (Some f) = slice_index (carried f) (k - first_of f)
 

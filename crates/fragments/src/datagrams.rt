@@ -168,32 +168,31 @@ fn carried_by(there: &[Fragment]) -> usize
 fn has_last_with(there: &[Fragment], new: &FragmentView<'_>) -> bool
     ensures { result ≡ list_any is_last (there.now ++ new.now.frame.now ∷ []) }
 {
-    new.is_last() || place_of_last(there).is_some()
+    if new.is_last() {
+        return true;
+    }
+    place_of_last(there).is_some()
 }
 
 /// Returns the end that the last fragment gives, or 0 where it is missing.
-#[tactic(auto, unfolding(crate::specs::Whole::payload_end))]
 fn end_with(there: &[Fragment], new: &FragmentView<'_>) -> usize
     ensures value { result ≡ payload_end (there.now ++ new.now.frame.now ∷ []) }
     ensures most { result ≤ 131063 }
 {
     match place_of_last(there) {
         Some(at) => there[at].view().end(),
-        None if new.is_last() => new.end(),
-        None => 0,
+        None => new.end_if_last(),
     }
 }
 
 /// Returns the bytes of the header of the fragment with offset 0, or 0 where it is missing.
-#[tactic(auto, unfolding(crate::specs::Whole::first_header_length))]
 fn header_length_with(there: &[Fragment], new: &FragmentView<'_>) -> usize
     ensures value { result ≡ first_header_length (there.now ++ new.now.frame.now ∷ []) }
     ensures most { result ≤ 60 }
 {
     match place_of_first(there) {
         Some(at) => there[at].view().header_length(),
-        None if new.starts() => new.header_length(),
-        None => 0,
+        None => new.header_length_if_first(),
     }
 }
 
@@ -206,17 +205,18 @@ pub(crate) fn length_with(there: &[Fragment], new: &FragmentView<'_>) -> usize
 }
 
 /// Whether nothing is missing with one more fragment.
-#[tactic(auto, unfolding(crate::specs::Whole::is_whole))]
 fn is_whole_with(there: &[Fragment], new: &FragmentView<'_>) -> bool
     requires { length there.now ≤ 64 }
     ensures { result ≡ is_whole (there.now ++ new.now.frame.now ∷ []) }
 {
-    has_last_with(there, new)
-        && carried_by(there) + new.carried().len() == end_with(there, new)
+    if !has_last_with(there, new) {
+        return false;
+    }
+    let count = carried_by(there) + new.carried().len();
+    count == end_with(there, new)
 }
 
 /// Returns what a fragment does beside those of its datagram that are there.
-#[tactic(auto, unfolding(crate::specs::Gathered::effect_of))]
 pub(crate) fn effect_of(there: &[Fragment], new: &FragmentView<'_>) -> Effect
     requires { length there.now ≤ 64 }
     ensures { result ≡ effect_of there.now new.now.frame.now }
@@ -224,7 +224,10 @@ pub(crate) fn effect_of(there: &[Fragment], new: &FragmentView<'_>) -> Effect
     if repeats(there, new) {
         return Effect::Repeats;
     }
-    if contradicts(there, new) || there.len() >= MOST_FRAGMENTS {
+    if there.len() >= MOST_FRAGMENTS {
+        return Effect::Contradicts;
+    }
+    if contradicts(there, new) {
         return Effect::Contradicts;
     }
     if !is_whole_with(there, new) {

@@ -447,11 +447,14 @@ impl Gathering {
         ensures refused { OnErr result
             (LacksTaking frame.now (taken now frame.now (of_side side self.old)).made) }
     {
-        let came = self.join(side, frame, now)?;
-        if came == Came::Whole {
-            self.end(side, frame);
+        match self.join(side, frame, now)? {
+            Came::Refused => Ok(Came::Refused),
+            Came::Held => Ok(Came::Held),
+            Came::Whole => {
+                self.end(side, frame);
+                Ok(Came::Whole)
+            }
         }
-        Ok(came)
     }
 
     /// Takes a frame as `take` does, but where the whole frame is made, the fragments that were there stay until `end`: so a

@@ -6,7 +6,7 @@
 //! 45         00 001c     0014      0002               40     11  8ece     c0a8010a     c6336407     7320696e2074776f
 //! 4, 5 words -- 28 bytes number 20 no flags, 2 x 8    TTL 64 UDP checksum 192.168.1.10 198.51.100.7 8 bytes
 //! ```
-ghost use Rattle.std.specs.Prelude.{◌≡◌, ◌≤◌, ◌+◌, ◌↔◌, IsTrue, Some, length, take};
+ghost use Rattle.std.specs.Prelude.{◌≡◌, ◌≤◌, ◌+◌, ◌↔◌, IsTrue, Some, length, take, if◌then◌else◌};
 ghost use Rattle.ipv4.specs.Header.{header_of, ipv4_refusal, options_of};
 ghost use Rattle.ipv4.specs.declared.faults.Ipv4Fault.TheVariants.{Fragment};
 ghost use Rattle.fragments.specs.Fragment.{IsFragment, HasHeader, ipv4_in, trimmed, carried, first_of, more_of, end_of};
@@ -216,6 +216,24 @@ impl<'a> FragmentView<'a> {
         ensures { result ≡ is_last self.now.frame.now }
     {
         self.more() == 0
+    }
+
+    /// Returns the place behind the last byte where no fragment follows, else 0.
+    pub(crate) fn end_if_last(&self) -> usize
+        ensures value { result
+            ≡ (if is_last self.now.frame.now then end_of self.now.frame.now else 0) }
+        ensures most { result ≤ 131063 }
+    {
+        if self.is_last() { self.end() } else { 0 }
+    }
+
+    /// Returns the bytes of the header of the fragment with offset 0, and 0 of any other.
+    pub(crate) fn header_length_if_first(&self) -> usize
+        ensures value { result ≡ (if starts self.now.frame.now
+            then (header_of (ipv4_in self.now.frame.now)).header_length else 0) }
+        ensures most { result ≤ 60 }
+    {
+        if self.starts() { self.header_length() } else { 0 }
     }
 
     /// Whether the fragment carries nothing, or isn't the last and carries no multiple of 8 bytes.
