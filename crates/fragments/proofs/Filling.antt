@@ -2,7 +2,7 @@
 use Rattle.std.proofs.Common.{◌≡◌, ◌⊎◌, inl, inr, ℕ, zero, suc, ◌+◌, ◌-◌, ◌<◌, ◌≤◌, Bool, true, false, cond, ◌&&◌, nat_lt, nat_le, List, [], ◌∷◌, ◌++◌, length, take, drop, replicate, map, get_or, refl, ap, ap₂, ◌∙◌, sym, subst, arith, append_assoc, length-append}
 use Rattle.std.specs.List.{AllByRecursion, range_with_len}
 use Rattle.std.proofs.lemmas.Bool.{cases_lt, and_from, and_left, and_right, lt-ltb, le-ltb, le-leb, lt-leb}
-use Rattle.std.proofs.lemmas.List.{get_or_append_left, get_or-append_right, get_or-take, get_or-drop, length-take-le, length-drop, drop_all, drop_at, take-append-drop, take_all, take_at}
+use Rattle.std.proofs.lemmas.List.{get_or_append_left, get_or-append_right, get_or-take, get_or-drop, length-take-le, length-drop, length-replicate, drop_all, drop_at, take-append-drop, take_all, take_at}
 use Rattle.std.proofs.lemmas.List.FromFn.{fill_by_all, get_or-map-range_with_len, length-map-range_with_len}
 use Rattle.frames.specs.Bytes.{Puts}
 use Rattle.fragments.specs.Fragment.{carried, carries, end_of, first_of}
@@ -124,11 +124,18 @@ fill-goes n all left before f old new within is last put =
 pub fill-ends : (n : ℕ) (all left : List (List ℕ)) (payload : List ℕ) → Filled n all left payload → length left ≡ 0 → payload ≡ bytes_to n all
 fill-ends n all left payload is none = is.written ∙ ap (λ (k : ℕ). bytes_to n (drop k all)) none
 
--- ---- the end of a list
-pub all-within : (m n k : ℕ) (fs : List (List ℕ)) → k ≡ m + n → AllByRecursion (λ (f : List ℕ). end_of f ≤ n) fs → AllByRecursion (λ (f : List ℕ). m + end_of f ≤ k) fs
-all-within m n k [] same all = tt
-all-within m n k (f ∷ fs) same all = (omega (arith, all.0, same), all-within m n k fs same all.1)
+-- ---- zeros at the end of a list, into which fragments are written
+pub record IsTail (items old : List ℕ) (start n : ℕ) (fs : List (List ℕ)) : Type 0 where
+  pub zeros : drop start items ≡ replicate (length (drop start items)) 0
+  pub within : AllByRecursion (λ (f : List ℕ). end_of f ≤ length (drop start items)) fs
+  pub written : take start items ++ bytes_to (length (drop start items)) fs ≡ old ++ bytes_to n fs
 
-pub all-from : (m n k : ℕ) (fs : List (List ℕ)) → n + m ≡ k → AllByRecursion (λ (f : List ℕ). m + end_of f ≤ k) fs → AllByRecursion (λ (f : List ℕ). end_of f ≤ n) fs
-all-from m n k [] same all = tt
-all-from m n k (f ∷ fs) same all = (omega (arith, all.0, same), all-from m n k fs same all.1)
+pub tail-is : (items old : List ℕ) (start n : ℕ) (fs : List (List ℕ)) → length old ≡ start → items ≡ old ++ replicate n 0 → AllByRecursion (λ (f : List ℕ). end_of f ≤ n) fs → IsTail items old start n fs
+tail-is items old start n fs long same within =
+    let tail : drop start items ≡ replicate n 0 = ap (drop start) same ∙ drop_at old (replicate n 0) start long in
+    let size : length (drop start items) ≡ n = ap length tail ∙ length-replicate n 0 in
+    record {
+      zeros = tail ∙ ap (λ (m : ℕ). replicate m 0) (sym size);
+      within = subst (λ (m : ℕ). AllByRecursion (λ (f : List ℕ). end_of f ≤ m) fs) (sym size) within;
+      written = ap₂ (λ (xs : List ℕ) (m : ℕ). xs ++ bytes_to m fs) (ap (take start) same ∙ take_at old (replicate n 0) start long) size;
+    }

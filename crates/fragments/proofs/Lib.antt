@@ -6,6 +6,7 @@ mod Cutting
 mod Ending
 mod Filling
 mod Grammar
+mod Joining
 mod Keeping
 mod Later
 mod Making

@@ -1,5 +1,5 @@
 //! The whole frame that the fragments of a datagram make.
-ghost use Rattle.std.specs.Prelude.{◌≡◌, ◌≤◌, ◌+◌, ◌-◌, ◌++◌, [], length, take, drop, map, replicate, vec_len, vec_capacity};
+ghost use Rattle.std.specs.Prelude.{◌≡◌, ◌≤◌, ◌+◌, ◌++◌, [], length, take, drop, map, replicate, vec_len, vec_capacity};
 ghost use Rattle.std.specs.List.{AllByRecursion, range_with_len};
 ghost use Rattle.frames.specs.Bytes.{Puts};
 ghost use Rattle.fragments.specs.Fragment.{carried, end_of, first_of};
@@ -96,10 +96,12 @@ fn fill(payload: &mut [u8], fragments: &[Fragment])
 /// Writes the bytes that fragments carry into the zeros at the end of a list, from a place on.
 fn fill_tail(list: &mut Vec<u8>, start: usize, fragments: &[Fragment])
     requires start { start ≤ vec_len list.old }
-    requires within { AllByRecursion (λ f. start + end_of f ≤ vec_len list.old) fragments.now }
-    requires zeros { drop start list.old.items ≡ replicate (vec_len list.old - start) 0 }
-    ensures { list.new.items ≡ take start list.old.items
-        ++ map (byte_at fragments.now) (range_with_len 0 (vec_len list.old - start)) }
+    requires within { AllByRecursion (λ f. end_of f ≤ length (drop start list.old.items))
+        fragments.now }
+    requires zeros { drop start list.old.items
+        ≡ replicate (length (drop start list.old.items)) 0 }
+    ensures { list.new.items ≡ take start list.old.items ++ map (byte_at fragments.now)
+        (range_with_len 0 (length (drop start list.old.items))) }
 {
     let (_before, payload) = list.split_at_mut(start);
     fill(payload, fragments);
