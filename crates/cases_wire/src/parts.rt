@@ -104,7 +104,26 @@ pub fn long_frame(case: &mut Case) -> Vec<u8> {
 fn long_made(alloc: Global, total: u16, options: &[u8]) -> Result<Vec<u8>, AllocError> {
     let words = (options.len() / 4 % 11) as u8;
     let mut header = [
-        0x45 + words, 0, 0, 0, 0x12, 0x34, 0, 0, 64, 17, 0, 0, 192, 168, 1, 10, 198, 51, 100, 7,
+        0x45 + words,
+        0,
+        0,
+        0,
+        0x12,
+        0x34,
+        0,
+        0,
+        64,
+        17,
+        0,
+        0,
+        192,
+        168,
+        1,
+        10,
+        198,
+        51,
+        100,
+        7,
     ];
     BigEndian::write_u16(&mut header[2..4], total);
     let checksum = 65535 - sums::add(sum(&header), sum(options));

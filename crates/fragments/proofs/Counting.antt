@@ -111,9 +111,10 @@ both P Q (x ∷ xs) all more = ((all.0, more.0), both P Q xs all.1 more.1)
 -- fragments that don't contradict each other pass a test one at most, where two that pass it contradict each other
 one-of : (p : List ℕ → Bool) (R : List ℕ → Type 0) → ((f g : List ℕ) → R f → R g → p f ≡ true → p g ≡ true → contradicts f g ≡ true) → (fs : List (List ℕ)) → AllByRecursion R fs → AreApart fs → AtMostOne p fs
 one-of p R clash [] known apart = tt
-one-of p R clash (f ∷ fs) known apart =
-    (λ is. all-of (λ g. R g × (contradicts f g ≡ false)) (λ g. p g ≡ false) (λ g here. not-both g is here.0 here.1) fs (both R (λ g. contradicts f g ≡ false) fs known.1 apart.0),
-    one-of p R clash fs known.1 apart.1)
+one-of p R clash (f ∷ fs) known apart = (
+  λ is. all-of (λ g. R g × (contradicts f g ≡ false)) (λ g. p g ≡ false) (λ g here. not-both g is here.0 here.1) fs (both R (λ g. contradicts f g ≡ false) fs known.1 apart.0),
+  one-of p R clash fs known.1 apart.1,
+)
   where
     not-both : (g : List ℕ) → p f ≡ true → R g → contradicts f g ≡ false → p g ≡ false
     not-both g is here not = by (p g) refl
@@ -338,9 +339,10 @@ none-of p (f ∷ fs) none = by (p f) refl (λ rest. none-of p fs rest)
 ends-by : (n : ℕ) (fs : List (List ℕ)) → AllByRecursion (λ f. is_broken f ≡ false) fs → ((k : ℕ) → n ≤ k → count_by (carries k) fs ≡ 0) → AllByRecursion (λ f. end_of f ≤ n) fs
 unfolding carries
 ends-by n [] fine behind = tt
-ends-by n (f ∷ fs) fine behind =
-    (by (cases_lt n (end_of f)),
-    ends-by n fs fine.1 (λ k past. omega (arith, behind k past, count-cons (carries k) f fs)))
+ends-by n (f ∷ fs) fine behind = (
+  by (cases_lt n (end_of f)),
+  ends-by n fs fine.1 (λ k past. omega (arith, behind k past, count-cons (carries k) f fs)),
+)
   where
     some : 0 < length (carried f)
     some = unbroken-some f fine.0

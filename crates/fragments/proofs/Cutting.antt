@@ -289,12 +289,15 @@ module _ (mtu identification : ℕ) (frame : List ℕ) (is : IsCut mtu identific
       at : (j : ℕ) × Holds (pieces_of mtu frame) (step mtu frame) x j → (j : ℕ) × Holds (pieces_of mtu frame) (step mtu frame) x j × PassesOnce (carries x) the (cut mtu identification frame) j
       at found =
           let j : ℕ = found.0 in
-          let holds : Holds (pieces_of mtu frame) (step mtu frame) x j = found.1 in
-          (j, holds, counts-one (carries x) the 0 (pieces_of mtu frame) j (omega arith) (omega (arith, holds.there))
-          (sized j holds.there true (within-ends x (j * step mtu frame) (length (carried (the j))) holds.low (in-piece j holds (cases_lt (j + 1) (pieces_of mtu frame)))))
-          (λ k low high differs.
-          let there : k < pieces_of mtu frame = omega (arith, high) in
-          sized k there false (beyond-ends x (k * step mtu frame) (length (carried (the k))) (not-in j k holds there differs (cases_lt (k + 1) (pieces_of mtu frame))))))
+          let holds : Holds (pieces_of mtu frame) (step mtu frame) x j = found.1 in (
+            j,
+            holds,
+            counts-one (carries x) the 0 (pieces_of mtu frame) j (omega arith) (omega (arith, holds.there))
+                (sized j holds.there true (within-ends x (j * step mtu frame) (length (carried (the j))) holds.low (in-piece j holds (cases_lt (j + 1) (pieces_of mtu frame)))))
+                (λ k low high differs.
+                let there : k < pieces_of mtu frame = omega (arith, high) in
+                sized k there false (beyond-ends x (k * step mtu frame) (length (carried (the k))) (not-in j k holds there differs (cases_lt (k + 1) (pieces_of mtu frame))))),
+          )
 
   carried-none : (x : ℕ) → length (bytes_in frame) ≤ x → count_by (carries x) (cut mtu identification frame) ≡ 0
   carried-none x behind = counts-none (carries x) the 0 (pieces_of mtu frame) (λ k low high. beyond k (omega (arith, high)))

@@ -56,15 +56,17 @@ fragment-tests packet = (to, from)
 
     to : ipv4_refusal packet ≡ Some Fragment → HasHeader packet × (is_fragment (header_of packet) ≡ true)
     to e =
-        let p = passes (length packet) (header_of packet).version size (header_of packet).total_length (has_wrong_sum (take size packet)) (is_fragment (header_of packet)) e in
-        (record {
-          long = p.fixed;
-          version = p.version_four;
-          holds_fields = p.fields;
-          holds_header = p.header;
-          there = p.there;
-          sum = right (word_sum (take size packet)) p.sum;
-        }, p.is_part)
+        let p = passes (length packet) (header_of packet).version size (header_of packet).total_length (has_wrong_sum (take size packet)) (is_fragment (header_of packet)) e in (
+          record {
+            long = p.fixed;
+            version = p.version_four;
+            holds_fields = p.fields;
+            holds_header = p.header;
+            there = p.there;
+            sum = right (word_sum (take size packet)) p.sum;
+          },
+          p.is_part,
+        )
 
     from : HasHeader packet × (is_fragment (header_of packet) ≡ true) → ipv4_refusal packet ≡ Some Fragment
     from h = passed (length packet) (header_of packet).version size (header_of packet).total_length (has_wrong_sum (take size packet)) (is_fragment (header_of packet)) (record {

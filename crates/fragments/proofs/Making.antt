@@ -26,12 +26,15 @@ pub ready-more : (name : Name) (there : List (List ℕ)) (f : List ℕ) → AllB
 ready-more name there f each apart new effect =
     let known = completes there f effect in
     let all = each-more name there f each new in
-    let beside = apart-more there f apart known.0 in
-    (record {
-      complete = whole-complete (there ++ f ∷ []) beside (unbroken-each name (there ++ f ∷ []) all) known.1;
-      within = whole-within (there ++ f ∷ []) beside known.1;
-      short = known.2;
-    }, beside, all)
+    let beside = apart-more there f apart known.0 in (
+      record {
+        complete = whole-complete (there ++ f ∷ []) beside (unbroken-each name (there ++ f ∷ []) all) known.1;
+        within = whole-within (there ++ f ∷ []) beside known.1;
+        short = known.2;
+      },
+      beside,
+      all,
+    )
 
 -- the datagram of this name, as a datagram that is kept, and what completes it
 pub ready-there : (f : List ℕ) (ds : List Datagram) (d : Datagram) → IsFragment f → is_broken f ≡ false → AreKept ds → find (is_named (name_of f)) ds ≡ Some d → effect_of d.fragments f ≡ Completes

@@ -109,8 +109,8 @@ pub record IsPiece (mtu identification : ℕ) (frame : List ℕ) (k : ℕ) : Typ
   pub header : HasHeader (ipv4_in (piece mtu identification frame k))
   pub short : length (piece mtu identification frame k) ≤ 14 + mtu
   pub part : 1 < piece_count mtu (ipv4_in frame)
-    → IsFragment (piece mtu identification frame k)
+      → IsFragment (piece mtu identification frame k)
   pub full : k + 1 < piece_count mtu (ipv4_in frame)
-    → 14 + mtu < length (piece mtu identification frame k) + 8
+      → 14 + mtu < length (piece mtu identification frame k) + 8
   pub eighths : k + 1 < piece_count mtu (ipv4_in frame)
-    → length (piece_payload mtu (ipv4_in frame) k) % 8 ≡ 0
+      → length (piece_payload mtu (ipv4_in frame) k) % 8 ≡ 0

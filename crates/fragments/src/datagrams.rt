@@ -56,11 +56,7 @@ impl Model for Datagram {
 
 impl Datagram {
     /// Returns a datagram of which this fragment is there.
-    pub(crate) fn begin(
-        fragments: Vec<Fragment>,
-        name: Name,
-        since: u64,
-    ) -> Datagram
+    pub(crate) fn begin(fragments: Vec<Fragment>, name: Name, since: u64) -> Datagram
         ensures { result ≡ record { name = name; since = since; fragments = fragments.items } }
     {
         Datagram {

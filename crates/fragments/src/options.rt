@@ -47,7 +47,11 @@ fn size_of(kind: u8, rest: &[u8]) -> usize
         [] => 0,
         [size, ..] => {
             let size = usize::from(*size);
-            if size >= 2 && size <= rest.len() + 1 { size } else { 0 }
+            if size >= 2 && size <= rest.len() + 1 {
+                size
+            } else {
+                0
+            }
         }
     }
 }

@@ -233,7 +233,11 @@ impl<'a> FragmentView<'a> {
             then (header_of (ipv4_in self.now.frame.now)).header_length else 0) }
         ensures most { result ≤ 60 }
     {
-        if self.starts() { self.header_length() } else { 0 }
+        if self.starts() {
+            self.header_length()
+        } else {
+            0
+        }
     }
 
     /// Whether the fragment carries nothing, or isn't the last and carries no multiple of 8 bytes.

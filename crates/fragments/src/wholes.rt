@@ -129,7 +129,11 @@ pub(crate) fn write_whole(frame: &mut Vec<u8>, fragments: &[Fragment])
 {
     let first = first_fragment(fragments);
     let end = payload_end(fragments);
-    let header = summed(first.packet(), fields(fragments, &first, end), first.options());
+    let header = summed(
+        first.packet(),
+        fields(fragments, &first, end),
+        first.options(),
+    );
     append_reserved(frame, first.ethernet());
     append_reserved(frame, &header);
     append_reserved(frame, first.options());

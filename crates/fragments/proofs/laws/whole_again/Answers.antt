@@ -10,6 +10,7 @@ returns-clause-complete c = complete-cut
 pub returns-clause-whole : goal.returns-clause-whole
 returns-clause-whole c = λ (mtu identification : ℕ) (frame : List ℕ) (others : List (List ℕ)) is same.
     again mtu identification frame others is
-    (λ (f : List ℕ).
-        ((λ there. among-from others f ((same f).0 (among-to (cut mtu identification frame) f there))),
-        λ there. among-from (cut mtu identification frame) f ((same f).1 (among-to others f there))))
+    (λ (f : List ℕ). (
+      (λ there. among-from others f ((same f).0 (among-to (cut mtu identification frame) f there))),
+      λ there. among-from (cut mtu identification frame) f ((same f).1 (among-to others f there)),
+    ))
