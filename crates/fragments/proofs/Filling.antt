@@ -26,10 +26,10 @@ put-get at k bytes old fits = by (cases_lt k at) (cases_lt k (at + length bytes)
     rest = drop (at + length bytes) old
 
     outside : (nat_le at k && nat_lt k (at + length bytes)) ≡ false → get_or (take at old ++ bytes ++ rest) k 0 ≡ get_or old k 0 → Goal (get_or (take at old ++ bytes ++ rest) k 0)
-    outside no same = same ∙ sym (ap (λ (b : Bool). cond b (get_or bytes (k - at) 0) (get_or old k 0)) no)
+    outside isnt same = same ∙ sym (ap (λ (b : Bool). cond b (get_or bytes (k - at) 0) (get_or old k 0)) isnt)
 
     inside : (nat_le at k && nat_lt k (at + length bytes)) ≡ true → get_or (take at old ++ bytes ++ rest) k 0 ≡ get_or bytes (k - at) 0 → Goal (get_or (take at old ++ bytes ++ rest) k 0)
-    inside yes same = same ∙ sym (ap (λ (b : Bool). cond b (get_or bytes (k - at) 0) (get_or old k 0)) yes)
+    inside is same = same ∙ sym (ap (λ (b : Bool). cond b (get_or bytes (k - at) 0) (get_or old k 0)) is)
 
     by : (k < at) ⊎ (at ≤ k) → (k < at + length bytes) ⊎ (at + length bytes ≤ k) → Goal (get_or (take at old ++ bytes ++ rest) k 0)
     by (inl before) _ =
@@ -87,9 +87,9 @@ pub record Filled (n : ℕ) (all left : List (List ℕ)) (payload : List ℕ) : 
   pub written : payload ≡ bytes_to n (drop (length left) all)
 
 pub fill-begins : (n : ℕ) (all : List (List ℕ)) (payload : List ℕ) → payload ≡ replicate n 0 → Filled n all all payload
-fill-begins n all payload zero = record {
+fill-begins n all payload was = record {
   front = sym (take_all (length all) all (omega arith));
-  written = zero ∙ filled-none n ∙ ap (bytes_to n) (sym (drop_all (length all) all (omega arith)));
+  written = was ∙ filled-none n ∙ ap (bytes_to n) (sym (drop_all (length all) all (omega arith)));
 }
 
 -- the list, around the last one of what is left

@@ -16,5 +16,7 @@ mod Ranges
 mod Shares
 mod Sizes
 mod Spelling
+mod Takings
+mod Writing
 mod Trimming
 pub mod Offered

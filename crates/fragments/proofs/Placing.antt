@@ -127,7 +127,7 @@ uncounted : {X : Type 0} (p : X → Bool) (xs : List X) → length xs ≤ positi
 uncounted p [] past = refl
 uncounted {X} p (x ∷ xs) past =
     let known = past-all p x xs past in
-    omega (arith, sum_by-cons (λ (y : X). cond (p y) 1 0) x xs, ap (λ (b : Bool). cond b 1 0) known.0, uncounted p xs known.1)
+    omega (arith, sum_by-cons (λ (y : X). cond (p y) 1 0) x xs, ap {B = ℕ} (λ (b : Bool). cond b 1 0) known.0, uncounted p xs known.1)
 
 pub none-counted : {X : Type 0} (p : X → Bool) (xs : List X) → position p xs ≡ None → count_by p xs ≡ 0
 none-counted p xs none = uncounted p xs (past-none p xs none)

@@ -254,7 +254,8 @@ fn write_at(frame: &mut Vec<u8>, datagrams: &[Datagram], at: usize)
     requires at { at < length datagrams.now }
     requires empty { frame.old.items ≡ [] }
     requires ready { IsReady (fragments_at at datagrams.now) }
-    requires room { 14 + whole_length (fragments_at at datagrams.now) ≤ vec_capacity frame.old }
+    requires room { vec_len frame.old + (14 + whole_length (fragments_at at datagrams.now))
+        ≤ vec_capacity frame.old }
     ensures { frame.new.items ≡ reassembled (fragments_at at datagrams.now) }
 {
     let datagram = &datagrams[at];

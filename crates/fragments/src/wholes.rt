@@ -124,7 +124,8 @@ fn append_payload(list: &mut Vec<u8>, fragments: &[Fragment], end: usize)
 pub(crate) fn write_whole(frame: &mut Vec<u8>, fragments: &[Fragment])
     requires empty { frame.old.items ≡ [] }
     requires ready { IsReady fragments.now }
-    requires room { 14 + whole_length fragments.now ≤ vec_capacity frame.old }
+    requires room { vec_len frame.old + (14 + whole_length fragments.now)
+        ≤ vec_capacity frame.old }
     ensures { frame.new.items ≡ reassembled fragments.now }
 {
     let first = first_fragment(fragments);

@@ -28,4 +28,4 @@ loop-fragment-preserved c =
     (subst (λ (g : List ℕ). Puts (first_of g) (carried g) old new) c.view.ensures c.put.ensures)
 
 pub returns : goal.returns
-returns c = fill-ends (length c.args.payload.now) c.args.fragments.now c.loop-fragment.left.now c.loop-fragment.payload c.loop-fragment.invariant c.in-None.ensures.cases
+returns c = fill-ends (length c.args.payload.now) c.args.fragments.now c.loop-fragment.left.now c.loop-fragment.payload c.loop-fragment.invariant c.in_default.ensures.cases
