@@ -20,8 +20,8 @@ returns-in-Some-clause-outcome c =
     let is : f ≡ trimmed frame = c.trimmed-fragment.ensures ∙ ap trimmed c.new.ensures in
     let fine : is_broken f ≡ false = sym c.is_broken.ensures ∙ c.if-is_broken.false in
     let there : position (is_named (name_of f)) ds ≡ Some c.in-Some.at =
-        ap (λ (n : Name). position (is_named n) ds) (sym c.name-name.ensures)
-        ∙ ap (position (is_named c.name-name.result)) (sym c.deref.ensures.value) ∙ sym c.place_of.ensures ∙ c.in-Some.is in
+    ap (λ (n : Name). position (is_named n) ds) (sym c.name-name.ensures)
+    ∙ ap (position (is_named c.name-name.result)) (sym c.deref.ensures.value) ∙ sym c.place_of.ensures ∙ c.in-Some.is in
     let same : joined_at c.in-Some.at f ds ≡ taken c.args.now frame ds = taken-some c.args.now c.in-Some.at frame f ds is fine there in
     subst (λ (t : Taking). IfOk c.join.result (λ (o : Outcome). o ≡ record { came = t.came; lost = t.lost })) same c.join.ensures.outcome
 
@@ -33,8 +33,8 @@ returns-in-Some-clause-left c =
     let is : f ≡ trimmed frame = c.trimmed-fragment.ensures ∙ ap trimmed c.new.ensures in
     let fine : is_broken f ≡ false = sym c.is_broken.ensures ∙ c.if-is_broken.false in
     let there : position (is_named (name_of f)) ds ≡ Some c.in-Some.at =
-        ap (λ (n : Name). position (is_named n) ds) (sym c.name-name.ensures)
-        ∙ ap (position (is_named c.name-name.result)) (sym c.deref.ensures.value) ∙ sym c.place_of.ensures ∙ c.in-Some.is in
+    ap (λ (n : Name). position (is_named n) ds) (sym c.name-name.ensures)
+    ∙ ap (position (is_named c.name-name.result)) (sym c.deref.ensures.value) ∙ sym c.place_of.ensures ∙ c.in-Some.is in
     let same : joined_at c.in-Some.at f ds ≡ taken c.args.now frame ds = taken-some c.args.now c.in-Some.at frame f ds is fine there in
     subst (λ (t : Taking). OnOk c.join.result (c.join.new.datagrams.items ≡ left_first t ds)) same c.join.ensures.left
 
@@ -46,8 +46,8 @@ returns-in-Some-clause-whole c =
     let is : f ≡ trimmed frame = c.trimmed-fragment.ensures ∙ ap trimmed c.new.ensures in
     let fine : is_broken f ≡ false = sym c.is_broken.ensures ∙ c.if-is_broken.false in
     let there : position (is_named (name_of f)) ds ≡ Some c.in-Some.at =
-        ap (λ (n : Name). position (is_named n) ds) (sym c.name-name.ensures)
-        ∙ ap (position (is_named c.name-name.result)) (sym c.deref.ensures.value) ∙ sym c.place_of.ensures ∙ c.in-Some.is in
+    ap (λ (n : Name). position (is_named n) ds) (sym c.name-name.ensures)
+    ∙ ap (position (is_named c.name-name.result)) (sym c.deref.ensures.value) ∙ sym c.place_of.ensures ∙ c.in-Some.is in
     let same : joined_at c.in-Some.at f ds ≡ taken c.args.now frame ds = taken-some c.args.now c.in-Some.at frame f ds is fine there in
     subst (λ (t : Taking). OnOk c.join.result (c.join.new.whole.items ≡ unwrap_or t.made c.args.whole.now.items)) same c.join.ensures.whole
 
@@ -59,8 +59,8 @@ returns-in-Some-clause-refused c =
     let is : f ≡ trimmed frame = c.trimmed-fragment.ensures ∙ ap trimmed c.new.ensures in
     let fine : is_broken f ≡ false = sym c.is_broken.ensures ∙ c.if-is_broken.false in
     let there : position (is_named (name_of f)) ds ≡ Some c.in-Some.at =
-        ap (λ (n : Name). position (is_named n) ds) (sym c.name-name.ensures)
-        ∙ ap (position (is_named c.name-name.result)) (sym c.deref.ensures.value) ∙ sym c.place_of.ensures ∙ c.in-Some.is in
+    ap (λ (n : Name). position (is_named n) ds) (sym c.name-name.ensures)
+    ∙ ap (position (is_named c.name-name.result)) (sym c.deref.ensures.value) ∙ sym c.place_of.ensures ∙ c.in-Some.is in
     let same : joined_at c.in-Some.at f ds ≡ taken c.args.now frame ds = taken-some c.args.now c.in-Some.at frame f ds is fine there in
     subst (λ (x : List ℕ). OnErr c.join.result (LacksCopy x ⊎ LacksWhole (taken c.args.now frame ds).made)) is
     (subst (λ (t : Taking). OnErr c.join.result (LacksCopy f ⊎ LacksWhole t.made)) same c.join.ensures.refused)
@@ -73,8 +73,8 @@ returns-in_ok-lost-in-None-clause-outcome c =
     let is : f ≡ trimmed frame = c.trimmed-fragment.ensures ∙ ap trimmed c.new.ensures in
     let fine : is_broken f ≡ false = sym c.is_broken.ensures ∙ c.if-is_broken.false in
     let there : position (is_named (name_of f)) ds ≡ None =
-        ap (λ (n : Name). position (is_named n) ds) (sym c.name-name.ensures)
-        ∙ ap (position (is_named c.name-name.result)) (sym c.deref.ensures.value) ∙ sym c.place_of.ensures ∙ c.in-None.is in
+    ap (λ (n : Name). position (is_named n) ds) (sym c.name-name.ensures)
+    ∙ ap (position (is_named c.name-name.result)) (sym c.deref.ensures.value) ∙ sym c.place_of.ensures ∙ c.in-None.is in
     let same = taken-none c.args.now frame f ds is fine there in
     c.held.ensures
     ∙ ap (λ (l : Option Loss). let o : Outcome = record { came = Held; lost = l } in o) c.in_ok-lost-in-None.ensures.lost
@@ -88,8 +88,8 @@ returns-in_ok-lost-in-None-clause-left c =
     let is : f ≡ trimmed frame = c.trimmed-fragment.ensures ∙ ap trimmed c.new.ensures in
     let fine : is_broken f ≡ false = sym c.is_broken.ensures ∙ c.if-is_broken.false in
     let there : position (is_named (name_of f)) ds ≡ None =
-        ap (λ (n : Name). position (is_named n) ds) (sym c.name-name.ensures)
-        ∙ ap (position (is_named c.name-name.result)) (sym c.deref.ensures.value) ∙ sym c.place_of.ensures ∙ c.in-None.is in
+    ap (λ (n : Name). position (is_named n) ds) (sym c.name-name.ensures)
+    ∙ ap (position (is_named c.name-name.result)) (sym c.deref.ensures.value) ∙ sym c.place_of.ensures ∙ c.in-None.is in
     let same = taken-none c.args.now frame f ds is fine there in
     c.in_ok-lost-in-None.ensures.ok ∙ ap (λ (t : Taking). left_first t ds) same
 
@@ -101,7 +101,7 @@ returns-in_ok-lost-in-None-clause-whole c =
     let is : f ≡ trimmed frame = c.trimmed-fragment.ensures ∙ ap trimmed c.new.ensures in
     let fine : is_broken f ≡ false = sym c.is_broken.ensures ∙ c.if-is_broken.false in
     let there : position (is_named (name_of f)) ds ≡ None =
-        ap (λ (n : Name). position (is_named n) ds) (sym c.name-name.ensures)
-        ∙ ap (position (is_named c.name-name.result)) (sym c.deref.ensures.value) ∙ sym c.place_of.ensures ∙ c.in-None.is in
+    ap (λ (n : Name). position (is_named n) ds) (sym c.name-name.ensures)
+    ∙ ap (position (is_named c.name-name.result)) (sym c.deref.ensures.value) ∙ sym c.place_of.ensures ∙ c.in-None.is in
     let same = taken-none c.args.now frame f ds is fine there in
     ap (λ (t : Taking). unwrap_or t.made c.args.whole.now.items) same
