@@ -442,9 +442,9 @@ pub fn ticks_let_go()
 /// A gateway that is apart waits for nobody: after a tick at which it is apart no packet waits for a
 /// pair, and each pair of its table translates. While that is so, no packet comes to wait for one.
 pub fn alone_waits_for_nobody()
-    ensures tick { (s : GatewayAndOutput) (now : ℕ) (s2 : GatewayAndOutput) → IsStepOn s (Tick now) s2
-        → IsBook s.shown.ledger.book → KeepsBytes s.shown → is_apart s2.shown ≡ true
-        → WaitsForNobody s2.shown }
+    ensures tick { (s : GatewayAndOutput) (now : ℕ) (s2 : GatewayAndOutput)
+        → IsStepOn s (Tick now) s2 → IsBook s.shown.ledger.book → KeepsBytes s.shown
+        → is_apart s2.shown ≡ true → WaitsForNobody s2.shown }
     ensures packet { (g : Shown) (side : Side) (flow : Flow) (size : Size) (e : Endpoint)
         → IsBook g.ledger.book → is_apart g ≡ true → WaitsForNobody g
         → plan_of g side flow size ≢ Ok (WaitForPair e) }
@@ -455,10 +455,10 @@ pub fn alone_waits_for_nobody()
 /// No step moves an endpoint: a pair that is its endpoint's pair and translates is so after each step
 /// that doesn't note its release.
 pub fn not_moved()
-    ensures { (s : GatewayAndOutput) (event : Event) (s2 : GatewayAndOutput) (e : Endpoint) (p : Pair)
-        → IsStepOn s event s2 → HasBytes event → IsBook s.shown.ledger.book → KeepsBytes s.shown
-        → is_synced s.shown.ledger.book.stage ≡ true → serving s.shown.ledger.book e ≡ Some p
-        → IsUnmoved s e p s2 }
+    ensures { (s : GatewayAndOutput) (event : Event) (s2 : GatewayAndOutput) (e : Endpoint)
+        (p : Pair) → IsStepOn s event s2 → HasBytes event → IsBook s.shown.ledger.book
+        → KeepsBytes s.shown → is_synced s.shown.ledger.book.stage ≡ true
+        → serving s.shown.ledger.book e ≡ Some p → IsUnmoved s e p s2 }
 {
     readings_law();
 }
@@ -478,8 +478,8 @@ pub fn goes_on_is_sent()
         → (verdict g side bytes ≡ outcome.Dropped NoPort) ↔ HasNoPort g side bytes }
     ensures host_limit { (g : Shown) (side : Side) (bytes : List ℕ)
         → (verdict g side bytes ≡ outcome.Dropped HostLimit) ↔ HasAllPairs g side bytes }
-    ensures own { (g : Shown) (side : Side) (flow : Flow) (size : Size) (by : Translation) (next : Mac)
-        → IsBook g.ledger.book → plan_of g side flow size ≡ Ok (SendBy by next)
+    ensures own { (g : Shown) (side : Side) (flow : Flow) (size : Size) (by : Translation)
+        (next : Mac) → IsBook g.ledger.book → plan_of g side flow size ≡ Ok (SendBy by next)
         → GoesByOwn g flow by }
     ensures alone { (g : Shown) (side : Side) (bytes : List ℕ) → is_apart g ≡ true
         → MayBegin g side bytes → verdict g side bytes ≡ outcome.Sent }
