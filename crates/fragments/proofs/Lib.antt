@@ -1,0 +1,22 @@
+mod Adding
+mod ByPlace
+mod Bytes
+mod Counting
+mod Cutting
+mod Ending
+mod Filling
+mod Grammar
+mod Joining
+mod Keeping
+mod Later
+mod Making
+mod Orders
+mod Placing
+mod Ranges
+mod Shares
+mod Sizes
+mod Spelling
+mod Takings
+mod Writing
+mod Trimming
+pub mod Offered

@@ -1,0 +1,10 @@
+pub mod Bytes
+pub mod Cut
+pub mod Fragment
+pub mod Gathered
+pub mod Header
+pub mod Memory
+pub mod Name
+pub mod Options
+pub mod Places
+pub mod Whole

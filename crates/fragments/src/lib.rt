@@ -1,0 +1,24 @@
+//! Fragments of IPv4 packets: put together to whole packets as they come, and cut where a packet is too long.
+#![tactic(auto)]
+
+mod appending;
+mod copies;
+mod cuts;
+mod datagrams;
+mod gatherings;
+mod headers;
+mod laws;
+mod names;
+mod numbering;
+mod options;
+mod views;
+mod wholes;
+
+pub use cuts::{append_piece, piece_count};
+pub use gatherings::{Came, Gathering, Loss};
+pub use laws::{
+    bounded, complete_law, cut_law, fragment_grammar, order_law, whole_again, whole_law,
+};
+pub use names::Name;
+pub use numbering::set_identification;
+pub use views::is_fragment;

@@ -1,0 +1,4 @@
+pub mod State
+pub mod Arrivals
+pub mod Sendings
+pub mod Steps
