@@ -18,6 +18,7 @@ use Rattle.spec_pair.specs.World.{Can, IsWorld, Scene, after_event, seen_by}
 use Rattle.spec_step.specs.Founding.{begun, bounds_of, founded, link_places}
 use Rattle.spec_step.specs.Machine.{box_of}
 use Rattle.spec_step.specs.Shown.{Shown}
+use Rattle.spec_gateway.specs.State.{beginning}
 use Rattle.frame_sim.specs.World.{HaveSameRanges, World, founding_of, gateway_at, half, is_up, settings_of, synced_at, with_half}
 use Rattle.frame_sim.specs.Events.{may_boot, may_crash, noting}
 use Rattle.frame_sim.specs.Scene.{IsHalf, IsSound, IsThat, box_at, ranges_of, scene_of}
@@ -65,20 +66,20 @@ crash-parts w i may =
 can-crash : (w : World) (pushed : GatewayId → List Record) (i : GatewayId) → may_crash w i ≡ true → Can (ranges_of w.settings.ports) i (seen_by i (scene_of w pushed)) act.Crash
 can-crash w pushed Zero may =
     let parts = crash-parts w Zero may in
-    (up-of w.zero.gateway w.zero.boot (pushed Zero) ∙ parts.0, (λ l h. absurd h), λ s. synced-of w.one.gateway w.one.boot (pushed One) ∙ parts.1 (sym (synced-of w.zero.gateway w.zero.boot (pushed Zero)) ∙ s))
+    (up-of (gateway_at w Zero) w.zero.boot (pushed Zero) ∙ parts.0, (λ l h. absurd h), λ s. synced-of (gateway_at w One) w.one.boot (pushed One) ∙ parts.1 (sym (synced-of (gateway_at w Zero) w.zero.boot (pushed Zero)) ∙ s))
 can-crash w pushed One may =
     let parts = crash-parts w One may in
-    (up-of w.one.gateway w.one.boot (pushed One) ∙ parts.0, (λ l h. absurd h), λ s. synced-of w.zero.gateway w.zero.boot (pushed Zero) ∙ parts.1 (sym (synced-of w.one.gateway w.one.boot (pushed One)) ∙ s))
+    (up-of (gateway_at w One) w.one.boot (pushed One) ∙ parts.0, (λ l h. absurd h), λ s. synced-of (gateway_at w Zero) w.zero.boot (pushed Zero) ∙ parts.1 (sym (synced-of (gateway_at w One) w.one.boot (pushed One)) ∙ s))
 
-crashed-is : (w : World) (pushed : GatewayId → List Record) (i : GatewayId) (moment : ℕ) → ((j : GatewayId) → IsHalf w.settings.ports j (half w j).boot (half w j).gateway (pushed j))
+crashed-is : (w : World) (pushed : GatewayId → List Record) (i : GatewayId) (moment : ℕ) → ((j : GatewayId) → IsHalf w.settings.ports j (half w j).boot (gateway_at w j) (pushed j))
     → after_event (ranges_of w.settings.ports) (scene_of w pushed) (crash i moment) ≡ scene_of (crashed_world w i moment) (with_pushed pushed i [])
 crashed-is w pushed Zero moment all =
     let s = scene_of w pushed in
-    ap (λ (b : ℕ). let x : Scene = record s { mine = bare false b; trace = noting Zero moment Crashed ∷ reverse w.trace } in x) (boot-of w.settings.ports Zero w.zero.gateway w.zero.boot (pushed Zero) (all Zero))
+    ap (λ (b : ℕ). let x : Scene = record s { mine = bare false b; trace = noting Zero moment Crashed ∷ reverse w.trace } in x) (boot-of w.settings.ports Zero (gateway_at w Zero) w.zero.boot (pushed Zero) (all Zero))
     ∙ ap (λ (t : List Note). let x : Scene = record s { mine = bare false w.zero.boot; trace = t } in x) (one-more w.trace (noting Zero moment Crashed))
 crashed-is w pushed One moment all =
     let s = scene_of w pushed in
-    ap (λ (b : ℕ). let x : Scene = record s { theirs = bare false b; trace = noting One moment Crashed ∷ reverse w.trace } in x) (boot-of w.settings.ports One w.one.gateway w.one.boot (pushed One) (all One))
+    ap (λ (b : ℕ). let x : Scene = record s { theirs = bare false b; trace = noting One moment Crashed ∷ reverse w.trace } in x) (boot-of w.settings.ports One (gateway_at w One) w.one.boot (pushed One) (all One))
     ∙ ap (λ (t : List Note). let x : Scene = record s { theirs = bare false w.one.boot; trace = t } in x) (one-more w.trace (noting One moment Crashed))
 
 pub crash-sound : GoesTo → OthersCrash → (w : World) (i : GatewayId) (moment : ℕ) → IsSound w → may_crash w i ≡ true → IsSound (crashed_world w i moment)
@@ -100,18 +101,18 @@ abbrev boot : GatewayId → ℕ → machine.MachineEvent
 boot i n = record { by = i; moment = 0; act = act.Boot n }
 
 abbrev pub booted_world : World → GatewayId → ℕ → World
-booted_world w i n = with_half w i (record (half w i) { gateway = Some (begun (settings_of w i) i n); boot = n }) (w.trace ++ noting i 0 (Booted n) ∷ [])
+booted_world w i n = with_half w i (record (half w i) { gateway = Some (beginning (begun (settings_of w i) i n)); boot = n }) (w.trace ++ noting i 0 (Booted n) ∷ [])
 
-can-boot : (w : World) (pushed : GatewayId → List Record) (i : GatewayId) (n : ℕ) → ((j : GatewayId) → IsHalf w.settings.ports j (half w j).boot (half w j).gateway (pushed j))
+can-boot : (w : World) (pushed : GatewayId → List Record) (i : GatewayId) (n : ℕ) → ((j : GatewayId) → IsHalf w.settings.ports j (half w j).boot (gateway_at w j) (pushed j))
     → may_boot w i n ≡ true → Can (ranges_of w.settings.ports) i (seen_by i (scene_of w pushed)) (act.Boot n)
 can-boot w pushed Zero n all may =
-    let parts = and_parts (not (is_up w.zero.gateway)) (nat_lt w.zero.boot n) may in
-    let less = subst (λ b. b < n) (sym (boot-of w.settings.ports Zero w.zero.gateway w.zero.boot (pushed Zero) (all Zero))) (ltb-true w.zero.boot n parts.1) in
-    ((up-of w.zero.gateway w.zero.boot (pushed Zero) ∙ not-true (is_up w.zero.gateway) parts.0, less), (λ l h. absurd h), tt)
+    let parts = and_parts (not (is_up (gateway_at w Zero))) (nat_lt w.zero.boot n) may in
+    let less = subst (λ b. b < n) (sym (boot-of w.settings.ports Zero (gateway_at w Zero) w.zero.boot (pushed Zero) (all Zero))) (ltb-true w.zero.boot n parts.1) in
+    ((up-of (gateway_at w Zero) w.zero.boot (pushed Zero) ∙ not-true (is_up (gateway_at w Zero)) parts.0, less), (λ l h. absurd h), tt)
 can-boot w pushed One n all may =
-    let parts = and_parts (not (is_up w.one.gateway)) (nat_lt w.one.boot n) may in
-    let less = subst (λ b. b < n) (sym (boot-of w.settings.ports One w.one.gateway w.one.boot (pushed One) (all One))) (ltb-true w.one.boot n parts.1) in
-    ((up-of w.one.gateway w.one.boot (pushed One) ∙ not-true (is_up w.one.gateway) parts.0, less), (λ l h. absurd h), tt)
+    let parts = and_parts (not (is_up (gateway_at w One))) (nat_lt w.one.boot n) may in
+    let less = subst (λ b. b < n) (sym (boot-of w.settings.ports One (gateway_at w One) w.one.boot (pushed One) (all One))) (ltb-true w.one.boot n parts.1) in
+    ((up-of (gateway_at w One) w.one.boot (pushed One) ∙ not-true (is_up (gateway_at w One)) parts.0, less), (λ l h. absurd h), tt)
 
 begun-box : BoxBooted → (settings : Settings) (i : GatewayId) (n : ℕ) → booted n ≡ box_of (begun settings i n) []
 unfolding begun
@@ -145,7 +146,7 @@ boot-sound goes law others begins w i n sound may =
     record {
       ranges = record { zero = sound.ranges.zero; one = sound.ranges.one };
       pushed = with_pushed sound.pushed i [];
-      halves = halves-are w sound.pushed i (record (half w i) { gateway = Some (begun (settings_of w i) i n); boot = n }) [] (w.trace ++ noting i 0 (Booted n) ∷ []) sound.halves (begun-at w i n sound.ranges);
+      halves = halves-are w sound.pushed i (record (half w i) { gateway = Some (beginning (begun (settings_of w i) i n)); boot = n }) [] (w.trace ++ noting i 0 (Booted n) ∷ []) sound.halves (begun-at w i n sound.ranges);
       scene = subst (IsWorld r) (booted-is law w sound.pushed i n)
           (goes r (scene_of w sound.pushed) (boot i n) sound.scene (can-boot w sound.pushed i n sound.halves may));
       accounted = boot-accounted others begins w sound.pushed i n sound.halves sound.accounted;
@@ -174,7 +175,7 @@ founding-sound begins law founds settings settings_one are same = record {
   by_settings = founding-by-settings settings settings_one;
 }
   where
-    halves : (i : GatewayId) → IsHalf settings.ports i (half (founding_of settings settings_one) i).boot (half (founding_of settings settings_one) i).gateway []
+    halves : (i : GatewayId) → IsHalf settings.ports i (half (founding_of settings settings_one) i).boot (gateway_at (founding_of settings settings_one) i) []
     halves Zero = founded-that settings
     halves One = tt
 

@@ -41,8 +41,8 @@ mail_of sent = reverse (flat_map (λ bytes. letter_in (reading bytes)) sent)
 -- the scene of a world, where the two gateways pushed these records
 abbrev pub scene_of : World → (GatewayId → List Record) → Scene
 scene_of w pushed = record {
-  mine = box_at w.zero.gateway w.zero.boot (pushed Zero);
-  theirs = box_at w.one.gateway w.one.boot (pushed One);
+  mine = box_at (gateway_at w Zero) w.zero.boot (pushed Zero);
+  theirs = box_at (gateway_at w One) w.one.boot (pushed One);
   my_mail = mail_of w.zero.sent;
   their_mail = mail_of w.one.sent;
   trace = reverse w.trace;
@@ -87,7 +87,7 @@ pub record IsSound (w : World) : Type 0 where
   pub ranges : HaveSameRanges w.settings w.settings_one
   pub pushed : GatewayId → List Record
   pub halves : (i : GatewayId) →
-      IsHalf w.settings.ports i (half w i).boot (half w i).gateway (pushed i)
+      IsHalf w.settings.ports i (half w i).boot (gateway_at w i) (pushed i)
   pub scene : IsWorld (ranges_of w.settings.ports) (scene_of w pushed)
   pub accounted : IsAccounted w
   pub by_settings : IsBySettings w
@@ -96,4 +96,4 @@ pub record IsSound (w : World) : Type 0 where
 pub record IsHanded (w : World) (i : GatewayId) (event : Event) : Type 0 where
   pub letters : WasSent (letters_in event) (mail_of (half w (other i)).sent)
   pub words : (h : List Record) →
-      let o = half w (other i) in IsOff (words_in event) (box_at o.gateway o.boot h)
+      IsOff (words_in event) (box_at (gateway_at w (other i)) (half w (other i)).boot h)
