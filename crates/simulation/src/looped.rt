@@ -103,9 +103,10 @@ fn take_turns<C: Channel, F: Write + Drop, W: Write>(
         output.old output.new) }
 {
     let cutter = FrameCutter::of(*job.events.allocator(), world);
+    let events = job.events.as_slice();
     let mut counts = Counts::new();
     let mut refused = false;
-    for event in job.events.as_slice() {
+    for event in events {
         let step = turn(world, event, channel);
         refused = has_refused(refused, &step);
         capture_turn(capture, world, &cutter, event, &step)?;
