@@ -13,6 +13,7 @@ use std::io::{self, ErrorKind};
 use std::marker::Model;
 
 /// Cuts the frames that the two gateways of a world send, by their networks.
+#[derive(Drop)]
 pub(crate) struct FrameCutter {
     alloc: Global,
     zero: Networks,
