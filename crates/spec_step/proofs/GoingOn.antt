@@ -56,11 +56,10 @@ use Rattle.spec_step.specs.declared.plans.Reply.{Reply}
 use Rattle.spec_step.specs.declared.plans.Reply.TheVariants as reply
 use Rattle.spec_step.specs.GoingOn.{BeginsBy, GoesByOwn, HasAllPairs, HasNoPort, HaveErrorPairs, HavePairs, IsOwnWhereTwo, MayBegin, MayGoOn, MayPassOn, NeedsPair, NeedsPort, Translates}
 use Rattle.spec_step.specs.Shown.{Shown, is_apart, is_up, station_on}
-use Rattle.spec_step.specs.Verdict.{arrival_on, error_by, error_on, error_plan, exit_by, fits_at, hop_back, hop_to, if_fits, if_reply_fits, look_for, next_back, next_by, next_to, outcome_by, outcome_read, outcome_reply, pair_at, pair_in, pair_in_of, pair_out, plan_by, plan_from, plan_of, plan_on, plan_to, plan_via, reply_to, reply_via, target_pair, verdict}
-use Rattle.spec_step.proofs.Arriving.{read-on}
+use Rattle.spec_step.specs.Verdict.{error_by, error_on, error_plan, exit_by, fits_at, hop_back, hop_to, if_fits, if_reply_fits, look_for, next_back, next_by, next_to, outcome_by, outcome_read, outcome_reply, pair_at, pair_in, pair_in_of, pair_out, plan_by, plan_from, plan_of, plan_on, plan_to, plan_via, reading_on, reply_to, reply_via, target_pair, verdict}
 use Rattle.spec_step.proofs.Sends.{AreFound, IsOwn, plan-sends}
 use Rattle.spec_step.proofs.Translating.{pair-is}
-use Rattle.spec_step.proofs.Reasons.{IsFine, direction-fine, error-direction-fine, is_of_choice, arrival-fine, reads-up, then-fine}
+use Rattle.spec_step.proofs.Reasons.{IsFine, direction-fine, error-direction-fine, is_of_choice, reading-fine, reads-up, then-fine}
 
 -- ---- pairs that are found
 
@@ -138,10 +137,10 @@ up-synced : (synced stopped : Bool) → (synced && not stopped) ≡ true → syn
 up-synced true stopped is = refl
 up-synced false stopped is = absurd (cc)
 
-synced-reads : (g : Shown) (side : Side) (bytes : List ℕ) (r : Reading) → arrival_on g side bytes ≡ Ok r → is_synced g.ledger.book.stage ≡ true
+synced-reads : (g : Shown) (side : Side) (bytes : List ℕ) (r : Reading) → reading_on g side bytes ≡ Ok r → is_synced g.ledger.book.stage ≡ true
 synced-reads g side bytes r reads =
     let s = station_on g side in
-    up-synced (is_synced g.ledger.book.stage) g.stopped (reads-up side s.network (is_active s) (is_up g) bytes r (read-on g side bytes r reads))
+    up-synced (is_synced g.ledger.book.stage) g.stopped (reads-up side s.network (is_active s) (is_up g) bytes r reads)
 
 pub packet-sent : (g : Shown) (side : Side) (bytes : List ℕ) (by : Translation) → MayGoOn g side bytes by → verdict g side bytes ≡ Sent
 packet-sent g side bytes by may =
@@ -334,7 +333,7 @@ on-refused g flow way.Hairpin r choice is = at (target_pair g flow) refl is
 -- the packet of a frame is refused so
 record FrameRefused (g : Shown) (side : Side) (bytes : List ℕ) (r : Reason) : Type 0 where
   packet : Datagram
-  reads : arrival_on g side bytes ≡ Ok (Packet packet)
+  reads : reading_on g side bytes ≡ Ok (Packet packet)
   path : Direction
   goes : direction_of g.networks side packet.flow.protocol packet.flow.source.0 packet.flow.destination.0 ≡ Ok path
   refused : Refused g packet.flow path r
@@ -346,7 +345,7 @@ fitted-refused g flow x fits r choice is = at (plan_on g flow x) refl is
     at (Ok plan) there fitted = absurd (clash (if_fits fits plan) r (fits-fine fits plan) fitted choice)
     at (Err reason) there fitted = on-refused g flow x r choice (there ∙ fitted)
 
-packet-refused : (g : Shown) (side : Side) (bytes : List ℕ) (packet : Datagram) (r : Reason) → is_of_choice r ≡ true → arrival_on g side bytes ≡ Ok (Packet packet) → plan_of g side packet.flow packet.size ≡ Err r → FrameRefused g side bytes r
+packet-refused : (g : Shown) (side : Side) (bytes : List ℕ) (packet : Datagram) (r : Reason) → is_of_choice r ≡ true → reading_on g side bytes ≡ Ok (Packet packet) → plan_of g side packet.flow packet.size ≡ Err r → FrameRefused g side bytes r
 packet-refused g side bytes packet r choice reads is = at (direction_of g.networks side flow.protocol flow.source.0 flow.destination.0) refl (direction-fine g.networks side flow.protocol flow.source.0 flow.destination.0) is
   where
     flow : Flow
@@ -375,12 +374,12 @@ reply-refused (Ok (reply.AskAgain hop)) r choice is =
 reply-refused (Err reason) r choice is = let same : reason ≡ r = cc in ap Err same
 
 frame-refused : (g : Shown) (side : Side) (bytes : List ℕ) (r : Reason) → is_of_choice r ≡ true → verdict g side bytes ≡ Dropped r → FrameRefused g side bytes r
-frame-refused g side bytes r choice is = at (arrival_on g side bytes) refl is
+frame-refused g side bytes r choice is = at (reading_on g side bytes) refl is
   where
-    fine : IsFine (arrival_on g side bytes)
-    fine = arrival-fine side (station_on g side).network (is_active (station_on g side)) (is_up g) bytes
+    fine : IsFine (reading_on g side bytes)
+    fine = reading-fine side (station_on g side).network (is_active (station_on g side)) (is_up g) bytes
 
-    at : (o : Result Reading Reason) → arrival_on g side bytes ≡ o → outcome_read g side o ≡ Dropped r → FrameRefused g side bytes r
+    at : (o : Result Reading Reason) → reading_on g side bytes ≡ o → outcome_read g side o ≡ Dropped r → FrameRefused g side bytes r
     at (Ok (Arp p)) reads out = absurd (cc)
     at (Ok (Advert a from)) reads out = absurd (cc)
     at (Ok (Packet packet)) reads out = packet-refused g side bytes packet r choice reads (outcome-refused (plan_of g side packet.flow packet.size) r choice out)

@@ -1,6 +1,5 @@
 mod Accounting
 mod Apart
-mod Arriving
 mod Asked
 mod Asking
 mod AskingParts

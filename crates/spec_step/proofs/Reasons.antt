@@ -9,7 +9,7 @@ use Rattle.nat_types.specs.declared.gateways.Side.{Side}
 use Rattle.nat_types.specs.declared.gateways.Side.TheVariants.{Inside, Outside}
 use Rattle.arp.specs.Packet.{arp_refusal, packet_of}
 use Rattle.frames.specs.Frame.{Frame, frame_of}
-use Rattle.frames.specs.declared.ethernet.TheConstants.{LONGEST, LONGEST_WHOLE}
+use Rattle.frames.specs.declared.ethernet.TheConstants.{LONGEST_WHOLE}
 use Rattle.icmp.specs.declared.errors.TheConstants.{PROTOCOL}
 use Rattle.icmp.specs.declared.faults.IcmpFault.{IcmpFault}
 use Rattle.icmp.specs.declared.faults.IcmpFault.TheVariants.{NotError, BadError, NotQuery, BadQuery, NotAsked}
@@ -35,7 +35,7 @@ use Rattle.packet_rules.specs.Errors as errors
 use Rattle.packet_rules.specs.Networks as networks
 use Rattle.packet_rules.specs.Queries.{kind_entering, kind_leaving}
 use Rattle.packet_rules.specs.Steps as steps
-use Rattle.packet_rules.specs.Steps.{and_then, arrival_of, reading_of, reason_of, reason_of_icmp, unless}
+use Rattle.packet_rules.specs.Steps.{and_then, reading_of, reason_of, reason_of_icmp, unless}
 
 -- whether a reason is one of choosing a port: no port is free, or the host has all the pairs that it may have
 abbrev pub is_of_choice : Reason → Bool
@@ -100,10 +100,6 @@ icmp-fine (Some BadQuery) = refl
 icmp-fine (Some NotAsked) = refl
 
 -- ---- the steps of a reading
-
-length-fine : (bytes : List ℕ) → IsFineOption (steps.length_refusal bytes)
-unfolding steps.length_refusal
-length-fine bytes = refusal-fine (nat_le (length bytes) LONGEST) why.ShortFrame refl
 
 size-fine : (bytes : List ℕ) → IsFineOption (steps.size_refusal bytes)
 unfolding steps.size_refusal
@@ -196,15 +192,12 @@ body-fine : (side : Side) (network : Network) (active : Bool) (frame : Frame) �
 unfolding steps.body_reading
 body-fine side network active frame = cond-fine (frame.ethertype == 2054) (steps.arp_reading frame.body) (steps.ipv4_reading side network active frame) (arp-fine frame.body) (ipv4-reading-fine side network active frame)
 
-reading-fine : (side : Side) (network : Network) (active up : Bool) (bytes : List ℕ) → IsFine (reading_of side network active up bytes)
+pub reading-fine : (side : Side) (network : Network) (active up : Bool) (bytes : List ℕ) → IsFine (reading_of side network active up bytes)
 reading-fine side network active up bytes =
     let frame = frame_of bytes in
     unless-fine (steps.size_refusal bytes) _ (size-fine bytes)
     (unless-fine (steps.up_refusal up) _ (up-fine up)
     (unless-fine (steps.destination_refusal network active frame) (steps.body_reading side network active frame) (destination-fine network active frame) (body-fine side network active frame)))
-
-pub arrival-fine : (side : Side) (network : Network) (active up : Bool) (bytes : List ℕ) → IsFine (arrival_of side network active up bytes)
-arrival-fine side network active up bytes = unless-fine (steps.length_refusal bytes) _ (length-fine bytes) (reading-fine side network active up bytes)
 
 -- ---- only a gateway that is up reads
 
