@@ -59,7 +59,7 @@ use Rattle.spec_step.specs.Shown.{Shown, is_apart, is_up, station_on}
 use Rattle.spec_step.specs.Verdict.{error_by, error_on, error_plan, exit_by, fits_at, hop_back, hop_to, if_fits, if_reply_fits, look_for, next_back, next_by, next_to, outcome_by, outcome_read, outcome_reply, pair_at, pair_in, pair_in_of, pair_out, plan_by, plan_from, plan_of, plan_on, plan_to, plan_via, reading_on, reply_to, reply_via, target_pair, verdict}
 use Rattle.spec_step.proofs.Sends.{AreFound, IsOwn, plan-sends}
 use Rattle.spec_step.proofs.Translating.{pair-is}
-use Rattle.spec_step.proofs.Reasons.{IsFine, direction-fine, error-direction-fine, is_of_choice, reading-fine, reads-up, then-fine}
+use Rattle.spec_step.proofs.Reasons.{IsEarly, direction-early, error-direction-early, is_of_plan, reading-early, reads-up}
 
 -- ---- pairs that are found
 
@@ -219,6 +219,66 @@ error-sent g side bytes by may =
 
 -- ---- which reasons a plan has
 
+-- whether a reason is one of choosing a port: no port is free, or the host has all the pairs that it may have
+abbrev is_of_choice : Reason → Bool
+is_of_choice why.ShortFrame = false
+is_of_choice why.NotMine = false
+is_of_choice why.BadHeader = false
+is_of_choice why.BadLength = false
+is_of_choice why.BadHeaderSum = false
+is_of_choice why.Fragment = false
+is_of_choice why.TtlOver = false
+is_of_choice why.NotUdpTcp = false
+is_of_choice why.BadTransport = false
+is_of_choice why.BadArp = false
+is_of_choice why.BadAdvert = false
+is_of_choice why.NotUp = false
+is_of_choice why.NoBinding = false
+is_of_choice why.NoPort = true
+is_of_choice why.CannotWait = false
+is_of_choice why.BadDatagram = false
+is_of_choice why.OldWord = false
+is_of_choice why.HostLimit = true
+is_of_choice why.TooLong = false
+is_of_choice why.TooMany = false
+
+-- the result isn't refused for one of these two reasons
+abbrev IsFine : {X : Type 0} → Result X Reason → Type 0
+IsFine (Ok x) = Unit {0}
+IsFine (Err reason) = is_of_choice reason ≡ false
+
+-- the next step of a result that is fine is fine, where it is fine from each value
+then-fine : {X Y : Type 0} (r : Result X Reason) (next : X → Result Y Reason) → IsFine r → ((x : X) → IsFine (next x)) → IsFine (and_then r next)
+then-fine (Ok x) next fine each = each x
+then-fine (Err reason) next fine each = fine
+
+-- a reason that a plan has not alone is none of choosing a port
+early-is : (reason : Reason) → is_of_plan reason ≡ false → is_of_choice reason ≡ false
+early-is why.ShortFrame early = refl
+early-is why.NotMine early = refl
+early-is why.BadHeader early = refl
+early-is why.BadLength early = refl
+early-is why.BadHeaderSum early = refl
+early-is why.Fragment early = refl
+early-is why.TtlOver early = refl
+early-is why.NotUdpTcp early = refl
+early-is why.BadTransport early = refl
+early-is why.BadArp early = refl
+early-is why.BadAdvert early = refl
+early-is why.NotUp early = refl
+early-is why.NoBinding early = refl
+early-is why.NoPort early = absurd (cc)
+early-is why.CannotWait early = refl
+early-is why.BadDatagram early = refl
+early-is why.OldWord early = refl
+early-is why.HostLimit early = absurd (cc)
+early-is why.TooLong early = refl
+early-is why.TooMany early = refl
+
+early-fine : {X : Type 0} (r : Result X Reason) → IsEarly r → IsFine r
+early-fine (Ok x) early = tt
+early-fine (Err reason) early = early-is reason early
+
 clash : {X : Type 0} (x : Result X Reason) (r : Reason) → IsFine x → x ≡ Err r → is_of_choice r ≡ true → ⊥
 clash (Ok y) r fine is choice = absurd (cc)
 clash (Err reason) r fine is choice =
@@ -261,7 +321,7 @@ fits-fine false (Wait endpoint) = refl
 
 error-plan-fine : (g : Shown) (side : Side) (flow : ErrorFlow) (size : Size) → IsFine (error_plan g side flow size)
 error-plan-fine g side flow size =
-    then-fine (error_direction g.networks side flow) _ (error-direction-fine g.networks side flow)
+    then-fine (error_direction g.networks side flow) _ (early-fine _ (error-direction-early g.networks side flow))
     (λ x. then-fine (error_on g flow x) _ (on x) (λ plan. fits-fine (fits_at g (exit_of x) size) plan))
   where
     on : (x : Direction) → IsFine (error_on g flow x)
@@ -346,7 +406,7 @@ fitted-refused g flow x fits r choice is = at (plan_on g flow x) refl is
     at (Err reason) there fitted = on-refused g flow x r choice (there ∙ fitted)
 
 packet-refused : (g : Shown) (side : Side) (bytes : List ℕ) (packet : Datagram) (r : Reason) → is_of_choice r ≡ true → reading_on g side bytes ≡ Ok (Packet packet) → plan_of g side packet.flow packet.size ≡ Err r → FrameRefused g side bytes r
-packet-refused g side bytes packet r choice reads is = at (direction_of g.networks side flow.protocol flow.source.0 flow.destination.0) refl (direction-fine g.networks side flow.protocol flow.source.0 flow.destination.0) is
+packet-refused g side bytes packet r choice reads is = at (direction_of g.networks side flow.protocol flow.source.0 flow.destination.0) refl (early-fine _ (direction-early g.networks side flow.protocol flow.source.0 flow.destination.0)) is
   where
     flow : Flow
     flow = packet.flow
@@ -377,7 +437,7 @@ frame-refused : (g : Shown) (side : Side) (bytes : List ℕ) (r : Reason) → is
 frame-refused g side bytes r choice is = at (reading_on g side bytes) refl is
   where
     fine : IsFine (reading_on g side bytes)
-    fine = reading-fine side (station_on g side).network (is_active (station_on g side)) (is_up g) bytes
+    fine = early-fine _ (reading-early side (station_on g side).network (is_active (station_on g side)) (is_up g) bytes)
 
     at : (o : Result Reading Reason) → reading_on g side bytes ≡ o → outcome_read g side o ≡ Dropped r → FrameRefused g side bytes r
     at (Ok (Arp p)) reads out = absurd (cc)

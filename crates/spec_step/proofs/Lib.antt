@@ -6,8 +6,10 @@ mod AskingParts
 mod Before
 mod Beginning
 mod Counting
+mod Cutting
 mod Ending
 mod Erring
+mod Feeding
 mod Fitting
 mod FrameKinds
 mod Freeing

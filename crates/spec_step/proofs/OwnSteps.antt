@@ -341,3 +341,24 @@ step-just frames s event s2 step has is w =
         },
       ),
     )
+
+ticked-nets : (s : GatewayAndOutput) → (link_ticked s).shown.networks ≡ s.shown.networks
+ticked-nets s = at (is_due_on_tick (handed_in s.shown).link s.shown.moment)
+  where
+    at : (b : Bool) → (let x : GatewayAndOutput = (let g = handed_in s.shown in cond b (scene (record g { link = sent_on_tick g.link g.moment }) (with_datagram s.told (datagram_in g))) (scene g s.told)) in x.shown.networks) ≡ s.shown.networks
+    at true = refl
+    at false = refl
+
+end-nets : (event : Event) (done : GatewayAndOutput) → (ended_on event done).shown.networks ≡ done.shown.networks
+end-nets (Frame side bytes) done = refl
+end-nets (Comes bytes) done = refl
+end-nets (Tick now) done = ticked-nets done
+end-nets Stop done = refl
+end-nets (PeerOff n) done = refl
+end-nets (SideIs side up) done = refl
+
+-- a whole step leaves the networks
+pub step-nets : Frames → (s : GatewayAndOutput) (event : Event) (s2 : GatewayAndOutput) → IsStepOn s event s2 → HasBytes event → IsSound s.shown → IsSetUp s.shown → s2.shown.networks ≡ s.shown.networks
+step-nets frames s event s2 step has is w =
+    let all = does-just frames s event step.done step.does has is w in
+    ap (λ (x : GatewayAndOutput). x.shown.networks) step.sends ∙ end-nets event step.done ∙ all.just.nets
