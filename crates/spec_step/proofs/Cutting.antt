@@ -180,6 +180,9 @@ outcome-reply-short (Ok (reply.Ask hop)) short = λ e. cc
 outcome-reply-short (Ok (reply.AskAgain hop)) short = λ e. cc
 outcome-reply-short (Err reason) short = λ e. short cc
 
+pub read-short : (g : Shown) (side : Side) (bytes : List ℕ) → IsShort (reading_on g side bytes)
+read-short g side bytes = early-short (reading_on g side bytes) (reading-early side (station_on g side).network (is_active (station_on g side)) (is_up g) bytes)
+
 pub never-long : Reads → (g : Shown) (side : Side) (bytes : List ℕ) → g.networks.pass ≡ true → is_unbroken (frame_of bytes).body ≡ false → verdict g side bytes ≢ Dropped TooLong
 never-long reads g side bytes pass cut = at (reading_on g side bytes) refl
   where

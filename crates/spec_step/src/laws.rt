@@ -534,10 +534,13 @@ pub fn steps_stay()
     tallies_law();
 }
 
-/// Where packets are cut, none without Don't Fragment is dropped because it is too long: no packet
-/// that is translated, no error that is passed on, and no Echo to the box.
+/// No frame is too long when it is read. And where packets are cut, none without Don't Fragment is
+/// dropped because it is too long: no packet that is translated, no error that is passed on, and no
+/// Echo to the box.
 pub fn never_too_long()
-    ensures { (g : Shown) (side : Side) (bytes : List ℕ) → g.networks.pass ≡ true
+    ensures read { (g : Shown) (side : Side) (bytes : List ℕ)
+        → reading_on g side bytes ≢ Err TooLong }
+    ensures cut { (g : Shown) (side : Side) (bytes : List ℕ) → g.networks.pass ≡ true
         → is_unbroken (frame_of bytes).body ≡ false
         → verdict g side bytes ≢ outcome.Dropped TooLong }
 {
