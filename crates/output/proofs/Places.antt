@@ -1,10 +1,10 @@
 -- The string at an index of a pile, and the frame at an index of an output.
-use Rattle.std.proofs.Common.{◌≡◌, ℕ, zero, suc, ◌+◌, ◌≤◌, ◌<◌, List, [], ◌∷◌, ◌++◌, Option, Some, option_map, IfSome, get_or, length, take, drop, sum, slice_index, refl, ap, ap₂, ◌∙◌, sym, subst, arith, length-append}
+use Rattle.std.proofs.Common.{◌≡◌, ℕ, zero, suc, ◌+◌, ◌≤◌, ◌<◌, List, [], ◌∷◌, ◌++◌, Some, unwrap_or, IfSome, length, take, drop, sum, slice_get, slice_index, slice_index_or, refl, ap, ap₂, ◌∙◌, sym, subst, arith}
 use Rattle.std.proofs.Math.Seq.{take-add, take-append_seam, drop-append_seam}
-use Rattle.std.proofs.lemmas.List.{append_assoc, drop-drop, length-take, length-drop}
+use Rattle.std.proofs.lemmas.List.{append_assoc, drop-drop, length-take-le, length-drop}
 use Rattle.nat_types.specs.declared.gateways.Side.{Side}
-use Rattle.output.specs.Output.{Sent, Output, sent, frame_at, changed_at, octet_count}
-use Rattle.output.specs.Piles.{cut, string_at, changed_string, bytes_in}
+use Rattle.output.specs.Output.{Sent, sent, changed_at, octet_count}
+use Rattle.output.specs.Piles.{cut, changed_string, bytes_in}
 use Rattle.output.proofs.Cut.{sum-cons}
 
 -- the first strings and the next one are within all of them
@@ -16,7 +16,7 @@ start_within (s ∷ sizes) (suc k) there =
 
 -- the string at an index
 pub string_is : (sizes bytes : List ℕ) (k : ℕ) → k < length sizes
-    → string_at k (cut sizes bytes) ≡ Some (take (slice_index sizes k) (drop (sum (take k sizes)) bytes))
+    → slice_get (cut sizes bytes) k ≡ Some (take (slice_index sizes k) (drop (sum (take k sizes)) bytes))
 string_is [] bytes k there = absurd (omega arith)
 string_is (s ∷ sizes) bytes zero there = refl
 string_is (s ∷ sizes) bytes (suc k) there =
@@ -60,7 +60,7 @@ string-changes change (s ∷ sizes) bytes new (suc k) start end there from to wi
     ∙ ap (λ xs. xs ++ drop b rest) (append_assoc (take s bytes) (take a rest) new)
     ∙ append_assoc (take s bytes) (take a rest ++ new) (drop b rest) in
     ap (cut (s ∷ sizes)) parts
-    ∙ cut-first s sizes (take s bytes) (take a rest ++ new ++ drop b rest) (length-take s bytes (omega (arith, ends, within)))
+    ∙ cut-first s sizes (take s bytes) (take a rest ++ new ++ drop b rest) (length-take-le s bytes (omega (arith, ends, within)))
     ∙ ap (λ xs. take s bytes ∷ xs) (string-changes change sizes rest new k a b (omega arith) refl refl in_rest size is_new)
 
 -- all bytes are in strings
@@ -69,7 +69,7 @@ bytes-in-cut [] bytes fills = fills
 bytes-in-cut (s ∷ sizes) bytes fills =
     let all = sum-cons s sizes in
     let rest = bytes-in-cut sizes (drop s bytes) (omega (arith, all, length-drop s bytes)) in
-    omega (arith, rest, length-drop s bytes, length-take s bytes (omega (arith, all)))
+    omega (arith, rest, length-drop s bytes, length-take-le s bytes (omega (arith, all)))
 
 -- ---- frames
 pub sent-count : (sides : List Side) (strings : List (List ℕ)) → length sides ≡ length strings → length (sent sides strings) ≡ length sides
@@ -84,17 +84,17 @@ sent-octets (x ∷ sides) [] same = absurd (omega arith)
 sent-octets (x ∷ sides) (s ∷ strings) same = ap (λ n. length s + n) (sent-octets sides strings (omega arith))
 
 -- the frame at an index has the side and the string there
-pub sent-at : (sides : List Side) (strings : List (List ℕ)) (k : ℕ) (d : Side) (bytes : List ℕ) → length sides ≡ length strings
-    → string_at k strings ≡ Some bytes → frame_at k (sent sides strings) ≡ Some (record { side = get_or sides k d; bytes = bytes })
-sent-at [] [] k d bytes same is = ap (option_map (λ b. record { side = d; bytes = b })) is
-sent-at [] (s ∷ strings) k d bytes same is = absurd (omega arith)
-sent-at (x ∷ sides) [] k d bytes same is = absurd (omega arith)
-sent-at (x ∷ sides) (s ∷ strings) zero d bytes same is = ap (option_map (λ (b : List ℕ). let f : Sent = record { side = x; bytes = b } in f)) is
-sent-at (x ∷ sides) (s ∷ strings) (suc k) d bytes same is = sent-at sides strings k d bytes (omega arith) is
+pub sent-at : (sides : List Side) (strings : List (List ℕ)) (k : ℕ) (side : Side) (bytes : List ℕ) → length sides ≡ length strings → k < length sides
+    → side ≡ slice_index_or sides k side → slice_get strings k ≡ Some bytes → slice_get (sent sides strings) k ≡ Some (record { side = side; bytes = bytes })
+sent-at [] strings k side bytes same there one two = absurd (omega arith)
+sent-at (x ∷ sides) [] k side bytes same there one two = absurd (omega arith)
+sent-at (x ∷ sides) (s ∷ strings) zero side bytes same there one two =
+    ap₂ (λ a b. let f : Sent = record { side = a; bytes = b } in Some f) (sym one) (ap (λ o. unwrap_or o bytes) two)
+sent-at (x ∷ sides) (s ∷ strings) (suc k) side bytes same there one two = sent-at sides strings k side bytes (omega arith) (omega arith) one two
 
 -- what holds of the bytes of the frame at an index holds of the string there
 pub string-ready : (P : List ℕ → Type 0) (sides : List Side) (strings : List (List ℕ)) (k : ℕ) → length sides ≡ length strings
-    → IfSome (frame_at k (sent sides strings)) (λ f. P f.bytes) → IfSome (string_at k strings) P
+    → IfSome (slice_get (sent sides strings) k) (λ f. P f.bytes) → IfSome (slice_get strings k) P
 string-ready P [] [] k same holds = holds
 string-ready P [] (s ∷ strings) k same holds = absurd (omega arith)
 string-ready P (x ∷ sides) [] k same holds = absurd (omega arith)

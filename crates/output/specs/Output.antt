@@ -1,5 +1,5 @@
 -- The output of steps: frames to send, datagrams for the other gateway, and notes.
-use Rattle.std.specs.Prelude.{ℕ, zero, suc, ◌≤◌, ◌+◌, ◌*◌, Option, None, Some, List, [], ◌∷◌, ◌++◌, length}
+use Rattle.std.specs.Prelude.{ℕ, zero, suc, ◌≤◌, ◌+◌, ◌*◌, List, [], ◌∷◌, ◌++◌, length}
 use Rattle.nat_types.specs.declared.gateways.Side.{Side}
 use Rattle.nat_types.specs.declared.notes.Note.{Note}
 use Rattle.output.specs.declared.pages.Room.{Room}
@@ -37,12 +37,6 @@ sent [] strings = []
 sent (side ∷ sides) [] = []
 sent (side ∷ sides) (bytes ∷ strings) =
     record { side = side; bytes = bytes } ∷ sent sides strings
-
--- the frame at an index, if there is one
-abbrev pub frame_at : ℕ → List Sent → Option Sent
-frame_at k [] = None
-frame_at zero (f ∷ frames) = Some f
-frame_at (suc k) (f ∷ frames) = frame_at k frames
 
 -- the frames, of which the one at an index has changed bytes
 abbrev pub changed_at : ℕ → (List ℕ → List ℕ) → List Sent → List Sent

@@ -1,5 +1,5 @@
 -- Byte strings one after the other in one buffer.
-use Rattle.std.specs.Prelude.{ℕ, zero, suc, ◌+◌, Option, None, Some, List, [], ◌∷◌, length, take, drop}
+use Rattle.std.specs.Prelude.{ℕ, zero, suc, ◌+◌, List, [], ◌∷◌, length, take, drop}
 
 -- bytes, cut into strings of these sizes
 abbrev pub cut : List ℕ → List ℕ → List (List ℕ)
@@ -11,12 +11,6 @@ pub record Pile : Type 0 where
   pub strings : List (List ℕ)
   pub places : ℕ
   pub octets : ℕ
-
--- the string at an index, if there is one
-abbrev pub string_at : ℕ → List (List ℕ) → Option (List ℕ)
-string_at k [] = None
-string_at zero (bytes ∷ strings) = Some bytes
-string_at (suc k) (bytes ∷ strings) = string_at k strings
 
 -- the strings, of which the one at an index is changed
 abbrev pub changed_string : ℕ → (List ℕ → List ℕ) → List (List ℕ) → List (List ℕ)

@@ -1,8 +1,8 @@
 //! The buffer that a step fills with its output.
-ghost use Rattle.std.specs.Prelude.{◌≡◌, ◌≤◌, ◌<◌, ◌+◌, ◌-◌, ◌++◌, Some, length, vec_len, vec_capacity};
+ghost use Rattle.std.specs.Prelude.{◌≡◌, ◌≤◌, ◌<◌, ◌+◌, ◌-◌, ◌^◌, ◌++◌, Some, length, slice_get, vec_len, vec_capacity};
 ghost use Rattle.std.specs.Prelude.{IfSome, OnOk, OnErr, IsOk};
 ghost use Rattle.output.specs.Output.{none_told, no_room, with_frame, with_frames, with_datagram, with_note};
-ghost use Rattle.output.specs.Output.{changed_at, frame_at, octet_count, without_notes, IsWithin};
+ghost use Rattle.output.specs.Output.{changed_at, octet_count, without_notes, IsWithin};
 ghost use Rattle.output.specs.Readers.{sent_of};
 ghost use Rattle.output.specs.Memory.{LacksPage};
 
@@ -173,7 +173,7 @@ impl OutputBuffer {
     /// Changes the bytes of the frame at an index in place.
     pub fn change_frame<C: ChangeBytes>(&mut self, k: usize, change: &C)
         requires there { k < length self.old.told.frames }
-        requires ready { IfSome (frame_at k self.old.told.frames)
+        requires ready { IfSome (slice_get self.old.told.frames k)
             (λ f. C.can_change change.now f.bytes) }
         ensures told { self.new.told ≡ with_frames self.old.told
             (changed_at k (C.changed change.now) self.old.told.frames) }
@@ -245,7 +245,8 @@ impl OutputBuffer {
     /// Returns how many bytes all frames have together.
     #[inline(always)]
     pub fn frame_octets(&self) -> usize
-        ensures { result ≡ octet_count self.now.told.frames }
+        ensures count { result ≡ octet_count self.now.told.frames }
+        ensures few { result < 2 ^ 63 }
     {
         self.frames.octet_count()
     }
@@ -253,7 +254,7 @@ impl OutputBuffer {
     /// Returns the frame at an index.
     pub fn frame(&self, k: usize) -> Frame<'_>
         requires { k < length self.now.told.frames }
-        ensures { frame_at k self.now.told.frames ≡ Some (sent_of result) }
+        ensures { slice_get self.now.told.frames k ≡ Some (sent_of result) }
     {
         Frame {
             side: self.sides[k],

@@ -1,7 +1,7 @@
 //! Byte strings one after the other in one buffer, so that none takes memory of its own.
-ghost use Rattle.std.specs.Prelude.{◌≡◌, ◌≤◌, ◌<◌, ◌+◌, ◌-◌, ◌^◌, ◌++◌, ◌∷◌, [], Some, length, slice_index, sum, take, drop, IfSome, OnOk, OnErr, IsOk};
+ghost use Rattle.std.specs.Prelude.{◌≡◌, ◌≤◌, ◌<◌, ◌+◌, ◌-◌, ◌^◌, ◌++◌, ◌∷◌, [], Some, length, slice_get, slice_index, sum, take, drop, IfSome, OnOk, OnErr, IsOk};
 ghost use Rattle.output.specs.Memory.{LacksPile};
-ghost use Rattle.output.specs.Piles.{bytes_in, changed_string, cut, string_at};
+ghost use Rattle.output.specs.Piles.{bytes_in, changed_string, cut};
 
 use crate::growing::reserve;
 use crate::readers::ByteStrings;
@@ -53,7 +53,7 @@ fn start_of(sizes: &[usize], k: usize) -> usize
 fn string_of<'a>(sizes: &[usize], bytes: &'a [u8], k: usize) -> &'a [u8]
     requires there { k < length sizes.now }
     requires fills { sum sizes.now ≡ length bytes.now }
-    ensures { string_at k (cut sizes.now bytes.now) ≡ Some result.now }
+    ensures { slice_get (cut sizes.now bytes.now) k ≡ Some result.now }
 {
     let start = start_of(sizes, k);
     let end = start + sizes[k];
@@ -76,7 +76,7 @@ fn change_part<C: ChangeBytes>(bytes: &mut [u8], start: usize, end: usize, chang
 fn change_string<C: ChangeBytes>(sizes: &[usize], bytes: &mut [u8], k: usize, change: &C)
     requires there { k < length sizes.now }
     requires fills { sum sizes.now ≡ length bytes.old }
-    requires ready { IfSome (string_at k (cut sizes.now bytes.old)) (C.can_change change.now) }
+    requires ready { IfSome (slice_get (cut sizes.now bytes.old) k) (C.can_change change.now) }
     ensures { cut sizes.now bytes.new
         ≡ changed_string k (C.changed change.now) (cut sizes.now bytes.old) }
 {
@@ -144,7 +144,7 @@ impl Pile {
     /// Changes the string at an index in place.
     pub(crate) fn change<C: ChangeBytes>(&mut self, k: usize, change: &C)
         requires there { k < length self.old.strings }
-        requires ready { IfSome (string_at k self.old.strings) (C.can_change change.now) }
+        requires ready { IfSome (slice_get self.old.strings k) (C.can_change change.now) }
         ensures strings { self.new.strings
             ≡ changed_string k (C.changed change.now) self.old.strings }
         ensures places { self.old.places ≤ self.new.places }
@@ -156,7 +156,7 @@ impl Pile {
     /// Returns the string at an index.
     pub(crate) fn string(&self, k: usize) -> &[u8]
         requires { k < length self.now.strings }
-        ensures { string_at k self.now.strings ≡ Some result.now }
+        ensures { slice_get self.now.strings k ≡ Some result.now }
     {
         string_of(&self.sizes, &self.bytes, k)
     }
@@ -164,7 +164,8 @@ impl Pile {
     /// Returns how many bytes all strings have together.
     #[inline(always)]
     pub(crate) fn octet_count(&self) -> usize
-        ensures { result ≡ bytes_in self.now.strings }
+        ensures count { result ≡ bytes_in self.now.strings }
+        ensures few { result < 2 ^ 63 }
     {
         self.bytes.len()
     }

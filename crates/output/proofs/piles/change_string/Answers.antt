@@ -1,6 +1,6 @@
-use Rattle.std.proofs.Common.{◌≡◌, ◌+◌, ◌-◌, ◌++◌, ℕ, List, Some, IfSome, length, take, drop, slice_index, slice_index_or, sym, refl, ap, subst, ◌∙◌, arith, length-append}
-use Rattle.std.proofs.lemmas.List.{length-take, length-drop}
-use Rattle.output.specs.Piles.{cut, string_at}
+use Rattle.std.proofs.Common.{◌≡◌, ◌≤◌, ◌+◌, ◌-◌, ◌++◌, ℕ, List, IfSome, length, take, drop, slice_index, slice_index_or, sym, refl, ap, subst, ◌∙◌, arith, length-append}
+use Rattle.std.proofs.lemmas.List.{length-take-le, length-drop}
+use Rattle.output.specs.Piles.{cut}
 use Rattle.output.proofs.Places.{string_is, string-changes}
 use Rattle.output.proofs.piles.change_string.Goals as goal
 
@@ -32,7 +32,7 @@ returns g c =
       c.change_part.auto.bytes,
       length-append (take start bytes ++ new) (drop end bytes),
       length-append (take start bytes) new,
-      length-take start bytes (omega (arith, within)),
+      length-take-le start bytes (omega (arith, within)),
       length-drop end bytes,
     ) in
     ap (cut sizes) c.change_part.ensures

@@ -1,5 +1,5 @@
-use Rattle.std.proofs.Common.{◌≡◌, length, ap, sym, subst, ◌∙◌, arith, IfSome}
-use Rattle.output.specs.Output.{Output, frame_at, sent, changed_at, with_frames}
+use Rattle.std.proofs.Common.{length, ap, sym, subst, ◌∙◌, arith, IfSome, slice_get}
+use Rattle.output.specs.Output.{Output}
 use Rattle.output.proofs.Places.{sent-count, sent-changes, string-ready, changed-count}
 use Rattle.output.proofs.pages.OutputBuffer.change_frame.Goals as goal
 
@@ -11,7 +11,7 @@ pub change-requires-clause-ready : goal.change-requires-clause-ready
 change-requires-clause-ready g c =
     let can = g.C.ChangeBytes.can_change c.args.change.now in
     string-ready can c.self.inside.sides.items c.self.inside.frames.strings c.args.k c.self.invariant.0
-    (subst (λ v. IfSome (frame_at c.args.k v.told.frames) (λ f. can f.bytes)) (sym c.self.view_is) c.requires.ready)
+    (subst (λ v. IfSome (slice_get v.told.frames c.args.k) (λ f. can f.bytes)) (sym c.self.view_is) c.requires.ready)
 
 pub invariant_of-self : goal.invariant_of-self
 invariant_of-self g c = (
