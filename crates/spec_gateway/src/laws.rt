@@ -12,7 +12,7 @@ ghost use Rattle.spec_step.specs.declared.events.Event.TheVariants.{Frame, Tick}
 ghost use Rattle.spec_step.specs.Steps.{clock_after};
 ghost use Rattle.spec_gateway.specs.State.{GatewayState};
 ghost use Rattle.spec_gateway.specs.Arrivals.{arrival};
-ghost use Rattle.spec_gateway.specs.Sendings.{all_pieces, is_cut, number_count, numbered};
+ghost use Rattle.spec_gateway.specs.Sendings.{all_pieces, is_cut, number_after, numbered};
 ghost use Rattle.spec_gateway.specs.Steps.{IsGatewayStep};
 
 use fragments::{bounded, fragment_grammar};
@@ -46,6 +46,6 @@ pub fn fragments_stay_few()
 pub fn short_frames_stay()
     ensures { (networks : Networks) (id : GatewayId) (n : ℕ) (frames : List Sent)
         → AllByRecursion (λ f. is_cut networks f ≡ false) frames
-        → (numbered networks id n frames ≡ frames) × (number_count networks frames ≡ 0)
+        → (numbered networks id n frames ≡ frames) × (number_after networks n frames ≡ n)
         × (all_pieces networks frames ≡ frames) }
 {}
