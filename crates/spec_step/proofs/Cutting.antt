@@ -34,7 +34,6 @@ use Rattle.packet_rules.specs.Errors.{error_direction}
 use Rattle.packet_rules.specs.Flows.{source_of}
 use Rattle.packet_rules.specs.Networks.{direction_of, exit_of, may_answer, mtu_of}
 use Rattle.packet_rules.specs.Steps.{and_then}
-use Rattle.spec_step.specs.declared.events.Outcome.{Outcome}
 use Rattle.spec_step.specs.declared.events.Outcome.TheVariants.{Dropped}
 use Rattle.spec_step.specs.declared.plans.Plan.{Plan}
 use Rattle.spec_step.specs.declared.plans.Plan.TheVariants.{Send, Ask, AskAgain, Wait}
