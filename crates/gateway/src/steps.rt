@@ -14,10 +14,11 @@ ghost use Rattle.spec_step.specs.Machine.{AreBytes, HasBytes};
 ghost use Rattle.spec_step.specs.Parts.{datagram_taken};
 ghost use Rattle.spec_step.specs.Steps.{Does, FrameDoes, IsStepOn, ended_on, outcome_heard};
 ghost use Rattle.spec_step.specs.Steps.{outcome_on, outcome_word, word_by, word_refusal};
+ghost use Rattle.spec_step.specs.Truly.{IsSetUp};
 ghost use Rattle.spec_step.specs.Verdict.{reading_on, verdict};
 ghost use Rattle.forwarder.specs.Forwarder.{scene_on, shown_of};
 ghost use Rattle.forwarder.specs.Room.{and_kept};
-ghost use Rattle.gateway.specs.Gateway.{IsInOrder};
+ghost use Rattle.gateway.specs.Gateway.{GoesOn, IsInOrder};
 ghost use Rattle.gateway.specs.Lacks.{Lacks, LacksForDatagram, LacksForFrame, LacksForTick};
 ghost use Rattle.gateway.specs.Lacks.{LacksRoom, LacksStep, WasUnlisted};
 ghost use Rattle.gateway.specs.Rooms.{IsShort, apart_needs, both_routers, is_of_side, most_datagrams};
@@ -39,7 +40,7 @@ use forwarder::Forwarder;
 use nat_types::Side;
 use output::OutputBuffer;
 use packet_rules::Reason;
-use spec_step::{Event, Outcome, parts_stand, steps_go, steps_keep, steps_settle};
+use spec_step::{Event, Outcome, parts_stand, steps_go, steps_keep, steps_settle, steps_stay};
 use std::alloc::Global;
 
 #[inline(always)]
@@ -334,6 +335,17 @@ fn end_event(forwarder: &mut Forwarder, page: &mut OutputBuffer, event: Event<'_
     }
 }
 
+/// Reminds the prover that the hardware addresses have six bytes, and that the interfaces are in
+/// their networks; it does nothing when it runs.
+pub(crate) fn recall_set_up(forwarder: &Forwarder)
+    requires { IsInOrder (shown_of forwarder.now) }
+    ensures { IsSetUp (shown_of forwarder.now) }
+{
+    forwarder.networks.recall();
+    forwarder.inside.recall();
+    forwarder.outside.recall();
+}
+
 /// Reminds the prover that bytes are below 256; it does nothing when it runs.
 fn recall_bytes(bytes: &[u8])
     ensures { AreBytes bytes.now }
@@ -349,8 +361,9 @@ pub(crate) fn recall_event(event: Event<'_>)
     }
 }
 
-/// Takes one step: handles an event, and appends what is sent and noted to the page. Fails where
-/// there isn't enough memory; nothing has changed then.
+/// Takes one step on whole frames: handles an event, and appends what is sent and noted to the page.
+/// Fails where there isn't enough memory; nothing has changed then.
+#[inline(always)]
 pub(crate) fn step(
     alloc: Global,
     forwarder: &mut Forwarder,
@@ -362,7 +375,7 @@ pub(crate) fn step(
     ensures outcome { IfOk result (λ o. o ≡ outcome_on (shown_of forwarder.old) event.entry) }
     ensures step { OnOk result (IsStepOn (scene_on forwarder.old page.old) event.entry
         (scene_on forwarder.new page.new)) }
-    ensures stays { OnOk result (IsCarriedOn (shown_of forwarder.old) page.old.told
+    ensures stays { OnOk result (GoesOn (shown_of forwarder.old) page.old.told
         (shown_of forwarder.new) page.new.told) }
     ensures gateway { IsInOrder (shown_of forwarder.new) }
     ensures err { OnErr result (scene_on forwarder.new page.new
@@ -374,8 +387,10 @@ pub(crate) fn step(
     steps_go();
     steps_keep();
     steps_settle();
+    steps_stay();
     parts_stand();
     recall_event(event);
+    recall_set_up(forwarder);
     let outcome = take_event(alloc, forwarder, page, event)?;
     end_event(forwarder, page, event);
     Ok(outcome)
