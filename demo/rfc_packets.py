@@ -279,7 +279,7 @@ def identification(bench, report):
     header = PLAIN._replace(identification=0x1234)
     found = [bench.udp(End(host, 5000), PLACES[0], header) for host in HOSTS[:2]]
     seen = [each and f"{each.identification:04x}" for each in found]
-    report.note(bench, "7857 10", "two hosts' 1234 leave as two numbers", told(seen), len(set(seen)) == 2)
+    report.note(bench, "7857 10 b", "two hosts' 1234 leave as two numbers", told(seen), len(set(seen)) == 2)
 
 
 AT_A_BOX = (mapping, apart, parity, order, protocols, filtering, hairpin, steady, connections, contents, own_messages,
