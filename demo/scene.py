@@ -4,7 +4,9 @@ import contextlib
 import shutil
 import signal
 import subprocess
+import tempfile
 import time
+from pathlib import Path
 
 from crowd import crowd
 from flows import PORT, Flow, Loop
@@ -16,6 +18,8 @@ TOLD = 10
 # The number of the probe's flow, and after how many seconds it asks again.
 PROBE = 1_000_000
 AGAIN = 0.02
+# What settings have in the place of what stands in the demo's where packets in fragments are to come through.
+PASS = ("errors = true\n", "errors = true\n\n[fragments]\npass = true\n")
 
 
 class Scene:
@@ -102,6 +106,20 @@ class Probe:
     def ask(self):
         if time.monotonic() - self.flow.asked > AGAIN:
             self.flow.ask()
+
+
+@contextlib.contextmanager
+def settings_with(*changes):
+    """A settings file that is the demo's but for these changes, each a text and what stands in its place."""
+    text = SETTINGS.read_text(encoding="utf-8")
+    for old, new in changes:
+        if old not in text:
+            raise SystemExit(f"demo: {SETTINGS.name} has no {old!r}")
+        text = text.replace(old, new)
+    with tempfile.TemporaryDirectory(prefix="natpair-demo-") as folder:
+        file = Path(folder) / SETTINGS.name
+        file.write_text(text, encoding="utf-8")
+        yield file
 
 
 @contextlib.contextmanager
