@@ -33,7 +33,6 @@ SOURCES = TOP / "bench" / "interfaces"
 sys.path.insert(0, str(TOP / "demo"))
 
 from namespaces import Namespace
-from scene import PASS
 
 SETTINGS = TOP / "demo" / "natpair.toml"
 USER = "nobody"
@@ -104,7 +103,7 @@ class Lab:
             subprocess.run(("cc", "-O2", "-Wall", "-Wextra", "-o", str(self.room / name), str(SOURCES / f"{name}.c")), check=True)
         shutil.copy(options.program, self.room / "natpair")
         shutil.copy(options.launcher, self.room / "natpair-launch")
-        (self.room / "natpair.toml").write_text(SETTINGS.read_text(encoding="utf-8").replace(*PASS), encoding="utf-8")
+        shutil.copy(SETTINGS, self.room / "natpair.toml")
         self.own = self.room / "box"
         self.own.mkdir()
         user = pwd.getpwnam(USER)

@@ -15,7 +15,7 @@ from packets import Packet, wholes
 from rates import ask, serve_load, taken
 from rfc_hosts import NEVER_CUT, UDP_PLACE, Hosts
 from rfc_programs import output, places
-from scene import PASS, audit, scene, settings_with, show
+from scene import audit, scene, settings_with, show
 from wires import Wires, texts
 
 # `ping`: so many in a run, and how many bytes of data each has.
@@ -38,6 +38,7 @@ ENDS, EACH, EACH_AGAIN, COME, ALONE, IDENTIFICATION = ((HOSTS[0], 6001), (HOSTS[
 # The plain traffic: questions a second, for how long, and how often with `pass` and without. With it the gate may take so
 # much more of a processor at most: times differ by much from run to run, and bench/gateway.py counts instructions.
 RATE, SECONDS, TURNS, MORE = 5000, 4.0, 3, 1.5
+WITHOUT = ("pass = true", "pass = false")
 
 
 def counts(current, number, side):
@@ -261,7 +262,7 @@ def identification(current):
 def plain_turn(options, passes):
     """A pair with `pass`, or without: the load's lost questions, what the gate took, whether a large datagram comes, how often
     a fragment was dropped, and how many were taken of the load."""
-    with settings_with(*[PASS] * passes) as file, scene(options, None, False, settings=file) as current:
+    with settings_with(*[WITHOUT] * (not passes)) as file, scene(options, None, False, settings=file) as current:
         serve_load(current)
         before = taken(current.boxes[0])
         lost, took = ask(current, RATE, SECONDS)[2], taken(current.boxes[0]) - before
@@ -303,8 +304,7 @@ def try_condition(options, name):
     if name == "plain":
         return list(plain(options))
     capture = options.capture and options.capture / name
-    changes = (PASS, NARROW) if name == "narrow" else (PASS,)
-    with settings_with(*changes) as file, scene(options, capture, settings=file) as current:
+    with settings_with(*[NARROW] * (name == "narrow")) as file, scene(options, capture, settings=file) as current:
         lines = list(CONDITIONS[name](current))
         current.tell_drops()
     return lines

@@ -8,6 +8,7 @@ from typing import NamedTuple
 
 import rfc_page
 from benches import Couple, Scripted, Wired
+from pair import SETTINGS
 from rfc_clock import BY_THE_CLOCK, both_boxes, no_room
 from rfc_errors import OF_ERRORS
 from rfc_fragments import OF_FRAGMENTS, echoes, waiting
@@ -18,7 +19,7 @@ from rfc_packets import AT_A_BOX
 from rfc_pings import OF_PINGS, Pings, through_a_kill
 from rfc_programs import at_a_narrow_side, by_programs
 from rfc_routers import BY_THE_TABLE, ended, on_the_wire, taken_over
-from scene import PASS, scene, settings_with, show
+from scene import scene, settings_with, show
 
 # What a settings file has in the place of what stands in the demo's: two ports, sides that take 1,400 bytes, and no `[icmp]`.
 TWO_PORTS = ("zero = [20000, 39999]", "zero = [20000, 20001]")
@@ -72,11 +73,12 @@ class Fresh:
 
 
 def by_sim(options, report):
-    with settings_with(PASS) as file:
-        both_boxes(functools.partial(Couple, options.program, file), report)
-    for changes, probes in (((PASS,), (*BY_THE_CLOCK, *BY_THE_TABLE, nobody_there, waiting)),
-                            ((PASS, TWO_PORTS), (no_room,)), ((SILENT,), (by_default,)),
-                            ((PASS, SHORT_INSIDE, SHORT_OUTSIDE), (too_long_out, too_long_in))):
+    fresh = Fresh(options.program, SETTINGS)
+    for probe in (*BY_THE_CLOCK, *BY_THE_TABLE, nobody_there, waiting):
+        probe(fresh, report)
+    both_boxes(functools.partial(Couple, options.program, SETTINGS), report)
+    for changes, probes in (((TWO_PORTS,), (no_room,)), ((SILENT,), (by_default,)),
+                            ((SHORT_INSIDE, SHORT_OUTSIDE), (too_long_out, too_long_in))):
         with settings_with(*changes) as file:
             for probe in probes:
                 probe(Fresh(options.program, file), report)
@@ -96,7 +98,7 @@ def at_box(current, number, report, alive):
 
 def on_the_pair(options, report):
     """Each probe at box 0, and after its kill at box 1; at last box 1 is ended."""
-    with settings_with(PASS) as file, scene(options, options.capture, settings=file) as current:
+    with scene(options, options.capture) as current:
         at_box(current, 0, report, (0, 1))
         bench, pings = Wired(1, current), Pings(current)
         killed = current.kill(0)
@@ -115,7 +117,7 @@ def on_a_narrow_pair(options, report):
     """What the programs of everybody see of boxes whose outside takes 1,400 bytes: of box 0, and after its kill of box 1,
     which a signal ends at last."""
     capture = options.capture and options.capture / "narrow"
-    with settings_with(PASS, SHORT_OUTSIDE) as file, scene(options, capture, settings=file) as current:
+    with settings_with(SHORT_OUTSIDE) as file, scene(options, capture, settings=file) as current:
         at_a_narrow_side(current, Wired(0, current), report)
         killed = current.kill(0)
         current.tell_takeover(1, killed)

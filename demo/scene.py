@@ -18,8 +18,6 @@ TOLD = 10
 # The number of the probe's flow, and after how many seconds it asks again.
 PROBE = 1_000_000
 AGAIN = 0.02
-# What settings have in the place of what stands in the demo's where packets in fragments are to come through.
-PASS = ("errors = true\n", "errors = true\n\n[fragments]\npass = true\n")
 
 
 class Scene:
