@@ -50,7 +50,7 @@ pub fn gateway_report(gateway: &Gateway) -> Result<GatewayReport, NoMemory> {
 fn fragments_at(gateway: &Gateway, side: Side) -> FragmentReport {
     let counts = gateway.fragments(side);
     FragmentReport {
-        incomplete: counts.incomplete,
+        incomplete: counts.incomplete as u64,
         taken: counts.taken,
         whole: counts.whole,
         late: counts.late,
