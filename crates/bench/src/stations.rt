@@ -3,6 +3,7 @@
 
 use crate::gates::Gate;
 use crate::packets::{HEADER, Kind, LONGEST, OPENING, PORTS, frame_of, set_pair};
+use crate::pieces::cut;
 use addresses::Protocol;
 use cases_words::Case;
 use gateway::{Event, Out, Outcome};
@@ -82,6 +83,15 @@ impl<G: Gate> Station<G> {
     /// Whether the gateway's last output has a frame.
     pub(crate) fn sends(&self) -> bool {
         self.out.frames().next().is_some()
+    }
+
+    /// Cuts the frames of the gateway's last output, as who sends them does, and returns how many frames that makes.
+    pub(crate) fn cut(&self, room: &mut Vec<u8>, case: &mut Case) -> u32 {
+        let mut count = 0u32;
+        for frame in self.out.frames() {
+            count = count.saturating_add(cut(frame.bytes, room, case));
+        }
+        count
     }
 
     /// Returns how many pairs the gateway released in its last output.
