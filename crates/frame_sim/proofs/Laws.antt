@@ -27,6 +27,9 @@ use Rattle.spec_step.specs.Founding.{begun, founded}
 use Rattle.spec_step.specs.Rests.{AccountsOn, Rests, most_notes}
 use Rattle.spec_step.specs.Shown.{GatewayAndOutput, Shown, id_of}
 use Rattle.spec_step.specs.Steps.{IsStepOn}
+use Rattle.spec_gateway.specs.State.{GatewayState, KeepsParts, beginning}
+use Rattle.spec_gateway.specs.Steps.{IsGatewayStep}
+use Rattle.output.specs.Output.{Output}
 
 -- a step of a gateway is a step of the machine
 abbrev pub StepsGo : Type 0
@@ -36,6 +39,13 @@ StepsGo = (s : GatewayAndOutput) (event : Event) (s2 : GatewayAndOutput) (h : Li
 -- a step makes no more notes than `most_notes`
 abbrev pub StepsNote : Type 0
 StepsNote = (s : GatewayAndOutput) (event : Event) (s2 : GatewayAndOutput) → IsStepOn s event s2 → HasBytes event → length s2.told.notes ≤ length s.told.notes + most_notes s.shown
+
+-- the fragments of a gateway are bytes as it begins, and stay so
+abbrev pub PartsBegin : Type 0
+PartsBegin = (g : Shown) → KeepsParts (beginning g)
+
+abbrev pub PartsStay : Type 0
+PartsStay = (s : GatewayState) (told : Output) (event : Event) (s2 : GatewayState) (told2 : Output) → IsGatewayStep s told event s2 told2 → HasBytes event → KeepsParts s → KeepsParts s2
 
 -- a datagram's spelling is read as that datagram
 abbrev pub AreRead : Type 0

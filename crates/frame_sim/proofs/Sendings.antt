@@ -15,7 +15,7 @@ use Rattle.spec_step.specs.Machine.{HasBytes, HasPushed, IsLoneRightly, KeepsByt
 use Rattle.spec_step.specs.Rests.{most_notes}
 use Rattle.spec_step.specs.Shown.{Shown, scene, serves}
 use Rattle.spec_step.specs.Steps.{IsStepOn}
-use Rattle.spec_gateway.specs.State.{GatewayState}
+use Rattle.spec_gateway.specs.State.{GatewayState, KeepsParts}
 use Rattle.spec_gateway.specs.Steps.{IsGatewayStep}
 use Rattle.gateway.specs.Gateway.{IsGateway}
 use Rattle.frame_sim.specs.Events.{since}
@@ -67,9 +67,9 @@ so-sends g told whole told2 notes datagrams s = record {
   few_notes = subst (λ (ns : List Note). length ns ≤ length told.notes + most_notes g) (sym notes) s.few_notes;
 }
 
-pub sends : StepsGo → StepsNote → InnerSteps → Few → (g new : GatewayState) (event : Event) (told told2 : Output) → IsGatewayStep g told event new told2 → HasBytes event → IsGateway g → IsLink new.shown.link
+pub sends : StepsGo → StepsNote → InnerSteps → Few → (g new : GatewayState) (event : Event) (told told2 : Output) → IsGatewayStep g told event new told2 → HasBytes event → KeepsParts g → IsGateway g → IsLink new.shown.link
     → Sends g.shown told told2
-sends go note inner most g new event told told2 step bytes is link = by (inner g told event new told2 step bytes is)
+sends go note inner most g new event told told2 step bytes parts is link = by (inner g told event new told2 step bytes parts)
   where
     by : IsInner g told event new told2 → Sends g.shown told told2
     by (inl x) =

@@ -25,10 +25,10 @@ use Rattle.spec_step.specs.Founding.{bounds_of}
 use Rattle.spec_step.specs.Machine.{HasBytes, IsLoneRightly, KeepsBytes, box_of, letters_in, words_in}
 use Rattle.spec_step.specs.Shown.{Shown, id_of, scene, serves}
 use Rattle.spec_step.specs.Steps.{IsStepOn}
-use Rattle.spec_gateway.specs.State.{GatewayState}
-use Rattle.frame_sim.specs.World.{Half, World, gateway_at, half, shown_at, with_half}
+use Rattle.spec_gateway.specs.State.{GatewayState, KeepsParts}
+use Rattle.frame_sim.specs.World.{Half, World, gateway_at, half, shown_at, state_at, with_half}
 use Rattle.frame_sim.specs.Events.{since, stepped}
-use Rattle.frame_sim.specs.Scene.{IsHalf, IsHanded, IsSound, IsThat, box_at, mail_of, ranges_of, scene_of}
+use Rattle.frame_sim.specs.Scene.{IsHalf, IsHanded, IsSound, IsThat, KeepsPartsAt, box_at, mail_of, ranges_of, scene_of}
 use Rattle.frame_sim.proofs.Laws.{AreRead, OthersStep, StepsAccount, StepsAnywhere, StepsGo, StepsKeep}
 use Rattle.frame_sim.proofs.Accounting.{step-accounted, still-accounted}
 use Rattle.frame_sim.proofs.BySettings.{step-by-settings, still-by-settings}
@@ -88,13 +88,20 @@ halves-are w pushed Zero h records trace all that One = all One
 halves-are w pushed One h records trace all that Zero = all Zero
 halves-are w pushed One h records trace all that One = that
 
+-- the fragments of both gateways are bytes
+pub parts-are : (w : World) (i : GatewayId) (h : Half) (trace : List Note) → KeepsPartsAt h.gateway → ((j : GatewayId) → KeepsPartsAt (state_at w j)) → (j : GatewayId) → KeepsPartsAt (state_at (with_half w i h trace) j)
+parts-are w Zero h trace mine all Zero = mine
+parts-are w Zero h trace mine all One = all One
+parts-are w One h trace mine all Zero = all Zero
+parts-are w One h trace mine all One = mine
+
 -- ---- the step
 
 pub step-sound : StepsGo → AreRead → StepsKeep → StepsAnywhere → StepsAccount → OthersStep → (w : World) (i : GatewayId) (g : Shown) (new : GatewayState) (event : Event) (told told2 : Output)
     → IsSound w → gateway_at w i ≡ Some g → IsStepOn (scene g told) event (scene new.shown told2) → HasBytes event
-    → IsBook g.ledger.book → IsLoneRightly g → KeepsBytes g → IsLink new.shown.link
+    → IsBook g.ledger.book → IsLoneRightly g → KeepsBytes g → KeepsParts new → IsLink new.shown.link
     → IsHanded w i event → IsSound (stepped w i new told told2)
-step-sound go read keep anywhere account others w i g new event told told2 sound up step bytes book alone kept link handed =
+step-sound go read keep anywhere account others w i g new event told told2 sound up step bytes book alone kept parts link handed =
     let ports = w.settings.ports in
     let r = ranges_of ports in
     let pushed = sound.pushed in
@@ -132,6 +139,7 @@ step-sound go read keep anywhere account others w i g new event told told2 sound
       scene = subst (IsWorld r) (scene-is w pushed i new h2 told told2 ns ms trace mail) there2;
       accounted = step-accounted others w pushed i g new told told2 rests sound.halves that.id up sound.accounted;
       by_settings = step-by-settings w i g new told told2 rests up sound.by_settings;
+      parts = parts-are w i (record (half w i) { gateway = Some new; sent = (half w i).sent ++ since told.datagrams told2.datagrams }) (w.trace ++ since told.notes told2.notes) parts sound.parts;
     }
 
 -- ---- nothing but the gateway's fragments changes
@@ -141,8 +149,8 @@ scene-stays : (w : World) (pushed : GatewayId → List Record) (i : GatewayId) (
 scene-stays w pushed Zero g same = ap (λ (o : Option Shown). let x : Scene = record (scene_of w pushed) { mine = box_at o w.zero.boot (pushed Zero) } in x) (sym same)
 scene-stays w pushed One g same = ap (λ (o : Option Shown). let x : Scene = record (scene_of w pushed) { theirs = box_at o w.one.boot (pushed One) } in x) (sym same)
 
-pub still-sound : (w : World) (i : GatewayId) (g : Option GatewayState) → IsSound w → shown_at g ≡ gateway_at w i → IsSound (with_half w i (record (half w i) { gateway = g }) w.trace)
-still-sound w i g sound same =
+pub still-sound : (w : World) (i : GatewayId) (g : Option GatewayState) → IsSound w → shown_at g ≡ gateway_at w i → KeepsPartsAt g → IsSound (with_half w i (record (half w i) { gateway = g }) w.trace)
+still-sound w i g sound same parts =
     let ports = w.settings.ports in
     let h : Half = record (half w i) { gateway = g } in
     let w2 = with_half w i h w.trace in
@@ -154,4 +162,5 @@ still-sound w i g sound same =
       scene = subst (IsWorld (ranges_of ports)) (scene-stays w sound.pushed i g same) sound.scene;
       accounted = still-accounted w i g same sound.accounted;
       by_settings = still-by-settings w i g same sound.by_settings;
+      parts = parts-are w i h w.trace parts sound.parts;
     }

@@ -11,7 +11,7 @@ use Rattle.spec_step.specs.declared.events.Event.{Event}
 use Rattle.spec_step.specs.declared.events.Event.TheVariants as given
 use Rattle.spec_step.specs.declared.events.Outcome.{Outcome}
 use Rattle.spec_step.specs.Shown.{Shown}
-use Rattle.spec_gateway.specs.State.{GatewayState}
+use Rattle.spec_gateway.specs.State.{GatewayState, KeepsParts}
 use Rattle.frame_sim.specs.World.{Half, World, gateway_at, half, shown_at, state_at, with_half}
 use Rattle.gateway.specs.Gateway.{IsGateway}
 use Rattle.frame_sim.specs.Events.{Comes, TakesAt, kth, since, stepped, unless}
@@ -21,8 +21,8 @@ use Rattle.frame_sim.specs.declared.events.WorldFault.TheVariants.{NoMemory, NoS
 use Rattle.frame_sim.specs.Runs.{Answers, fault_of}
 use Rattle.frame_sim.specs.Halves.{Receives, StepsAt}
 use Rattle.frame_sim.specs.Lacks.{IsUnreceived}
-use Rattle.frame_sim.specs.Scene.{IsHanded, IsSound}
-use Rattle.frame_sim.proofs.Laws.{AreRead, OthersStep, StepsAccount, StepsAnywhere, StepsGo, StepsKeep}
+use Rattle.frame_sim.specs.Scene.{IsHanded, IsSound, KeepsPartsAt}
+use Rattle.frame_sim.proofs.Laws.{AreRead, OthersStep, PartsStay, StepsAccount, StepsAnywhere, StepsGo, StepsKeep}
 use Rattle.frame_sim.proofs.Handing.{hands-datagram}
 use Rattle.frame_sim.proofs.Lending.{datagram-lent}
 use Rattle.frame_sim.proofs.Inner.{InnerSteps, IsInner, inner-handed}
@@ -55,23 +55,24 @@ so-still w i new told told2 notes datagrams sound =
     subst (λ (xs : List (List ℕ)). IsSound (at (w.trace ++ since told.notes told2.notes) xs)) (sym ds) (subst (λ (xs : List Note). IsSound (at xs (half w i).sent)) (sym ns) sound)
 
 -- a step of a gateway leads from a sound world to a sound one
-module _ (go : StepsGo) (read : AreRead) (keep : StepsKeep) (anywhere : StepsAnywhere) (account : StepsAccount) (others : OthersStep) (inner : InnerSteps) where
-  inner-sound : (w : World) (i : GatewayId) (g new : GatewayState) (event : Event) (told told2 : Output) → IsSound w → state_at w i ≡ Some g → IsGateway g → IsLink new.shown.link → IsHanded w i event
+module _ (go : StepsGo) (read : AreRead) (keep : StepsKeep) (anywhere : StepsAnywhere) (account : StepsAccount) (others : OthersStep) (inner : InnerSteps) (stays : PartsStay) where
+  inner-sound : (w : World) (i : GatewayId) (g new : GatewayState) (event : Event) (told told2 : Output) → IsSound w → state_at w i ≡ Some g → IsGateway g → KeepsParts new → IsLink new.shown.link → IsHanded w i event
       → IsInner g told event new told2 → IsSound (stepped w i new told told2)
-  inner-sound w i g new event told told2 sound up was link handed (inl x) =
+  inner-sound w i g new event told told2 sound up was parts link handed (inl x) =
       let up2 : gateway_at w i ≡ Some g.shown = ap shown_at up in
-      let there = step-sound go read keep anywhere account others w i g.shown new x.inner told x.whole sound up2 x.step x.bytes was.shown.book was.shown.lone was.shown.bytes link (inner-handed w i event x.inner x.letters x.words handed) in
+      let there = step-sound go read keep anywhere account others w i g.shown new x.inner told x.whole sound up2 x.step x.bytes was.shown.book was.shown.lone was.shown.bytes parts link (inner-handed w i event x.inner x.letters x.words handed) in
       so-told w i new told x.whole told2 x.notes x.datagrams there
-  inner-sound w i g new event told told2 sound up was link handed (inr x) =
+  inner-sound w i g new event told told2 sound up was parts link handed (inr x) =
       let same : shown_at (Some new) ≡ gateway_at w i = ap (λ (s : Shown). let o : Option Shown = Some s in o) x.shown ∙ sym (ap shown_at up) in
-      so-still w i new told told2 x.notes x.datagrams (still-sound w i (Some new) sound same)
+      so-still w i new told told2 x.notes x.datagrams (still-sound w i (Some new) sound same parts)
 
   steps-sound : (w : World) (i : GatewayId) (g : Option GatewayState) (event : Event) (told : Output) (o : Outcome) (told2 : Output) (h2 : Half) (trace2 : List Note) → IsSound w → IsHanded w i event → state_at w i ≡ g
       → StepsAt (half w i) g w.trace event told o told2 h2 trace2 → IsSound (with_half w i h2 trace2)
   steps-sound w i None event told o told2 h2 trace2 sound handed up s = sound-so w i (half w i) h2 w.trace trace2 s.2 s.3 (same-world w i sound)
   steps-sound w i (Some g) event told o told2 h2 trace2 sound handed up s =
+      let parts : KeepsParts g = subst KeepsPartsAt up (sound.parts i) in
       sound-so w i _ h2 (w.trace ++ since told.notes told2.notes) trace2 s.half_is s.trace_is
-      (inner-sound w i g s.new event told told2 sound up s.was s.link handed (inner g told event s.new told2 s.step s.bytes s.was))
+      (inner-sound w i g s.new event told told2 sound up s.was (stays g told event s.new told2 s.step s.bytes parts) s.link handed (inner g told event s.new told2 s.step s.bytes parts))
 
   pub hand-sound : {E : Type 0} (w : World) (i : GatewayId) (result : Result Outcome E) (event : Event) (told told2 : Output) (h2 : Half) (trace2 : List Note) → IsSound w → IsHanded w i event
       → IfOk result (λ o. StepsAt (half w i) (state_at w i) w.trace event told o told2 h2 trace2) → OnErr result (h2 ≡ half w i) → OnErr result (trace2 ≡ w.trace) → IsSound (with_half w i h2 trace2)

@@ -19,13 +19,13 @@ use Rattle.spec_step.specs.Founding.{begun, bounds_of, founded, link_places}
 use Rattle.spec_step.specs.Machine.{box_of}
 use Rattle.spec_step.specs.Shown.{Shown}
 use Rattle.spec_gateway.specs.State.{beginning}
-use Rattle.frame_sim.specs.World.{HaveSameRanges, World, founding_of, gateway_at, half, is_up, settings_of, synced_at, with_half}
+use Rattle.frame_sim.specs.World.{HaveSameRanges, World, founding_of, gateway_at, half, is_up, settings_of, state_at, synced_at, with_half}
 use Rattle.frame_sim.specs.Events.{may_boot, may_crash, noting}
-use Rattle.frame_sim.specs.Scene.{IsHalf, IsSound, IsThat, box_at, ranges_of, scene_of}
-use Rattle.frame_sim.proofs.Laws.{Begins, BegunAccounts, BoxBooted, BoxFounded, FoundedAccounts, GoesTo, OthersBoot, OthersCrash}
+use Rattle.frame_sim.specs.Scene.{IsHalf, IsSound, IsThat, KeepsPartsAt, box_at, ranges_of, scene_of}
+use Rattle.frame_sim.proofs.Laws.{Begins, BegunAccounts, BoxBooted, BoxFounded, FoundedAccounts, GoesTo, OthersBoot, OthersCrash, PartsBegin}
 use Rattle.frame_sim.proofs.Accounting.{boot-accounted, crash-accounted, founding-accounted}
 use Rattle.frame_sim.proofs.BySettings.{boot-by-settings, crash-by-settings, founding-by-settings}
-use Rattle.frame_sim.proofs.Stepping.{halves-are, with_pushed}
+use Rattle.frame_sim.proofs.Stepping.{halves-are, parts-are, with_pushed}
 
 -- ---- what a box shows of a gateway that may be down
 
@@ -93,6 +93,7 @@ crash-sound goes others w i moment sound may =
           (goes r (scene_of w sound.pushed) (crash i moment) sound.scene (can-crash w sound.pushed i may));
       accounted = crash-accounted others w sound.pushed i moment sound.halves sound.accounted;
       by_settings = crash-by-settings w i moment sound.by_settings;
+      parts = parts-are w i (record (half w i) { gateway = None }) (w.trace ++ noting i moment Crashed ∷ []) tt sound.parts;
     }
 
 -- ---- a boot
@@ -140,8 +141,8 @@ booted-is law w pushed One n =
     ap (λ (b : Box). let x : Scene = record s { theirs = b; trace = noting One 0 (Booted n) ∷ reverse w.trace } in x) (begun-box law w.settings_one One n)
     ∙ ap (λ (t : List Note). let x : Scene = record s { theirs = box_of (begun w.settings_one One n) []; trace = t } in x) (one-more w.trace (noting One 0 (Booted n)))
 
-pub boot-sound : GoesTo → BoxBooted → OthersBoot → BegunAccounts → (w : World) (i : GatewayId) (n : ℕ) → IsSound w → may_boot w i n ≡ true → IsSound (booted_world w i n)
-boot-sound goes law others begins w i n sound may =
+pub boot-sound : GoesTo → BoxBooted → OthersBoot → BegunAccounts → PartsBegin → (w : World) (i : GatewayId) (n : ℕ) → IsSound w → may_boot w i n ≡ true → IsSound (booted_world w i n)
+boot-sound goes law others begins bytes w i n sound may =
     let r = ranges_of w.settings.ports in
     record {
       ranges = record { zero = sound.ranges.zero; one = sound.ranges.one };
@@ -151,6 +152,7 @@ boot-sound goes law others begins w i n sound may =
           (goes r (scene_of w sound.pushed) (boot i n) sound.scene (can-boot w sound.pushed i n sound.halves may));
       accounted = boot-accounted others begins w sound.pushed i n sound.halves sound.accounted;
       by_settings = boot-by-settings w i n sound.by_settings;
+      parts = parts-are w i (record (half w i) { gateway = Some (beginning (begun (settings_of w i) i n)); boot = n }) (w.trace ++ noting i 0 (Booted n) ∷ []) (bytes (begun (settings_of w i) i n)) sound.parts;
     }
 
 -- ---- the founding
@@ -165,19 +167,24 @@ founded-that : (settings : Settings) → IsThat settings.ports Zero 1 (founded s
 unfolding founded begun
 founded-that settings = record { id = refl; zero = refl; one = refl; boot = refl; pushed = record { counted = omega arith; coming = refl; behind = refl } }
 
-pub founding-sound : Begins → BoxFounded → FoundedAccounts → (settings settings_one : Settings) → AreBounds (bounds_of settings.ports.zero) → HaveSameRanges settings settings_one → IsSound (founding_of settings settings_one)
-founding-sound begins law founds settings settings_one are same = record {
+pub founding-sound : Begins → BoxFounded → FoundedAccounts → PartsBegin → (settings settings_one : Settings) → AreBounds (bounds_of settings.ports.zero) → HaveSameRanges settings settings_one → IsSound (founding_of settings settings_one)
+founding-sound begins law founds bytes settings settings_one are same = record {
   ranges = same;
   pushed = λ i. [];
   halves = halves;
   scene = subst (IsWorld (ranges_of settings.ports)) (founded-box law settings settings_one are) (begins (ranges_of settings.ports));
   accounted = founding-accounted founds settings settings_one;
   by_settings = founding-by-settings settings settings_one;
+  parts = parts;
 }
   where
     halves : (i : GatewayId) → IsHalf settings.ports i (half (founding_of settings settings_one) i).boot (gateway_at (founding_of settings settings_one) i) []
     halves Zero = founded-that settings
     halves One = tt
+
+    parts : (i : GatewayId) → KeepsPartsAt (state_at (founding_of settings settings_one) i)
+    parts Zero = bytes (founded settings 1)
+    parts One = tt
 
 pub founded-zero : (settings : Settings) → (founded settings 1).ledger.book.zero ≡ bounds_of settings.ports.zero
 unfolding founded begun

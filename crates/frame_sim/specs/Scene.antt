@@ -20,7 +20,8 @@ use Rattle.spec_step.specs.declared.events.Event.{Event}
 use Rattle.spec_step.specs.Machine.{HasPushed, box_of, letter_in, letters_in, words_in}
 use Rattle.spec_step.specs.Rests.{AccountsOn}
 use Rattle.spec_step.specs.Shown.{Shown, id_of}
-use Rattle.frame_sim.specs.World.{HaveSameRanges, NeverAlone, World, gateway_at, half, settings_of}
+use Rattle.spec_gateway.specs.State.{GatewayState, KeepsParts}
+use Rattle.frame_sim.specs.World.{HaveSameRanges, NeverAlone, World, gateway_at, half, settings_of, state_at}
 
 -- the two ranges: gateway 0 is founded with range zero, and ports move
 abbrev pub ranges_of : PortRanges → Ranges
@@ -76,13 +77,18 @@ abbrev pub AloneAfter : ℕ → Option Shown → Type 0
 AloneAfter alone None = Unit {0}
 AloneAfter alone (Some g) = g.ledger.book.alone ≡ alone
 
+-- the fragments of a gateway that is up are bytes
+abbrev pub KeepsPartsAt : Option GatewayState → Type 0
+KeepsPartsAt None = Unit {0}
+KeepsPartsAt (Some s) = KeepsParts s
+
 -- each gateway goes by its settings, so that no note is Alone where these never make a pair alone
 pub record IsBySettings (w : World) : Type 0 where
   pub alone : (i : GatewayId) → AloneAfter (settings_of w i).alone (gateway_at w i)
   pub plain : NeverAlone w → IsPlain (reverse w.trace)
 
--- The world is sound: for some lists of pushed records its scene can come about, the trace is accounted for, and both
--- gateways go by their settings, which have the same ranges.
+-- The world is sound: for some lists of pushed records its scene can come about, the trace is accounted for, both
+-- gateways go by their settings, which have the same ranges, and their fragments are bytes.
 pub record IsSound (w : World) : Type 0 where
   pub ranges : HaveSameRanges w.settings w.settings_one
   pub pushed : GatewayId → List Record
@@ -91,6 +97,7 @@ pub record IsSound (w : World) : Type 0 where
   pub scene : IsWorld (ranges_of w.settings.ports) (scene_of w pushed)
   pub accounted : IsAccounted w
   pub by_settings : IsBySettings w
+  pub parts : (i : GatewayId) → KeepsPartsAt (state_at w i)
 
 -- gateway i may be given the event: its datagram was sent by the other, and its operator's word about the other is true
 pub record IsHanded (w : World) (i : GatewayId) (event : Event) : Type 0 where

@@ -12,6 +12,8 @@ ghost use Rattle.frame_sim.specs.World.{is_up, moment_of, owned_by, pairs_of, sh
 ghost use Rattle.frame_sim.specs.declared.events.WorldFault.TheVariants as faults;
 ghost use Rattle.frame_sim.specs.Events.{kth, since, unless};
 ghost use Rattle.frame_sim.specs.Halves.{IsShort, Receives, StepsAt, TellsTruly, items_of};
+ghost use Rattle.frame_sim.specs.Scene.{KeepsPartsAt};
+ghost use Rattle.spec_gateway.specs.State.{KeepsParts};
 ghost use Rattle.frame_sim.specs.Lacks.{IsUnowned, IsUnpaired, IsUnreceived, IsUnstepped, IsUntranslated, WasUnowned, WasUnpaired, WasUnready, WasUnstepped, WasUntranslated};
 ghost use Rattle.frame_sim.specs.Runs.{fault_of};
 ghost use Rattle.frame_sim.specs.World.{HasKeys};
@@ -143,6 +145,7 @@ fn step_up(
     event: Event<'_>,
     out: &mut Out,
 ) -> Result<Outcome, NoMemory>
+    requires parts { KeepsParts gateway.old }
     ensures outcome { IfOk result (λ o. o ≡ outcome_of gateway.old event.entry) }
     ensures steps { OnOk result (TellsTruly gateway.old out.old event.entry
         gateway.new out.new) }
@@ -227,6 +230,7 @@ impl Half {
         event: Event<'_>,
         out: &mut Out,
     ) -> Result<Outcome, NoMemory>
+        requires parts { KeepsPartsAt self.old.gateway }
         ensures steps { IfOk result (λ o. StepsAt self.old self.old.gateway trace.old.items
             event.entry out.old o out.new self.new trace.new.items) }
         ensures err { OnErr result (self.new ≡ self.old) }
@@ -280,6 +284,7 @@ impl Half {
         trace: &mut Vec<Note>,
         out: &mut Out,
     ) -> Result<Outcome, WorldFault>
+        requires parts { KeepsPartsAt self.old.gateway }
         ensures steps { IfOk result (λ o. Receives self.old other.now number trace.old.items
             out.old o out.new self.new trace.new.items) }
         ensures fault { IfErr result (λ fault. fault

@@ -27,7 +27,7 @@ use output::Room;
 use packet_rules::Networks;
 use settings::Settings;
 use spec_binding::books_begin;
-use spec_gateway::inner_steps;
+use spec_gateway::{inner_steps, parts_stay_bytes};
 use spec_pair::laws::{
     a_step_keeps, begins, goes_to, promises, promises_in_order, promises_without_alone,
     steps_anywhere,
@@ -172,6 +172,7 @@ impl<'a> World<'a> {
         begins();
         books_begin();
         beginnings_account();
+        parts_stay_bytes();
         let gateway = begin(alloc, settings, GatewayId::Zero, 1, true)?;
         gateway.recall();
         Ok(World {
@@ -397,6 +398,7 @@ impl<'a> World<'a> {
         steps_account();
         others_account();
         inner_steps();
+        parts_stay_bytes();
         match id {
             GatewayId::Zero => self.zero.hand(self.alloc, &mut self.trace, event, out),
             GatewayId::One => self.one.hand(self.alloc, &mut self.trace, event, out),
@@ -414,6 +416,7 @@ impl<'a> World<'a> {
         steps_account();
         others_account();
         inner_steps();
+        parts_stay_bytes();
         let trace = &mut self.trace;
         match id {
             GatewayId::Zero => self.zero.receive(self.alloc, &self.one, number, trace, out),
@@ -463,6 +466,7 @@ impl<'a> World<'a> {
         goes_to();
         books_begin();
         beginnings_account();
+        parts_stay_bytes();
         others_account();
         if !self.may_boot(id, number) {
             return Err(WorldFault::PremiseBroken);
