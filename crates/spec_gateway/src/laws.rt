@@ -19,7 +19,7 @@ ghost use Rattle.spec_step.specs.Steps.{clock_after};
 ghost use Rattle.spec_step.specs.Truly.{IsSetUp, Tells};
 ghost use Rattle.spec_gateway.specs.State.{GatewayState, KeepsParts, beginning};
 ghost use Rattle.spec_gateway.specs.Arrivals.{arrival};
-ghost use Rattle.spec_gateway.specs.Sendings.{all_pieces, is_cut, number_count, numbered};
+ghost use Rattle.spec_gateway.specs.Sendings.{all_pieces, is_cut, number_after, numbered};
 ghost use Rattle.spec_gateway.specs.Steps.{IsGatewayStep, hand_at, outcome_of, whole_event};
 ghost use Rattle.spec_gateway.specs.Inner.{AreOwnAt, TakesNothing, TakesWhole};
 ghost use Rattle.spec_gateway.specs.Without.{IsUncut, without};
@@ -57,7 +57,7 @@ pub fn fragments_stay_few()
 pub fn short_frames_stay()
     ensures { (networks : Networks) (id : GatewayId) (n : ℕ) (frames : List Sent)
         → AllByRecursion (λ f. is_cut networks f ≡ false) frames
-        → (numbered networks id n frames ≡ frames) × (number_count networks frames ≡ 0)
+        → (numbered networks id n frames ≡ frames) × (number_after networks n frames ≡ n)
         × (all_pieces networks frames ≡ frames) }
 {}
 
