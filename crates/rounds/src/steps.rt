@@ -132,7 +132,8 @@ fn send_frame<W: Wire>(
 )
     requires { IsMtu mtu }
     ensures sent { AreSent W.passes
-        (map (sent (places.Side frame.side)) (pieces mtu frame.bytes.now)) wire.old wire.new }
+        (map (sent (places.Side frame.entry.side)) (pieces mtu frame.entry.bytes.now))
+        wire.old wire.new }
 {
     for k in 0..cutter.count(frame.bytes, mtu) {
         let piece = cutter.piece(frame.bytes, mtu, k);

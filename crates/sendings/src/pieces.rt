@@ -64,7 +64,7 @@ fn append_pieces(
 ) -> Result<(), NoMemory>
     requires { IsMtu mtu }
     ensures { OnOk result (list.new.items
-        ≡ list.old.items ++ at_side frame.side (pieces mtu frame.bytes.now)) }
+        ≡ list.old.items ++ at_side frame.entry.side (pieces mtu frame.entry.bytes.now)) }
 {
     let alloc = *list.allocator();
     for k in 0..cutter.count(frame.bytes, mtu) {

@@ -4,4 +4,4 @@ use Rattle.sendings.proofs.pieces.pieces_of.Given as goal
 
 abbrev pub invariant-loop-frame : goal.invariant-loop-frame
 invariant-loop-frame l =
-    l.list.items ++ all_pieces l.networks.now l.frame-iterator ≡ all_pieces l.networks.now l.out.frames
+    l.list.items ++ all_pieces l.networks l.frame-iterator ≡ all_pieces l.networks l.out.frames
