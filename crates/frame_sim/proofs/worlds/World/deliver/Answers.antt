@@ -33,3 +33,9 @@ returns-in-One c =
     let here = receive-answers w One c.receive-in-One.result c.args.number c.args.out.now c.receive-in-One.new.out c.receive-in-One.new.self c.receive-in-One.new.trace.items c.receive-in-One.ensures.steps c.receive-in-One.ensures.fault c.receive-in-One.ensures.short c.receive-in-One.ensures.err c.receive-in-One.ensures.unnoted c.receive-in-One.ensures.untold in
     let there = subst (λ (x : World). Answers x (Deliver One c.args.number) c.args.out.now c.receive-in-One.result c.receive-in-One.new.out w2) c.self.view_is here in
     subst (λ (i : GatewayId). Answers c.args.self.now (Deliver i c.args.number) c.args.out.now c.receive-in-One.result c.receive-in-One.new.out w2) (sym c.in-One.is) there
+
+pub receive-requires : goal.receive-requires
+receive-requires c = record { parts = c.self.invariant.parts Zero }
+
+pub receive-requires-in-One : goal.receive-requires-in-One
+receive-requires-in-One c = record { parts = c.self.invariant.parts One }

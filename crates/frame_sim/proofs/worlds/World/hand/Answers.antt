@@ -36,3 +36,9 @@ returns-in-One-clause-takes c =
     let here = hand-takes w One c.hand-in-One.result c.args.event c.args.out.now c.hand-in-One.new.out c.hand-in-One.new.self c.hand-in-One.new.trace.items c.hand-in-One.ensures.steps in
     let there = subst (λ (x : World). IfOk c.hand-in-One.result (λ o. TakesAt x One (state_at x One) c.args.event c.args.out.now o c.hand-in-One.new.out w2)) c.self.view_is here in
     subst (λ (i : GatewayId). IfOk c.hand-in-One.result (λ o. TakesAt c.args.self.now i (state_at c.args.self.now i) c.args.event c.args.out.now o c.hand-in-One.new.out w2)) (sym c.in-One.is) there
+
+pub hand-requires : goal.hand-requires
+hand-requires c = record { parts = c.self.invariant.parts Zero }
+
+pub hand-requires-in-One : goal.hand-requires-in-One
+hand-requires-in-One c = record { parts = c.self.invariant.parts One }
