@@ -20,7 +20,7 @@ use Rattle.spec_step.specs.Steps.{IsStepOn}
 use Rattle.spec_step.specs.Truly.{IsSetUp, Tells, hand_of, packets_of}
 use Rattle.spec_gateway.specs.Arrivals.{arrival}
 use Rattle.spec_gateway.specs.Inner.{AreOwnAt, IsFrameFor, StandsFor, TakesNothing, TakesWhole}
-use Rattle.spec_gateway.specs.Sendings.{number_count, numbered}
+use Rattle.spec_gateway.specs.Sendings.{number_after, numbered}
 use Rattle.spec_gateway.specs.State.{GatewayState, KeepsParts}
 use Rattle.spec_gateway.specs.Steps.{IsGatewayStep, Takes, frame_event, hand_at, hand_by, lent, whole_event}
 use Rattle.spec_gateway.proofs.Keeping.{frame-bytes}
@@ -30,7 +30,7 @@ use Rattle.spec_gateway.proofs.Numbers.{told-same}
 pub nothing : (s : GatewayState) (told : Output) (event : Event) (s2 : GatewayState) (told2 : Output) (step : IsGatewayStep s told event s2 told2) → (s2.shown ≡ s.shown) × (step.whole ≡ told) → TakesNothing s told s2 told2
 nothing s told event s2 told2 step none =
     let same = told-same s.shown.networks (id_of s.shown) s.numbered step.whole told step.sent none.1 step.sent_are in
-    record { shown = none.0; told_is = step.told_is ∙ same.0; numbered = omega (arith, step.numbered_is, same.1) }
+    record { shown = none.0; told_is = step.told_is ∙ same.0; numbered = step.numbered_is ∙ same.1 }
 
 state-is : {a a2 : Shown} {b b2 : Gathered} {c c2 : ℕ} → a ≡ a2 → b ≡ b2 → c ≡ c2
     → (let s : GatewayState = record { shown = a; gathered = b; numbered = c } in s) ≡ record { shown = a2; gathered = b2; numbered = c2 }

@@ -144,11 +144,10 @@ part-ipv4 side network active frame is =
     is
 
 part-body : (side : Side) (network : Network) (active : Bool) (frame : Frame) → is_part (body_reading side network active frame) ≡ true → ipv4_refusal frame.body ≡ Some fault.TheVariants.Fragment
-unfolding body_reading
+unfolding body_reading arp_reading
 part-body side network active frame is = by (frame.ethertype == 2054) is
   where
     no-arp : is_part (arp_reading frame.body) ≡ false
-    unfolding arp_reading
     no-arp = none-if _ _ _ refl refl
 
     by : (b : Bool) → is_part (cond b (arp_reading frame.body) (ipv4_reading side network active frame)) ≡ true → ipv4_refusal frame.body ≡ Some fault.TheVariants.Fragment
