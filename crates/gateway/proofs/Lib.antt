@@ -1,9 +1,13 @@
 mod Apart
 mod Beginning
+mod Gathering
 mod Hearing
 mod Lacking
 mod Lasting
+mod Longs
+mod Numbering
 mod Places
+mod Reading
 mod Staying
 mod Taking
 mod Behind

@@ -3,4 +3,5 @@ pub mod Gateway
 pub mod Rooms
 pub mod Entries
 pub mod Lacks
+pub mod Parts
 pub mod Ticks

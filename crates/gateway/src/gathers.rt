@@ -1,17 +1,17 @@
 //! Fragments that come in: they are put together, and the whole frame is taken in their place.
-ghost use Rattle.std.specs.Prelude.{◌≡◌, ◌≤◌, ◌⊎◌, IfOk, IsOk, IsTrue, OnErr, OnOk, Err, Some, length, true};
+ghost use Rattle.std.specs.Prelude.{◌≡◌, ◌≤◌, ◌⊎◌, IfOk, IsOk, OnErr, OnOk, Some, false, length, true};
 ghost use Rattle.fragments.specs.Fragment.{IsFragment};
 ghost use Rattle.fragments.specs.Gathered.{after_end, none_there, of_side, without_old};
 ghost use Rattle.frames.specs.Frame.{frame_of};
-ghost use Rattle.packet_rules.specs.declared.reasons.Reason.TheVariants.{Fragment};
 ghost use Rattle.spec_step.specs.Verdict.{reading_on, verdict};
-ghost use Rattle.spec_gateway.specs.Arrivals.{arrival, is_gathered, is_translated_protocol};
-ghost use Rattle.spec_gateway.specs.Arrivals.{may_pass};
+ghost use Rattle.spec_gateway.specs.Arrivals.{arrival, is_gathered, is_part};
+ghost use Rattle.spec_gateway.specs.Arrivals.{is_translated_protocol, may_pass};
 ghost use Rattle.spec_gateway.specs.Steps.{Takes, frame_event, gathered_after, outcome_of};
 ghost use Rattle.spec_gateway.specs.Steps.{whole_event};
 ghost use Rattle.forwarder.specs.Forwarder.{scene_on, shown_of};
 ghost use Rattle.gateway.specs.Gateway.{GoesOn, IsInOrder, IsTaken, part_of, state_of};
 ghost use Rattle.gateway.specs.Lacks.{LacksMemory, LacksPart, LacksWhole};
+ghost use Rattle.gateway.specs.Parts.{looks_cut};
 ghost use Rattle.gateway.specs.Rooms.{is_of_side};
 
 use crate::counts::{Counts, FragmentCounts};
@@ -97,23 +97,37 @@ pub(crate) struct Arrived<'a> {
     pub(crate) bytes: &'a [u8],
 }
 
-/// Whether a frame may carry a fragment, by the flags and the offset of its packet.
+/// Whether a frame looks as one that carries a fragment, by the flags and the offset of its packet.
 #[inline(always)]
-fn may_be_part(bytes: &[u8]) -> bool
-    ensures { IsFragment bytes.now → IsTrue result }
+fn looks_cut(bytes: &[u8]) -> bool
+    ensures { result ≡ looks_cut bytes.now }
 {
     bytes.len() >= FRAGMENT_END
         && BigEndian::read_u16(&bytes[FRAGMENT..]) % BEYOND_MORE_FRAGMENTS != 0
 }
 
-/// Reminds the prover that a frame that is read as a fragment is one; it does nothing when it runs.
+/// Reminds the prover that a frame that is read as a fragment is one, and looks so; it does nothing
+/// when it runs.
 fn recall_part(forwarder: &Forwarder, frame: Arrived<'_>)
-    ensures { reading_on (shown_of forwarder.now) frame.side frame.bytes.now ≡ Err Fragment
+    ensures part { is_part (reading_on (shown_of forwarder.now) frame.side frame.bytes.now) ≡ true
         → IsFragment frame.bytes.now }
+    ensures plain { looks_cut frame.bytes.now ≡ false
+        → is_part (reading_on (shown_of forwarder.now) frame.side frame.bytes.now) ≡ false }
 {
     fragment_grammar();
     let _ = forwarder.moment;
     let _ = frame.bytes;
+}
+
+/// Whether a frame is read as a fragment.
+fn is_part(forwarder: &Forwarder, frame: Arrived<'_>) -> bool
+    ensures { result
+        ≡ is_part (reading_on (shown_of forwarder.now) frame.side frame.bytes.now) }
+{
+    match forwarder.read_whole(frame.side, frame.bytes) {
+        Err(Reason::Fragment) => true,
+        Ok(_) | Err(_) => false,
+    }
 }
 
 fn is_translated(protocol: u8) -> bool
@@ -204,8 +218,8 @@ fn take_part(
     frame: Arrived<'_>,
 ) -> Result<Outcome, NoMemory>
     requires gateway { IsInOrder (shown_of forwarder.old) }
-    requires part { reading_on (shown_of forwarder.old) frame.side frame.bytes.now
-        ≡ Err Fragment }
+    requires part { is_part (reading_on (shown_of forwarder.old) frame.side frame.bytes.now)
+        ≡ true }
     ensures outcome { let s = state_of forwarder.old fragments.old
         in IfOk result (λ o. o ≡ (part_of s frame.side frame.bytes.now).outcome) }
     ensures taken { let s = state_of forwarder.old fragments.old
@@ -241,9 +255,9 @@ fn take_part(
     }
 }
 
-/// Takes a frame that is none that plainly carries no fragment.
+/// Takes a frame that looks as one that carries a fragment.
 #[cold]
-fn take_doubtful(
+fn take_alike(
     alloc: Global,
     forwarder: &mut Forwarder,
     fragments: &mut Fragments,
@@ -267,13 +281,11 @@ fn take_doubtful(
         in OnErr result (LacksPart s frame.side frame.bytes.now
         ⊎ LacksWhole s.shown page.old (frame_event frame.side a.frame)) }
 {
-    match forwarder.read_whole(frame.side, frame.bytes) {
-        Err(Reason::Fragment) => take_part(alloc, forwarder, fragments, page, frame),
-        Ok(_) | Err(_) => {
-            let whole = Event::Frame(frame.side, frame.bytes);
-            steps::step(alloc, forwarder, page, whole)
-        }
+    if is_part(forwarder, frame) {
+        return take_part(alloc, forwarder, fragments, page, frame);
     }
+    let whole = Event::Frame(frame.side, frame.bytes);
+    steps::step(alloc, forwarder, page, whole)
 }
 
 /// Takes a frame that came in.
@@ -304,8 +316,8 @@ fn take_frame(
     if frame.bytes.len() > LONGEST {
         return Ok(Outcome::Dropped(Reason::ShortFrame));
     }
-    if may_be_part(frame.bytes) {
-        return take_doubtful(alloc, forwarder, fragments, page, frame);
+    if looks_cut(frame.bytes) {
+        return take_alike(alloc, forwarder, fragments, page, frame);
     }
     recall_part(forwarder, frame);
     let whole = Event::Frame(frame.side, frame.bytes);

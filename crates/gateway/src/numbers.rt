@@ -58,6 +58,8 @@ pub(crate) fn mtu_of(networks: &Networks, side: Side) -> u16
 /// when it runs.
 fn recall_long(frame: &[u8])
     ensures packet { (mtu : ℕ) → is_long mtu frame.now ≡ true → IsIpv4Frame frame.now }
+    ensures ethertype { (mtu : ℕ) → is_long mtu frame.now ≡ true
+        → (frame_of frame.now).ethertype ≡ 2048 }
     ensures unpadded { (mtu : ℕ) → is_long mtu frame.now ≡ true
         → length frame.now ≡ 14 + (header_of (ipv4_in frame.now)).total_length }
 {
