@@ -4,6 +4,7 @@ mod Gathering
 mod Hearing
 mod Lacking
 mod Lasting
+mod Lending
 mod Longs
 mod Numbering
 mod Places

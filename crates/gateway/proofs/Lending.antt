@@ -1,0 +1,48 @@
+-- A step on a frame is one on any frame with the same bytes; and what such a step is for the fragments that are there.
+use Rattle.std.specs.Prelude.{OnErr}
+use Rattle.std.specs.Borrow.{Bor}
+use Rattle.std.proofs.Common.{◌≡◌, ◌⊎◌, inl, inr, ℕ, Option, Some, None, Result, Ok, Err, List, refl, sym, ap, subst, ◌∙◌}
+use Rattle.nat_types.specs.declared.gateways.Side.{Side}
+use Rattle.output.specs.Output.{Output, Paged}
+use Rattle.spec_step.specs.declared.events.Event.{Event}
+use Rattle.spec_step.specs.declared.events.Event.TheVariants.{Frame}
+use Rattle.spec_step.specs.Shown.{GatewayAndOutput, Shown, scene}
+use Rattle.spec_step.specs.Steps.{IsStepOn}
+use Rattle.forwarder.specs.declared.forwarders.Forwarder.{Forwarder}
+use Rattle.forwarder.specs.Forwarder.{shown_of}
+use Rattle.spec_gateway.specs.State.{GatewayState}
+use Rattle.spec_gateway.specs.Arrivals.{Arrival, arrival, frame_arrives}
+use Rattle.spec_gateway.specs.Steps.{Takes, frame_event, lent}
+use Rattle.gateway.specs.Gateway.{GoesOn, IsTaken}
+use Rattle.gateway.specs.Lacks.{Lacks, LacksStep, LacksWhole}
+
+-- what holds anyway holds on an Err
+pub on-err : {T E : Type 0} → (r : Result T E) (P : Type 0) → P → OnErr r P
+on-err (Ok x) P holds = tt
+on-err (Err e) P holds = holds
+
+pub lend-step : (s : GatewayAndOutput) (side : Side) (b : Bor (List ℕ)) (bytes : List ℕ) (s2 : GatewayAndOutput) → b.now ≡ bytes → IsStepOn s (Frame side b) s2 → IsStepOn s (Frame side (lent bytes)) s2
+lend-step s side b bytes s2 same is =
+    subst (λ (xs : List ℕ). IsStepOn s (Frame side (lent xs)) s2) same (record { done = is.done; does = is.does; sends = is.sends })
+
+pub lend-lacks : (g : Shown) (page : Paged) (side : Side) (b : Bor (List ℕ)) (bytes : List ℕ) → b.now ≡ bytes → LacksStep g page (Frame side b) → LacksStep g page (Frame side (lent bytes))
+lend-lacks g page side b bytes same lacks =
+    subst (λ (xs : List ℕ). LacksStep g page (Frame side (lent xs))) same (lacks.0, lacks.1, lacks.2)
+
+-- ---- a frame that is taken as it came
+module _ (s : GatewayState) (side : Side) (b : Bor (List ℕ)) (whole : arrival s side b.now ≡ frame_arrives s side b.now) where
+  pub frame-taken : (told : Output) (shown2 : Shown) (told2 : Output) → IsStepOn (scene s.shown told) (Frame side b) (scene shown2 told2) → GoesOn s.shown told shown2 told2
+      → IsTaken s told (frame_event side (arrival s side b.now).frame) (arrival s side b.now).gathered (record s { shown = shown2 }) told2
+  frame-taken told shown2 told2 step goes_on =
+      let s2 : GatewayState = record s { shown = shown2 } in
+      subst (λ (a : Arrival). IsTaken s told (frame_event side a.frame) a.gathered s2 told2) (sym whole)
+      (record {
+        takes = lend-step (scene s.shown told) side b b.now (scene shown2 told2) refl step;
+        gathered_is = refl;
+        numbered_is = refl;
+        goes_on = goes_on;
+      })
+
+  pub frame-lacks : (page : Paged) → LacksStep s.shown page (Frame side b) → LacksWhole s.shown page (frame_event side (arrival s side b.now).frame)
+  frame-lacks page lacks =
+      subst (λ (a : Arrival). LacksWhole s.shown page (frame_event side a.frame)) (sym whole) (lend-lacks s.shown page side b b.now refl lacks)
