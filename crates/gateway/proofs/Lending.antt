@@ -1,5 +1,5 @@
 -- A step on a frame is one on any frame with the same bytes; and what such a step is for the fragments that are there.
-use Rattle.std.specs.Prelude.{OnErr}
+use Rattle.std.specs.Prelude.{IfOk, OnErr, OnOk}
 use Rattle.std.specs.Borrow.{Bor}
 use Rattle.std.proofs.Common.{◌≡◌, ◌⊎◌, inl, inr, ℕ, Option, Some, None, Result, Ok, Err, List, refl, sym, ap, subst, ◌∙◌}
 use Rattle.nat_types.specs.declared.gateways.Side.{Side}
@@ -20,6 +20,31 @@ use Rattle.gateway.specs.Lacks.{Lacks, LacksStep, LacksWhole}
 pub on-err : {T E : Type 0} → (r : Result T E) (P : Type 0) → P → OnErr r P
 on-err (Ok x) P holds = tt
 on-err (Err e) P holds = holds
+
+-- what follows from what an Ok or an Err says
+pub if-ok : {T E : Type 0} (r : Result T E) (P Q : T → Type 0) → ((x : T) → P x → Q x) → IfOk r P → IfOk r Q
+if-ok (Ok x) P Q follows holds = follows x holds
+if-ok (Err e) P Q follows holds = tt
+
+pub on-ok : {T E : Type 0} (r : Result T E) (P Q : Type 0) → (P → Q) → OnOk r P → OnOk r Q
+on-ok (Ok x) P Q follows holds = follows holds
+on-ok (Err e) P Q follows holds = tt
+
+pub on-ok-both : {T E : Type 0} (r : Result T E) (P Q S : Type 0) → (P → Q → S) → OnOk r P → OnOk r Q → OnOk r S
+on-ok-both (Ok x) P Q S follows one two = follows one two
+on-ok-both (Err e) P Q S follows one two = tt
+
+pub on-ok-all : {T E : Type 0} (r : Result T E) (P Q S U : Type 0) → (P → Q → S → U) → OnOk r P → OnOk r Q → OnOk r S → OnOk r U
+on-ok-all (Ok x) P Q S U follows one two three = follows one two three
+on-ok-all (Err e) P Q S U follows one two three = tt
+
+pub if-err : {T E : Type 0} (r : Result T E) (P Q : Type 0) → (P → Q) → OnErr r P → OnErr r Q
+if-err (Ok x) P Q follows holds = tt
+if-err (Err e) P Q follows holds = follows holds
+
+pub if-err-both : {T E : Type 0} (r : Result T E) (P Q S : Type 0) → (P → Q → S) → OnErr r P → OnErr r Q → OnErr r S
+if-err-both (Ok x) P Q S follows one two = tt
+if-err-both (Err e) P Q S follows one two = follows one two
 
 pub lend-step : (s : GatewayAndOutput) (side : Side) (b : Bor (List ℕ)) (bytes : List ℕ) (s2 : GatewayAndOutput) → b.now ≡ bytes → IsStepOn s (Frame side b) s2 → IsStepOn s (Frame side (lent bytes)) s2
 lend-step s side b bytes s2 same is =

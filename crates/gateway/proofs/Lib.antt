@@ -10,5 +10,6 @@ mod Numbering
 mod Places
 mod Reading
 mod Staying
+mod Stepping
 mod Taking
 mod Behind

@@ -1,5 +1,5 @@
 -- A frame that is read as a fragment carries one.
-use Rattle.std.proofs.Common.{◌≡◌, ◌≤◌, ◌<◌, ◌↔◌, ◌+◌, ◌%◌, ◌/◌, ℕ, Bool, true, false, cond, not, ◌&&◌, ◌||◌, ◌==◌, nat_le, is_none, Option, Some, None, Result, Ok, Err, List, length, drop, take, refl, sym, ap, subst, ◌∙◌, arith}
+use Rattle.std.proofs.Common.{◌≡◌, ◌≤◌, ◌<◌, ◌↔◌, ◌+◌, ◌%◌, ◌/◌, ℕ, Bool, true, false, cond, not, ◌&&◌, ◌||◌, ◌==◌, nat_le, is_none, Option, Some, None, Result, Ok, Err, List, length, drop, take, refl, sym, ap, ap₂, subst, ◌∙◌, arith}
 use Rattle.std.specs.Option.{option_map}
 use Rattle.std.specs.Str.{bytes_eq}
 use Rattle.std.proofs.lemmas.Bool.Decides.{nat_tests}
@@ -191,7 +191,7 @@ long-enough : (n : ℕ) → 34 ≤ n → nat_le 22 n ≡ true
 long-enough n h = grind (arith, nat_tests)
 
 both-true : (a b : Bool) → a ≡ true → b ≡ true → (a && b) ≡ true
-both-true a b one two = grind (one, two)
+both-true a b one two = ap₂ (λ (x y : Bool). x && y) one two
 
 pub cut-looks : (bytes : List ℕ) → IsFragment bytes → looks_cut bytes ≡ true
 cut-looks bytes is =

@@ -109,10 +109,10 @@ fn looks_cut(bytes: &[u8]) -> bool
 /// Reminds the prover that a frame that is read as a fragment is one, and looks so; it does nothing
 /// when it runs.
 fn recall_part(forwarder: &Forwarder, frame: Arrived<'_>)
-    ensures part { is_part (reading_on (shown_of forwarder.now) frame.side frame.bytes.now) ≡ true
-        → IsFragment frame.bytes.now }
-    ensures plain { looks_cut frame.bytes.now ≡ false
-        → is_part (reading_on (shown_of forwarder.now) frame.side frame.bytes.now) ≡ false }
+    ensures part { is_part (reading_on (shown_of forwarder.now) frame.entry.side frame.entry.bytes.now) ≡ true
+        → IsFragment frame.entry.bytes.now }
+    ensures plain { looks_cut frame.entry.bytes.now ≡ false
+        → is_part (reading_on (shown_of forwarder.now) frame.entry.side frame.entry.bytes.now) ≡ false }
 {
     fragment_grammar();
     let _ = forwarder.moment;
@@ -122,7 +122,7 @@ fn recall_part(forwarder: &Forwarder, frame: Arrived<'_>)
 /// Whether a frame is read as a fragment.
 fn is_part(forwarder: &Forwarder, frame: Arrived<'_>) -> bool
     ensures { result
-        ≡ is_part (reading_on (shown_of forwarder.now) frame.side frame.bytes.now) }
+        ≡ is_part (reading_on (shown_of forwarder.now) frame.entry.side frame.entry.bytes.now) }
 {
     match forwarder.read_whole(frame.side, frame.bytes) {
         Err(Reason::Fragment) => true,
@@ -158,7 +158,7 @@ fn may_pass(network: &Network, frame: &[u8]) -> bool
 /// Whether a frame that carries a fragment is put together with others.
 fn is_gathered(forwarder: &Forwarder, frame: Arrived<'_>) -> bool
     requires { IsFragment frame.bytes.now }
-    ensures { result ≡ is_gathered (shown_of forwarder.now) frame.side frame.bytes.now }
+    ensures { result ≡ is_gathered (shown_of forwarder.now) frame.entry.side frame.entry.bytes.now }
 {
     forwarder.networks.pass && may_pass(&forwarder.station(frame.side).network(), frame.bytes)
 }
@@ -183,14 +183,14 @@ fn take_joined(
     requires gateway { IsInOrder (shown_of forwarder.old) }
     requires part { IsFragment frame.bytes.now }
     ensures outcome { IfOk result (λ o. o
-        ≡ verdict (shown_of forwarder.old) frame.side fragments.old.gathering.whole) }
+        ≡ verdict (shown_of forwarder.old) frame.entry.side fragments.old.gathering.whole) }
     ensures takes { OnOk result (Takes (shown_of forwarder.old) page.old.told
-        (frame_event frame.side (Some fragments.old.gathering.whole))
+        (frame_event frame.entry.side (Some fragments.old.gathering.whole))
         (shown_of forwarder.new) page.new.told) }
     ensures goes_on { OnOk result (GoesOn (shown_of forwarder.old) page.old.told
         (shown_of forwarder.new) page.new.told) }
     ensures fragments { OnOk result (fragments.new ≡ record fragments.old {
-      gathering = after_end frame.side frame.bytes.now fragments.old.gathering;
+      gathering = after_end frame.entry.side frame.entry.bytes.now fragments.old.gathering;
       counts = fragments.new.counts;
     }) }
     ensures gateway { IsInOrder (shown_of forwarder.new) }
@@ -198,7 +198,7 @@ fn take_joined(
         ≡ scene_on forwarder.old page.old) }
     ensures unmoved { OnErr result (fragments.new ≡ fragments.old) }
     ensures lacks { OnErr result (LacksWhole (shown_of forwarder.old) page.old
-        (frame_event frame.side (Some fragments.old.gathering.whole))) }
+        (frame_event frame.entry.side (Some fragments.old.gathering.whole))) }
 {
     let whole = Event::Frame(frame.side, fragments.gathering.whole());
     let outcome = steps::step(alloc, forwarder, page, whole)?;
@@ -221,19 +221,19 @@ fn take_part(
     requires part { is_part (reading_on (shown_of forwarder.old) frame.side frame.bytes.now)
         ≡ true }
     ensures outcome { let s = state_of forwarder.old fragments.old
-        in IfOk result (λ o. o ≡ (part_of s frame.side frame.bytes.now).outcome) }
+        in IfOk result (λ o. o ≡ (part_of s frame.entry.side frame.entry.bytes.now).outcome) }
     ensures taken { let s = state_of forwarder.old fragments.old
-        in let arrival = part_of s frame.side frame.bytes.now
-        in OnOk result (IsTaken s page.old.told (frame_event frame.side arrival.frame)
+        in let arrival = part_of s frame.entry.side frame.entry.bytes.now
+        in OnOk result (IsTaken s page.old.told (frame_event frame.entry.side arrival.frame)
         arrival.gathered (state_of forwarder.new fragments.new) page.new.told) }
     ensures gateway { IsInOrder (shown_of forwarder.new) }
     ensures err { OnErr result (state_of forwarder.new fragments.new
         ≡ state_of forwarder.old fragments.old) }
     ensures untold { OnErr result (page.new.told ≡ page.old.told) }
     ensures lacks { let s = state_of forwarder.old fragments.old
-        in let arrival = part_of s frame.side frame.bytes.now
-        in OnErr result (LacksPart s frame.side frame.bytes.now
-        ⊎ LacksWhole s.shown page.old (frame_event frame.side arrival.frame)) }
+        in let arrival = part_of s frame.entry.side frame.entry.bytes.now
+        in OnErr result (LacksPart s frame.entry.side frame.entry.bytes.now
+        ⊎ LacksWhole s.shown page.old (frame_event frame.entry.side arrival.frame)) }
 {
     recall_part(forwarder, frame);
     if !is_gathered(forwarder, frame) {
@@ -267,19 +267,19 @@ fn take_alike(
     requires gateway { IsInOrder (shown_of forwarder.old) }
     requires short { length frame.bytes.now ≤ 1514 }
     ensures outcome { let s = state_of forwarder.old fragments.old
-        in IfOk result (λ o. o ≡ (arrival s frame.side frame.bytes.now).outcome) }
+        in IfOk result (λ o. o ≡ (arrival s frame.entry.side frame.entry.bytes.now).outcome) }
     ensures taken { let s = state_of forwarder.old fragments.old
-        in let a = arrival s frame.side frame.bytes.now
-        in OnOk result (IsTaken s page.old.told (frame_event frame.side a.frame)
+        in let a = arrival s frame.entry.side frame.entry.bytes.now
+        in OnOk result (IsTaken s page.old.told (frame_event frame.entry.side a.frame)
         a.gathered (state_of forwarder.new fragments.new) page.new.told) }
     ensures gateway { IsInOrder (shown_of forwarder.new) }
     ensures err { OnErr result (state_of forwarder.new fragments.new
         ≡ state_of forwarder.old fragments.old) }
     ensures untold { OnErr result (page.new.told ≡ page.old.told) }
     ensures lacks { let s = state_of forwarder.old fragments.old
-        in let a = arrival s frame.side frame.bytes.now
-        in OnErr result (LacksPart s frame.side frame.bytes.now
-        ⊎ LacksWhole s.shown page.old (frame_event frame.side a.frame)) }
+        in let a = arrival s frame.entry.side frame.entry.bytes.now
+        in OnErr result (LacksPart s frame.entry.side frame.entry.bytes.now
+        ⊎ LacksWhole s.shown page.old (frame_event frame.entry.side a.frame)) }
 {
     if is_part(forwarder, frame) {
         return take_part(alloc, forwarder, fragments, page, frame);
@@ -299,19 +299,19 @@ fn take_frame(
 ) -> Result<Outcome, NoMemory>
     requires gateway { IsInOrder (shown_of forwarder.old) }
     ensures outcome { let s = state_of forwarder.old fragments.old
-        in IfOk result (λ o. o ≡ (arrival s frame.side frame.bytes.now).outcome) }
+        in IfOk result (λ o. o ≡ (arrival s frame.entry.side frame.entry.bytes.now).outcome) }
     ensures taken { let s = state_of forwarder.old fragments.old
-        in let a = arrival s frame.side frame.bytes.now
-        in OnOk result (IsTaken s page.old.told (frame_event frame.side a.frame)
+        in let a = arrival s frame.entry.side frame.entry.bytes.now
+        in OnOk result (IsTaken s page.old.told (frame_event frame.entry.side a.frame)
         a.gathered (state_of forwarder.new fragments.new) page.new.told) }
     ensures gateway { IsInOrder (shown_of forwarder.new) }
     ensures err { OnErr result (state_of forwarder.new fragments.new
         ≡ state_of forwarder.old fragments.old) }
     ensures untold { OnErr result (page.new.told ≡ page.old.told) }
     ensures lacks { let s = state_of forwarder.old fragments.old
-        in let a = arrival s frame.side frame.bytes.now
-        in OnErr result (LacksPart s frame.side frame.bytes.now
-        ⊎ LacksWhole s.shown page.old (frame_event frame.side a.frame)) }
+        in let a = arrival s frame.entry.side frame.entry.bytes.now
+        in OnErr result (LacksPart s frame.entry.side frame.entry.bytes.now
+        ⊎ LacksWhole s.shown page.old (frame_event frame.entry.side a.frame)) }
 {
     if frame.bytes.len() > LONGEST {
         return Ok(Outcome::Dropped(Reason::ShortFrame));
