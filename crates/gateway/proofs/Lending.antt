@@ -1,20 +1,21 @@
 -- A step on a frame is one on any frame with the same bytes; and what such a step is for the fragments that are there.
 use Rattle.std.specs.Prelude.{IfOk, OnErr, OnOk}
 use Rattle.std.specs.Borrow.{Bor}
-use Rattle.std.proofs.Common.{◌≡◌, ◌⊎◌, inl, inr, ℕ, Option, Some, None, Result, Ok, Err, List, refl, sym, ap, subst, ◌∙◌}
+use Rattle.std.proofs.Common.{◌≡◌, ◌⊎◌, inl, inr, ℕ, Bool, true, false, Option, Some, None, Result, Ok, Err, List, refl, sym, ap, subst, ◌∙◌}
 use Rattle.nat_types.specs.declared.gateways.Side.{Side}
 use Rattle.output.specs.Output.{Output, Paged}
 use Rattle.spec_step.specs.declared.events.Event.{Event}
-use Rattle.spec_step.specs.declared.events.Event.TheVariants.{Frame}
+use Rattle.spec_step.specs.declared.events.Event.TheVariants.{Frame, Datagram as Comes, Tick, Stop, PeerOff, Side as SideIs}
 use Rattle.spec_step.specs.Shown.{GatewayAndOutput, Shown, scene}
-use Rattle.spec_step.specs.Steps.{IsStepOn}
+use Rattle.spec_step.specs.Steps.{IsStepOn, outcome_on}
 use Rattle.forwarder.specs.declared.forwarders.Forwarder.{Forwarder}
 use Rattle.forwarder.specs.Forwarder.{shown_of}
 use Rattle.spec_gateway.specs.State.{GatewayState}
 use Rattle.spec_gateway.specs.Arrivals.{Arrival, arrival, frame_arrives}
-use Rattle.spec_gateway.specs.Steps.{Takes, frame_event, lent}
+use Rattle.spec_gateway.specs.Steps.{Takes, frame_event, gathered_after, lent, outcome_of, whole_event}
 use Rattle.gateway.specs.Gateway.{GoesOn, IsTaken}
-use Rattle.gateway.specs.Lacks.{Lacks, LacksStep, LacksWhole}
+use Rattle.gateway.specs.Lacks.{Lacks, LacksMemory, LacksStep, LacksWhole}
+use Rattle.gateway.specs.Rooms.{IsShort, is_plain}
 
 -- what holds anyway holds on an Err
 pub on-err : {T E : Type 0} → (r : Result T E) (P : Type 0) → P → OnErr r P
@@ -71,3 +72,41 @@ module _ (s : GatewayState) (side : Side) (b : Bor (List ℕ)) (whole : arrival 
   pub frame-lacks : (page : Paged) → LacksStep s.shown page (Frame side b) → LacksWhole s.shown page (frame_event side (arrival s side b.now).frame)
   frame-lacks page lacks =
       subst (λ (a : Arrival). LacksWhole s.shown page (frame_event side a.frame)) (sym whole) (lend-lacks s.shown page side b b.now refl lacks)
+
+-- ---- an event that is neither a frame nor a tick
+pub plain-short : (event : Event) → is_plain event ≡ true → IsShort event
+plain-short (Frame side bytes) plain = absurd (cc)
+plain-short (Comes bytes) plain = tt
+plain-short (Tick now) plain = absurd (cc)
+plain-short Stop plain = tt
+plain-short (PeerOff boot) plain = tt
+plain-short (SideIs side up) plain = tt
+
+pub plain-outcome : (s : GatewayState) (event : Event) → is_plain event ≡ true → outcome_on s.shown event ≡ outcome_of s event
+plain-outcome s (Frame side bytes) plain = absurd (cc)
+plain-outcome s (Comes bytes) plain = refl
+plain-outcome s (Tick now) plain = absurd (cc)
+plain-outcome s Stop plain = refl
+plain-outcome s (PeerOff boot) plain = refl
+plain-outcome s (SideIs side up) plain = refl
+
+pub plain-taken : (s : GatewayState) (told : Output) (shown2 : Shown) (told2 : Output) (event : Event) → is_plain event ≡ true → IsStepOn (scene s.shown told) event (scene shown2 told2) → GoesOn s.shown told shown2 told2
+    → IsTaken s told (whole_event s event) (gathered_after s event) (record s { shown = shown2 }) told2
+plain-taken s told shown2 told2 (Frame side bytes) plain step goes_on = absurd (cc)
+plain-taken s told shown2 told2 (Comes bytes) plain step goes_on = record { takes = step; gathered_is = refl; numbered_is = refl; goes_on = goes_on }
+plain-taken s told shown2 told2 (Tick now) plain step goes_on = absurd (cc)
+plain-taken s told shown2 told2 Stop plain step goes_on = record { takes = step; gathered_is = refl; numbered_is = refl; goes_on = goes_on }
+plain-taken s told shown2 told2 (PeerOff boot) plain step goes_on = record { takes = step; gathered_is = refl; numbered_is = refl; goes_on = goes_on }
+plain-taken s told shown2 told2 (SideIs side up) plain step goes_on = record { takes = step; gathered_is = refl; numbered_is = refl; goes_on = goes_on }
+
+pub plain-lacks : (s : GatewayState) (page : Paged) (event : Event) → is_plain event ≡ true → LacksStep s.shown page event → LacksMemory s page event
+plain-lacks s page (Frame side bytes) plain lacks = absurd (cc)
+plain-lacks s page (Comes bytes) plain lacks = inr lacks
+plain-lacks s page (Tick now) plain lacks = absurd (cc)
+plain-lacks s page Stop plain lacks = inr lacks
+plain-lacks s page (PeerOff boot) plain lacks = inr lacks
+plain-lacks s page (SideIs side up) plain lacks = inr lacks
+
+-- what a tick lacks
+pub tick-lacks : (s : GatewayState) (page : Paged) (event : Event) (now : ℕ) → event ≡ Tick now → LacksStep s.shown page (Tick now) → LacksMemory s page event
+tick-lacks s page event now is lacks = subst (λ (e : Event). LacksMemory s page e) (sym is) (inr lacks)

@@ -51,11 +51,11 @@ changed-length (suc k) change (x ∷ frames) = ap suc (changed-length k change f
 module _ (networks : Networks) (id : GatewayId) (n k : ℕ) (frames : List Sent) (f : Sent) (is : slice_get frames k ≡ Some f) where
   numbered-by : (b : Bool) → is_numbered networks f ≡ b
       → take k frames ++ numbered networks id n (drop k frames) ≡ take (k + 1) (frames_by b id n k frames) ++ numbered networks id (number_by b n) (drop (k + 1) (frames_by b id n k frames))
-  numbered-by true yes =
+  numbered-by true is_one =
       let f2 : Sent = record f { bytes = identified (number_of id n) f.bytes } in
       let rest : List Sent = drop (k + 1) frames in
       ap (λ (fs : List Sent). take k frames ++ numbered networks id n fs) (rest-at k frames f is)
-      ∙ ap (λ (b : Bool). take k frames ++ cond b (f2 ∷ numbered networks id (next_number n) rest) (f ∷ numbered networks id n rest)) yes
+      ∙ ap (λ (b : Bool). take k frames ++ cond b (f2 ∷ numbered networks id (next_number n) rest) (f ∷ numbered networks id n rest)) is_one
       ∙ sym (append_assoc (take k frames) (f2 ∷ []) (numbered networks id (next_number n) rest))
       ∙ ap₂ (λ (xs ys : List Sent). xs ++ numbered networks id (next_number n) ys) (sym (changed-front k (identified (number_of id n)) frames f is)) (sym (changed-rest k (identified (number_of id n)) frames))
   numbered-by false isnt =
@@ -68,10 +68,10 @@ module _ (networks : Networks) (id : GatewayId) (n k : ℕ) (frames : List Sent)
 
   number-by : (b : Bool) → is_numbered networks f ≡ b
       → number_after networks n (drop k frames) ≡ number_after networks (number_by b n) (drop (k + 1) (frames_by b id n k frames))
-  number-by true yes =
+  number-by true is_one =
       let rest : List Sent = drop (k + 1) frames in
       ap (number_after networks n) (rest-at k frames f is)
-      ∙ ap (λ (b : Bool). cond b (number_after networks (next_number n) rest) (number_after networks n rest)) yes
+      ∙ ap (λ (b : Bool). cond b (number_after networks (next_number n) rest) (number_after networks n rest)) is_one
       ∙ ap (number_after networks (next_number n)) (sym (changed-rest k (identified (number_of id n)) frames))
   number-by false isnt =
       let rest : List Sent = drop (k + 1) frames in

@@ -3,6 +3,8 @@ ghost use Rattle.std.specs.Prelude.{◌≡◌, ◌≤◌, ◌⊎◌, IfOk, IsOk,
 ghost use Rattle.fragments.specs.Fragment.{IsFragment};
 ghost use Rattle.fragments.specs.Gathered.{after_end, none_there, of_side, without_old};
 ghost use Rattle.frames.specs.Frame.{frame_of};
+ghost use Rattle.spec_step.specs.declared.events.Event.TheVariants.{Tick as TickEvent};
+ghost use Rattle.spec_step.specs.declared.events.Outcome.TheVariants.{Done};
 ghost use Rattle.spec_step.specs.Verdict.{reading_on, verdict};
 ghost use Rattle.spec_gateway.specs.Arrivals.{arrival, is_gathered, is_part};
 ghost use Rattle.spec_gateway.specs.Arrivals.{is_translated_protocol, may_pass};
@@ -10,9 +12,9 @@ ghost use Rattle.spec_gateway.specs.Steps.{Takes, frame_event, gathered_after, o
 ghost use Rattle.spec_gateway.specs.Steps.{whole_event};
 ghost use Rattle.forwarder.specs.Forwarder.{scene_on, shown_of};
 ghost use Rattle.gateway.specs.Gateway.{GoesOn, IsInOrder, IsTaken, part_of, state_of};
-ghost use Rattle.gateway.specs.Lacks.{LacksMemory, LacksPart, LacksWhole};
+ghost use Rattle.gateway.specs.Lacks.{LacksMemory, LacksPart, LacksStep, LacksWhole};
 ghost use Rattle.gateway.specs.Parts.{looks_cut};
-ghost use Rattle.gateway.specs.Rooms.{is_of_side};
+ghost use Rattle.gateway.specs.Rooms.{is_of_side, is_plain};
 
 use crate::counts::{Counts, FragmentCounts};
 use crate::ticks::clock_after;
@@ -341,6 +343,60 @@ fn drop_old(fragments: &mut Fragments, moment: u64)
     counts.gave_up(Side::Outside, outside.saturating_sub(outside_left));
 }
 
+/// Takes a tick, and gives up the datagrams of which fragments are missing for too long.
+fn take_tick(
+    alloc: Global,
+    forwarder: &mut Forwarder,
+    fragments: &mut Fragments,
+    page: &mut OutputBuffer,
+    now: u64,
+) -> Result<Outcome, NoMemory>
+    requires gateway { IsInOrder (shown_of forwarder.old) }
+    ensures outcome { IfOk result (λ o. o ≡ Done) }
+    ensures taken { let s = state_of forwarder.old fragments.old
+        in OnOk result (IsTaken s page.old.told (Some (TickEvent now))
+        (gathered_after s (TickEvent now)) (state_of forwarder.new fragments.new)
+        page.new.told) }
+    ensures gateway { IsInOrder (shown_of forwarder.new) }
+    ensures err { OnErr result (state_of forwarder.new fragments.new
+        ≡ state_of forwarder.old fragments.old) }
+    ensures untold { OnErr result (page.new.told ≡ page.old.told) }
+    ensures lacks { OnErr result
+        (LacksStep (shown_of forwarder.old) page.old (TickEvent now)) }
+{
+    let moment = clock_after(forwarder.moment, now);
+    let outcome = steps::step(alloc, forwarder, page, Event::Tick(now))?;
+    drop_old(fragments, moment);
+    Ok(outcome)
+}
+
+/// Takes an event that is neither a frame nor a tick.
+fn take_plain(
+    alloc: Global,
+    forwarder: &mut Forwarder,
+    fragments: &Fragments,
+    page: &mut OutputBuffer,
+    event: Event<'_>,
+) -> Result<Outcome, NoMemory>
+    requires gateway { IsInOrder (shown_of forwarder.old) }
+    requires plain { is_plain event ≡ true }
+    ensures outcome { IfOk result (λ o. o
+        ≡ outcome_of (state_of forwarder.old fragments.now) event.entry) }
+    ensures taken { let s = state_of forwarder.old fragments.now
+        in OnOk result (IsTaken s page.old.told (whole_event s event.entry)
+        (gathered_after s event.entry) (state_of forwarder.new fragments.now) page.new.told) }
+    ensures gateway { IsInOrder (shown_of forwarder.new) }
+    ensures err { OnErr result (state_of forwarder.new fragments.now
+        ≡ state_of forwarder.old fragments.now) }
+    ensures untold { OnErr result (page.new.told ≡ page.old.told) }
+    ensures lacks { OnErr result
+        (LacksMemory (state_of forwarder.old fragments.now) page.old event.entry) }
+    ensures plugged { is_of_side event.entry ≡ true → IsOk result }
+{
+    let _ = &fragments.gathering;
+    steps::step(alloc, forwarder, page, event)
+}
+
 /// Takes an event, and a frame that carries a fragment with the others of its datagram. What is sent
 /// isn't numbered yet. Fails where there isn't enough memory; nothing has changed then.
 #[inline(always)]
@@ -370,14 +426,9 @@ pub(crate) fn take(
             let frame = Arrived { side, bytes };
             take_frame(alloc, forwarder, fragments, page, frame)
         }
-        Event::Tick(now) => {
-            let moment = clock_after(forwarder.moment, now);
-            let outcome = steps::step(alloc, forwarder, page, event)?;
-            drop_old(fragments, moment);
-            Ok(outcome)
-        }
+        Event::Tick(now) => take_tick(alloc, forwarder, fragments, page, now),
         Event::Datagram(_) | Event::Stop | Event::PeerOff(_) | Event::Side(..) => {
-            steps::step(alloc, forwarder, page, event)
+            take_plain(alloc, forwarder, fragments, page, event)
         }
     }
 }

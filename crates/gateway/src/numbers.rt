@@ -262,12 +262,12 @@ pub(crate) fn number_sent(
         → IsUncut networks.now id fragments.old.numbered
         (drop before.frames page.old.told.frames) }
     ensures told { page.new.told ≡ with_frames page.old.told
-        (take before.entry.frames page.old.told.frames
+        (take before.frames page.old.told.frames
         ++ numbered networks.now id fragments.old.numbered
-        (drop before.entry.frames page.old.told.frames)) }
+        (drop before.frames page.old.told.frames)) }
     ensures fragments { fragments.new ≡ record fragments.old {
       numbered = number_after networks.now fragments.old.numbered
-          (drop before.entry.frames page.old.told.frames);
+          (drop before.frames page.old.told.frames);
       counts = fragments.new.counts;
     } }
 {

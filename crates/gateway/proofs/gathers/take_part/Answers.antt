@@ -10,7 +10,8 @@ use Rattle.forwarder.specs.Forwarder.{scene_on, shown_of}
 use Rattle.gateway.specs.Gateway.{GoesOn, IsTaken, part_of, state_of}
 use Rattle.gateway.specs.Lacks.{LacksPart, LacksWhole}
 use Rattle.gateway.specs.declared.gathers.Fragments.{Fragments}
-use Rattle.gateway.proofs.Gathering.{held-none, join-stays, quiet-taken, refused-none, whole-lacks, whole-makes, whole-outcome, whole-taken}
+use Rattle.fragments.proofs.Offered.{held-none, refused-none, whole-makes}
+use Rattle.gateway.proofs.Gathering.{join-stays, quiet-taken, whole-lacks, whole-outcome, whole-taken}
 use Rattle.gateway.proofs.Lending.{if-err, if-err-both, if-ok, on-ok-all}
 use Rattle.gateway.proofs.gathers.take_part.Goals as goal
 

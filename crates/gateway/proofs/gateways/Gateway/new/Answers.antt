@@ -10,5 +10,5 @@ invariant_of-result c =
           (c.beginnings_settle.ensures.begun settings c.args.id c.args.boot) (c.beginnings_settle.ensures.founded settings c.args.boot)
           c.begin.ensures.placed c.begin.ensures.first c.in_ok-forwarder.ensures.shown,
       id-is settings c.args.id c.args.boot c.args.found _ (shown_of c.in_ok-forwarder.forwarder) c.requires.found c.in_ok-forwarder.ensures.shown,
-      c.longest_of.ensures.fits,
+      c.longest_of-longest.ensures.fits,
     )
