@@ -1,21 +1,17 @@
 -- What comes of a frame that comes in, by how it is read, and of a fragment beside those that are there.
-use Rattle.std.proofs.Common.{◌≡◌, ◌≤◌, ◌<◌, ℕ, Bool, true, false, cond, nat_lt, Option, Some, None, unwrap_or, Result, Ok, Err, List, [], ◌∷◌, ◌++◌, length, find, refl, sym, ap, ap₂, subst, ◌∙◌, arith}
+use Rattle.std.proofs.Common.{◌≡◌, ◌≤◌, ◌<◌, ℕ, Bool, true, false, cond, nat_lt, Option, Some, None, unwrap_or, List, [], length, refl, sym, ap, subst, ◌∙◌, arith}
 use Rattle.std.proofs.lemmas.Bool.Decides.{nat_tests}
 use Rattle.std.proofs.lemmas.List.{append-nil}
 use Rattle.frames.specs.declared.ethernet.TheConstants.{LONGEST}
 use Rattle.nat_types.specs.declared.gateways.Side.{Side}
 use Rattle.nat_types.specs.declared.gateways.Side.TheVariants.{Inside, Outside}
-use Rattle.output.specs.Output.{Output, Sent}
-use Rattle.packet_rules.specs.declared.reasons.Reason.{Reason}
+use Rattle.output.specs.Output.{Output}
 use Rattle.packet_rules.specs.declared.reasons.Reason.TheVariants.{Fragment, ShortFrame}
-use Rattle.fragments.specs.Fragment.{is_broken, trimmed}
-use Rattle.fragments.specs.Name.{name_of}
 use Rattle.fragments.specs.Memory.{LacksTaking}
 use Rattle.fragments.specs.declared.gatherings.Came.{Came}
 use Rattle.fragments.specs.declared.gatherings.Came.TheVariants.{Refused, Held, Whole}
-use Rattle.fragments.specs.Gathered.{Datagram, Gathered, Taking, after, after_end, after_join, arrived, effect_of, ended, is_named, joined, left_by, of_side, refused, taken, there_of, without_first}
-use Rattle.fragments.proofs.Offered.{Makes, held-none, refused-none, whole-makes}
-use Rattle.spec_step.specs.declared.events.Outcome.{Outcome}
+use Rattle.fragments.specs.Gathered.{Datagram, Gathered, Taking, after, after_end, after_join, ended, left_by, of_side, taken, there_of}
+use Rattle.fragments.proofs.Offered.{held-none, refused-none, whole-makes}
 use Rattle.spec_step.specs.declared.events.Outcome.TheVariants.{Dropped, Waiting}
 use Rattle.spec_step.specs.Shown.{Shown}
 use Rattle.spec_step.specs.Verdict.{reading_on, verdict}

@@ -1,20 +1,18 @@
 -- A step on a frame is one on any frame with the same bytes; and what such a step is for the fragments that are there.
 use Rattle.std.specs.Prelude.{IfOk, OnErr, OnOk}
 use Rattle.std.specs.Borrow.{Bor}
-use Rattle.std.proofs.Common.{◌≡◌, ◌⊎◌, inl, inr, ℕ, Bool, true, false, Option, Some, None, Result, Ok, Err, List, refl, sym, ap, subst, ◌∙◌}
+use Rattle.std.proofs.Common.{◌≡◌, inr, ℕ, true, Result, Ok, Err, List, refl, sym, subst}
 use Rattle.nat_types.specs.declared.gateways.Side.{Side}
 use Rattle.output.specs.Output.{Output, Paged}
 use Rattle.spec_step.specs.declared.events.Event.{Event}
 use Rattle.spec_step.specs.declared.events.Event.TheVariants.{Frame, Datagram as Comes, Tick, Stop, PeerOff, Side as SideIs}
 use Rattle.spec_step.specs.Shown.{GatewayAndOutput, Shown, scene}
 use Rattle.spec_step.specs.Steps.{IsStepOn, outcome_on}
-use Rattle.forwarder.specs.declared.forwarders.Forwarder.{Forwarder}
-use Rattle.forwarder.specs.Forwarder.{shown_of}
 use Rattle.spec_gateway.specs.State.{GatewayState}
 use Rattle.spec_gateway.specs.Arrivals.{Arrival, arrival, frame_arrives}
-use Rattle.spec_gateway.specs.Steps.{Takes, frame_event, gathered_after, lent, outcome_of, whole_event}
+use Rattle.spec_gateway.specs.Steps.{frame_event, gathered_after, lent, outcome_of, whole_event}
 use Rattle.gateway.specs.Gateway.{GoesOn, IsTaken}
-use Rattle.gateway.specs.Lacks.{Lacks, LacksMemory, LacksStep, LacksWhole}
+use Rattle.gateway.specs.Lacks.{LacksMemory, LacksStep, LacksWhole}
 use Rattle.gateway.specs.Rooms.{IsShort, is_plain}
 
 -- what holds anyway holds on an Err

@@ -1,5 +1,5 @@
 -- A frame that is cut is an IPv4 packet without padding.
-use Rattle.std.proofs.Common.{◌≡◌, ◌≤◌, ◌<◌, ◌↔◌, ◌+◌, ◌/◌, ◌%◌, ℕ, Bool, true, false, cond, ◌&&◌, ◌==◌, nat_le, nat_lt, is_none, Option, Some, None, List, length, refl, arith}
+use Rattle.std.proofs.Common.{◌≡◌, ◌≤◌, ◌↔◌, ◌+◌, ◌/◌, ◌%◌, ℕ, Bool, true, false, ◌&&◌, ◌==◌, nat_le, nat_lt, is_none, Option, Some, None, List, length, refl, arith}
 use Rattle.std.proofs.lemmas.Bool.Decides.{nat_tests}
 use Rattle.frames.specs.Frame.{frame_of}
 use Rattle.ipv4.specs.Header.{IsIpv4, header_of, ipv4_refusal}

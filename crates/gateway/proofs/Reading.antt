@@ -1,7 +1,6 @@
 -- A frame that is read as a fragment carries one.
-use Rattle.std.proofs.Common.{◌≡◌, ◌≤◌, ◌<◌, ◌↔◌, ◌+◌, ◌%◌, ◌/◌, ℕ, Bool, true, false, cond, not, ◌&&◌, ◌||◌, ◌==◌, nat_le, is_none, Option, Some, None, Result, Ok, Err, List, length, drop, take, refl, sym, ap, ap₂, subst, ◌∙◌, arith}
+use Rattle.std.proofs.Common.{◌≡◌, ◌≤◌, ◌↔◌, ◌%◌, ◌/◌, ℕ, Bool, true, false, cond, not, ◌&&◌, ◌||◌, ◌==◌, nat_le, is_none, Option, Some, None, Result, Ok, Err, List, length, drop, refl, ap₂, subst, arith}
 use Rattle.std.specs.Option.{option_map}
-use Rattle.std.specs.Str.{bytes_eq}
 use Rattle.std.proofs.lemmas.Bool.Decides.{nat_tests}
 use Rattle.std.proofs.lemmas.List.{drop-drop, length-drop}
 use Rattle.byteorder.specs.Endian.{big_number}
@@ -9,7 +8,7 @@ use Rattle.frames.specs.Frame.{Frame, frame_of}
 use Rattle.frames.specs.declared.ethernet.TheConstants.{LONGEST_WHOLE}
 use Rattle.ipv4.specs.Header.{header_of, ipv4_refusal, is_fragment, payload_of}
 use Rattle.ipv4.specs.Flow.{packet_of as packet_read}
-use Rattle.ipv4.specs.Carried.{carries_neither, has_no_transport, transport_refusal as carried_refusal}
+use Rattle.ipv4.specs.Carried.{carries_neither, has_no_transport}
 use Rattle.ipv4.specs.declared.faults.Ipv4Fault as fault
 use Rattle.ipv4.specs.declared.faults.Ipv4Fault.{Ipv4Fault}
 use Rattle.icmp.specs.declared.errors.TheConstants.{PROTOCOL}
@@ -29,7 +28,7 @@ use Rattle.packet_rules.specs.declared.reasons.Reason.TheVariants.{ShortFrame, N
 use Rattle.packet_rules.specs.Asked.{asked_of, is_asked}
 use Rattle.packet_rules.specs.Networks.{is_addressed, is_virtual}
 use Rattle.packet_rules.specs.Queries.{kind_entering, kind_leaving}
-use Rattle.packet_rules.specs.Steps.{about_refusal, advert_reading, and_then, arp_reading, body_reading, destination_refusal, error_reading, error_refusal, header_refusal, icmp_reading, ipv4_reading, is_from_peer, is_vrrp, other_reading, packet_reading, query_reading, query_refusal, reading_of, reason_of, reason_of_icmp, size_refusal, transport_reading, transport_refusal, ttl_refusal, unless, up_refusal, virtual_refusal}
+use Rattle.packet_rules.specs.Steps.{about_refusal, advert_reading, arp_reading, body_reading, destination_refusal, error_reading, error_refusal, header_refusal, icmp_reading, ipv4_reading, is_from_peer, is_vrrp, other_reading, packet_reading, query_reading, query_refusal, reading_of, reason_of, reason_of_icmp, size_refusal, transport_reading, transport_refusal, ttl_refusal, unless, up_refusal, virtual_refusal}
 use Rattle.fragments.specs.Fragment.{HasHeader, IsFragment, ipv4_in}
 use Rattle.spec_gateway.specs.Arrivals.{is_part}
 use Rattle.gateway.specs.Parts.{looks_cut}

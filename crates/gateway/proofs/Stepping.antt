@@ -9,7 +9,7 @@ use Rattle.spec_step.specs.Shown.{Shown, id_of}
 use Rattle.spec_gateway.specs.State.{GatewayState}
 use Rattle.spec_gateway.specs.Sendings.{number_after, numbered}
 use Rattle.spec_gateway.specs.Steps.{IsGatewayStep, Takes, gathered_after, whole_event}
-use Rattle.gateway.specs.Gateway.{FitsAtBoth, GoesOn, IsTaken}
+use Rattle.gateway.specs.Gateway.{FitsAtBoth, IsTaken}
 use Rattle.gateway.specs.Numbers.{IsUncut}
 use Rattle.gateway.proofs.Numbering.{number-short, numbered-short, octets-more}
 

@@ -1,11 +1,10 @@
 use Rattle.std.specs.Prelude.{IfOk, OnErr, OnOk}
-use Rattle.std.proofs.Common.{◌≡◌, ◌⊎◌, inr, true, false, sym, subst, ◌∙◌}
-use Rattle.spec_step.specs.Verdict.{reading_on}
+use Rattle.std.proofs.Common.{◌≡◌, ◌⊎◌, inr, sym, subst, ◌∙◌}
 use Rattle.spec_gateway.specs.State.{GatewayState}
-use Rattle.spec_gateway.specs.Arrivals.{Arrival, arrival, frame_arrives, is_part}
+use Rattle.spec_gateway.specs.Arrivals.{Arrival}
 use Rattle.spec_gateway.specs.Steps.{frame_event}
 use Rattle.forwarder.specs.Forwarder.{shown_of}
-use Rattle.gateway.specs.Gateway.{IsTaken, part_of, state_of}
+use Rattle.gateway.specs.Gateway.{IsTaken, state_of}
 use Rattle.gateway.specs.Lacks.{LacksPart, LacksWhole}
 use Rattle.gateway.proofs.Gathering.{arrival-part, arrival-whole}
 use Rattle.gateway.proofs.Lending.{frame-lacks, frame-taken, if-err, on-ok-both}

@@ -1,7 +1,7 @@
 use Rattle.std.specs.Prelude.{IfOk}
-use Rattle.std.proofs.Common.{◌≡◌, ◌≤◌, ◌<◌, ◌⊎◌, inr, true, false, length, sym, ap, subst, ◌∙◌, arith}
+use Rattle.std.proofs.Common.{◌≡◌, ◌≤◌, ◌<◌, inr, length, sym, ap, subst, ◌∙◌, arith}
 use Rattle.spec_gateway.specs.State.{GatewayState}
-use Rattle.spec_gateway.specs.Arrivals.{Arrival, arrival}
+use Rattle.spec_gateway.specs.Arrivals.{Arrival}
 use Rattle.spec_gateway.specs.Steps.{frame_event}
 use Rattle.forwarder.specs.Forwarder.{shown_of}
 use Rattle.gateway.specs.Gateway.{IsTaken, state_of}

@@ -1,4 +1,4 @@
-use Rattle.std.proofs.Common.{◌≡◌, ◌⊎◌, inr, ℕ, true, Some, List, sym, ap, subst, ◌∙◌, arith}
+use Rattle.std.proofs.Common.{◌≡◌, inr, ℕ, true, Some, List, sym, ap, subst, ◌∙◌, arith}
 use Rattle.fragments.specs.declared.gatherings.Came.TheVariants.{Refused, Held, Whole}
 use Rattle.fragments.specs.Gathered.{Gathered, Taking, after_end, after_join, of_side, taken, there_of}
 use Rattle.spec_step.specs.Shown.{Shown}
@@ -6,10 +6,9 @@ use Rattle.spec_step.specs.Verdict.{verdict}
 use Rattle.spec_gateway.specs.State.{GatewayState}
 use Rattle.spec_gateway.specs.Arrivals.{is_gathered}
 use Rattle.spec_gateway.specs.Steps.{Takes, frame_event}
-use Rattle.forwarder.specs.Forwarder.{scene_on, shown_of}
-use Rattle.gateway.specs.Gateway.{GoesOn, IsTaken, part_of, state_of}
-use Rattle.gateway.specs.Lacks.{LacksPart, LacksWhole}
-use Rattle.gateway.specs.declared.gathers.Fragments.{Fragments}
+use Rattle.forwarder.specs.Forwarder.{shown_of}
+use Rattle.gateway.specs.Gateway.{IsTaken, part_of, state_of}
+use Rattle.gateway.specs.Lacks.{LacksWhole}
 use Rattle.fragments.proofs.Offered.{held-none, refused-none, whole-makes}
 use Rattle.gateway.proofs.Gathering.{join-stays, quiet-taken, whole-lacks, whole-outcome, whole-taken}
 use Rattle.gateway.proofs.Lending.{if-err, if-err-both, if-ok, on-ok-all}
