@@ -6,9 +6,11 @@ mod Cutting
 mod Ending
 mod Filling
 mod Grammar
+mod Identifying
 mod Joining
 mod Keeping
 mod Later
+mod Longs
 mod Making
 mod Orders
 mod Placing

@@ -81,18 +81,23 @@ abbrev pub cut : ℕ → ℕ → List ℕ → List (List ℕ)
 cut mtu identification frame =
     map (piece mtu identification frame) (range_with_len 0 (piece_count mtu (ipv4_in frame)))
 
--- a frame without its padding, whose packet has another identification
-unfoldable pub identified : ℕ → List ℕ → List ℕ
-identified identification frame =
-    let packet = ipv4_in frame in
+-- the fields of a packet's own header, but for its identification
+abbrev pub numbered_fields : ℕ → List ℕ → Fields
+numbered_fields identification packet =
     let header = header_of packet in
-    take 14 frame
-    ++ header_with (record {
+    record {
       service = header.type_of_service;
       total = header.total_length;
       identification = identification;
       flags = header.flags_word;
-    }) packet (options_of packet)
+    }
+
+-- a frame without its padding, whose packet has another identification
+unfoldable pub identified : ℕ → List ℕ → List ℕ
+identified identification frame =
+    let packet = ipv4_in frame in
+    take 14 frame
+    ++ header_with (numbered_fields identification packet) packet (options_of packet)
     ++ payload_of packet
 
 -- a frame is an IPv4 packet without padding, and without Don't Fragment

@@ -7,7 +7,7 @@ use byteorder::{BigEndian, ByteOrder};
 use sums::{add, sum};
 
 /// The places of a header's fields (RFC 791, section 3.1).
-mod layout {
+pub(crate) mod layout {
     use std::ops::Range;
 
     pub const VERSION_AND_LENGTH: usize = 0;

@@ -1,6 +1,6 @@
 //! Facts about the definitions: which fragments make a whole, that what was cut makes the packet again, and what stays
 //! within its bounds.
-ghost use Rattle.std.specs.Prelude.{◌≡◌, ◌≤◌, ◌<◌, ◌↔◌, ℕ, List, Some, false, true};
+ghost use Rattle.std.specs.Prelude.{◌≡◌, ◌≤◌, ◌<◌, ◌↔◌, ◌+◌, ℕ, List, Some, false, length, true};
 ghost use Rattle.std.specs.List.{AllByRecursion, Contains};
 ghost use Rattle.nat_types.specs.declared.gateways.Side.{Side};
 ghost use Rattle.ipv4.specs.Header.{header_of, ipv4_refusal, is_fragment};
@@ -10,7 +10,8 @@ ghost use Rattle.fragments.specs.Whole.{IsComplete, is_whole, reassembled};
 ghost use Rattle.fragments.specs.Gathered.{AreApart, AreKept, Gathered, IsKept, MakesWhole, Datagram as Partial};
 ghost use Rattle.fragments.specs.Gathered.{after, is_young, none_there, of_side, taken, without_old};
 ghost use Rattle.fragments.specs.declared.gatherings.Came.TheVariants.{Whole};
-ghost use Rattle.fragments.specs.Cut.{IsCut, IsPiece, cut, identified, piece_count};
+ghost use Rattle.fragments.specs.Bytes.{AreBytes};
+ghost use Rattle.fragments.specs.Cut.{IsCut, IsMtu, IsPiece, cut, identified, is_long, piece_count, pieces};
 
 /// A packet is refused as a fragment exactly where it has a right header and is one.
 pub fn fragment_grammar()
@@ -73,4 +74,20 @@ pub fn cut_law()
     ensures pieces { (mtu identification : ℕ) (frame : List ℕ) (k : ℕ)
         → IsCut mtu identification frame → k < piece_count mtu (ipv4_in frame)
         → IsPiece mtu identification frame k }
+{}
+
+/// Where a frame has to be cut, its pieces are complete and make the packet again, under its identification, in whatever order
+/// they come and however often each. Each is a frame of at most `mtu` bytes of IPv4, and there are at most 128.
+pub fn pieces_law()
+    ensures complete { (mtu : ℕ) (frame : List ℕ) → IsMtu mtu → AreBytes frame
+        → is_long mtu frame ≡ true → IsComplete (pieces mtu frame) }
+    ensures whole { (mtu : ℕ) (frame : List ℕ) (others : List (List ℕ)) → IsMtu mtu
+        → AreBytes frame → is_long mtu frame ≡ true
+        → ((f : List ℕ) → Contains (pieces mtu frame) f ↔ Contains others f)
+        → reassembled others ≡ identified (header_of (ipv4_in frame)).identification frame }
+    ensures short { (mtu : ℕ) (frame : List ℕ) → IsMtu mtu → AreBytes frame
+        → is_long mtu frame ≡ true
+        → AllByRecursion (λ f. length f ≤ 14 + mtu) (pieces mtu frame) }
+    ensures few { (mtu : ℕ) (frame : List ℕ) → IsMtu mtu → AreBytes frame
+        → is_long mtu frame ≡ true → length (pieces mtu frame) ≤ 128 }
 {}

@@ -4,6 +4,7 @@
 mod appending;
 mod copies;
 mod cuts;
+mod cutters;
 mod datagrams;
 mod gatherings;
 mod headers;
@@ -15,9 +16,10 @@ mod views;
 mod wholes;
 
 pub use cuts::{append_piece, piece_count};
+pub use cutters::{Cutter, is_long};
 pub use gatherings::{Came, Gathering, Loss};
 pub use laws::{
-    bounded, complete_law, cut_law, fragment_grammar, order_law, whole_again, whole_law,
+    bounded, complete_law, cut_law, fragment_grammar, order_law, pieces_law, whole_again, whole_law,
 };
 pub use names::Name;
 pub use numbering::set_identification;

@@ -1,15 +1,20 @@
 //! Another identification for a packet.
 ghost use Rattle.std.specs.Prelude.{◌≡◌, ◌+◌, length};
-ghost use Rattle.ipv4.specs.Header.{header_of};
-ghost use Rattle.fragments.specs.Cut.{IsIpv4Frame, identified};
+ghost use Rattle.ipv4.specs.Header.{IsIpv4, header_of, options_of};
+ghost use Rattle.fragments.specs.Cut.{IsIpv4Frame, identified, numbered_fields};
 ghost use Rattle.fragments.specs.Fragment.{ipv4_in};
+ghost use Rattle.fragments.specs.Header.{fixed_summed};
 
 use crate::headers::{Fields, layout, summed};
 use frames::split_mut;
 use ipv4::Ipv4View;
 
 /// Returns the fixed part of a packet's header with another identification.
-fn renumbered(packet: &[u8], identification: u16) -> [u8; layout::FIXED] {
+fn renumbered(packet: &[u8], identification: u16) -> [u8; layout::FIXED]
+    requires { IsIpv4 packet.now }
+    ensures { result ≡ fixed_summed (numbered_fields identification packet.now) packet.now
+        (options_of packet.now) }
+{
     let view = Ipv4View { bytes: packet };
     let fields = Fields {
         service: view.type_of_service(),

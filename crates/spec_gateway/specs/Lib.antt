@@ -2,3 +2,5 @@ pub mod State
 pub mod Arrivals
 pub mod Sendings
 pub mod Steps
+pub mod Inner
+pub mod Without

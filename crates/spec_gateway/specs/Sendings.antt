@@ -1,7 +1,7 @@
 -- Frames that are too long for the side at which they go out: their identification, and the fragments in which they are
 -- sent (RFC 791, section 3.2; RFC 6864, section 5.3).
 use Rattle.std.specs.Prelude.{ℕ, ◌+◌, ◌*◌, ◌%◌, Bool, not, ◌==◌, ◌&&◌, List, [], ◌∷◌, map, if◌then◌else◌}
-use Rattle.std.specs.List.{count_by, flat_map}
+use Rattle.std.specs.List.{flat_map}
 use Rattle.frames.specs.Frame.{frame_of}
 use Rattle.ipv4.specs.Header.{header_of}
 use Rattle.nat_types.specs.declared.gateways.GatewayId.{GatewayId}
@@ -27,22 +27,29 @@ is_for_many networks f =
 abbrev pub is_numbered : Networks → Sent → Bool
 is_numbered networks f = is_cut networks f && is_for_many networks f
 
--- the identification of the n-th such packet, from 0: even ones are gateway 0's, odd ones gateway 1's
+-- the identification of packet n of them, from 0: even ones are gateway 0's, odd ones gateway 1's
 abbrev pub number_of : GatewayId → ℕ → ℕ
 number_of Zero n = 2 * n % 65536
 number_of One n = (2 * n + 1) % 65536
 
--- the frames with these identifications, of a gateway that has given n of them
+-- the number of the packet after packet n. After 32,768 packets the identifications are the same again
+abbrev pub next_number : ℕ → ℕ
+next_number n = (n + 1) % 32768
+
+-- the frames with these identifications, the first of them that of packet n
 abbrev pub numbered : Networks → GatewayId → ℕ → List Sent → List Sent
 numbered networks id n [] = []
 numbered networks id n (f ∷ frames) =
     (if is_numbered networks f
-    then record f { bytes = identified (number_of id n) f.bytes } ∷ numbered networks id (n + 1) frames
+    then record f { bytes = identified (number_of id n) f.bytes } ∷ numbered networks id (next_number n) frames
     else f ∷ numbered networks id n frames)
 
--- how many of these frames get one
-abbrev pub number_count : Networks → List Sent → ℕ
-number_count networks frames = count_by (is_numbered networks) frames
+-- the number of the next packet after these frames
+abbrev pub number_after : Networks → ℕ → List Sent → ℕ
+number_after networks n [] = n
+number_after networks n (f ∷ frames) =
+    (if is_numbered networks f then number_after networks (next_number n) frames
+    else number_after networks n frames)
 
 -- what goes out for a whole frame: itself, or its fragments where it is too long
 abbrev pub pieces_of : Networks → Sent → List Sent

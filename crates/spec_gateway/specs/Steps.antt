@@ -1,6 +1,6 @@
 -- The step of a gateway: what comes is put together, the whole frame is taken by a step on whole frames, and what is too
 -- long for its side is numbered. What goes out are the pieces of the frames that are sent so.
-use Rattle.std.specs.Prelude.{◌≡◌, ℕ, ◌+◌, Option, None, Some, List, [], ◌++◌}
+use Rattle.std.specs.Prelude.{◌≡◌, ℕ, Option, None, Some, List, [], ◌++◌}
 use Rattle.std.specs.Borrow.{Bor}
 use Rattle.nat_types.specs.declared.gateways.Side.{Side}
 use Rattle.output.specs.Output.{Output, Sent}
@@ -13,7 +13,7 @@ use Rattle.spec_step.specs.Steps.{IsStepOn, clock_after, outcome_on}
 use Rattle.spec_step.specs.Truly.{AtHand, hand_of}
 use Rattle.spec_gateway.specs.State.{GatewayState}
 use Rattle.spec_gateway.specs.Arrivals.{arrival}
-use Rattle.spec_gateway.specs.Sendings.{number_count, numbered}
+use Rattle.spec_gateway.specs.Sendings.{number_after, numbered}
 
 -- these bytes, as borrowed ones
 abbrev pub lent : List ℕ → Bor (List ℕ)
@@ -64,7 +64,7 @@ pub record IsGatewayStep (s : GatewayState) (told : Output) (event : Event) (s2 
     frames = told.frames ++ numbered s.shown.networks (id_of s.shown) s.numbered sent;
   }
   pub gathered_is : s2.gathered ≡ gathered_after s event
-  pub numbered_is : s2.numbered ≡ s.numbered + number_count s.shown.networks sent
+  pub numbered_is : s2.numbered ≡ number_after s.shown.networks s.numbered sent
 
 -- the outcome of an event
 abbrev pub outcome_of : GatewayState → Event → Outcome

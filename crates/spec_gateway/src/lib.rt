@@ -4,4 +4,7 @@
 
 mod laws;
 
-pub use laws::{fragments_stay_few, parts_are_nothing, short_frames_stay};
+pub use laws::{
+    as_without, fragments_stay_few, gateway_passes_on, gateway_says, gateway_tells, inner_steps,
+    parts_are_nothing, parts_stay_bytes, short_frames_stay,
+};

@@ -1,0 +1,7 @@
+mod Reading
+mod Keeping
+mod Numbers
+mod Inside
+mod Planning
+mod Doing
+mod Switching
