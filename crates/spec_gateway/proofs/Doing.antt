@@ -1,12 +1,10 @@
 -- The parts of a step do the same with `pass` and without, where a frame is taken that is not cut.
-use Rattle.std.proofs.Common.{◌≡◌, ◌⊎◌, ℕ, Bool, true, false, cond, not, ◌&&◌, Option, None, Some, Result, Ok, Err, List, [], ◌∷◌, refl, ap, ◌∙◌, sym, subst}
+use Rattle.std.proofs.Common.{◌≡◌, ℕ, Bool, true, false, cond, Option, None, Some, Result, Ok, Err, List, [], ◌∷◌, refl, ap, ◌∙◌}
 use Rattle.addresses.specs.declared.ethernet.Mac.{Mac}
 use Rattle.addresses.specs.declared.internet.Ip.{Ip}
-use Rattle.addresses.specs.declared.transport.TcpFlags.{TcpFlags}
 use Rattle.nat_types.specs.declared.gateways.Side.{Side}
 use Rattle.nat_types.specs.declared.gateways.Side.TheVariants.{Inside, Outside}
 use Rattle.arp.specs.Neighbours.{asks_at}
-use Rattle.frames.specs.Frame.{frame_of}
 use Rattle.icmp.specs.declared.packets.ErrorFlow.{ErrorFlow}
 use Rattle.ipv4.specs.declared.flows.Flow.{Flow}
 use Rattle.waiting.specs.declared.waits.WaitsFor.TheVariants as wait
@@ -19,9 +17,8 @@ use Rattle.packet_rules.specs.declared.networks.Direction.{Direction}
 use Rattle.packet_rules.specs.declared.translations.Translation.{Translation}
 use Rattle.packet_rules.specs.declared.translations.Translation.TheVariants.{Outward, Inward, Hairpin}
 use Rattle.packet_rules.specs.Errors.{passed_by, passed_frame}
-use Rattle.packet_rules.specs.Flows.{source_of}
 use Rattle.packet_rules.specs.Frames.{sent_frame, translated_by}
-use Rattle.packet_rules.specs.Networks.{direction_of, may_answer, network_of, outside_hop}
+use Rattle.packet_rules.specs.Networks.{direction_of, may_answer, may_come, network_of, outside_hop}
 use Rattle.packet_rules.specs.Own.{answer_frame as own_answer, complaint_frame, complaint_of, exit_for, is_told, is_to_host}
 use Rattle.interfaces.specs.Stations.{Interface, with_complaint, with_reply}
 use Rattle.interfaces.specs.Tallies.{may_complain}
@@ -30,7 +27,7 @@ use Rattle.spec_step.specs.declared.plans.Plan.{Plan}
 use Rattle.spec_step.specs.declared.plans.Plan.TheVariants.{Send, Ask, AskAgain, Wait as WaitFor}
 use Rattle.spec_step.specs.declared.plans.Reply.{Reply}
 use Rattle.spec_step.specs.declared.plans.Reply.TheVariants as reply
-use Rattle.spec_step.specs.Parts.{acted, all_framed, asked_again, by_error_plan, by_error_verdict, by_plan, by_refusal, by_reply, by_reply_verdict, by_verdict, carried_all, complained, complained_to, counted, echo_taken, error_taken, flags_in, flow_taken, framed, frames_of, keeping, link_answered, neighbour_asked, refused, renewed_behind, request_by, sender_in, size_in, wanted_by, wanted_for}
+use Rattle.spec_step.specs.Parts.{acted, all_framed, asked_again, by_error_verdict, by_plan, by_refusal, by_reply_verdict, by_verdict, carried_all, complained, complained_to, counted, echo_taken, error_taken, flags_in, flow_taken, framed, frames_of, keeping, link_answered, neighbour_asked, refused, renewed_behind, request_by, sender_in, size_in, wanted_for}
 use Rattle.spec_step.specs.Shown.{GatewayAndOutput, Shown, scene, station_on, with_station}
 use Rattle.spec_step.specs.Verdict.{error_hop, error_plan, exit_by, hop_back, hop_by, next_back, plan_of, reply_to}
 use Rattle.spec_gateway.specs.Without.{without_pass}
@@ -126,7 +123,7 @@ complained-same s side bytes (Some complaint) =
     ∙ complained-to s side bytes complaint (next_back s.shown side (sender_in bytes))
 
 complaint-same : (g : Shown) (side exit : Side) (reason : Reason) (bytes : List ℕ) → complaint_of (without_pass g).networks side exit reason bytes ≡ complaint_of g.networks side exit reason bytes
-unfolding complaint_of is_told may_answer is_to_host
+unfolding complaint_of is_told may_answer may_come is_to_host
 complaint-same g Inside Inside reason bytes = refl
 complaint-same g Inside Outside reason bytes = refl
 complaint-same g Outside Inside reason bytes = refl

@@ -1,10 +1,10 @@
 -- Frames that are sent: none is numbered where none is too long.
-use Rattle.std.proofs.Common.{◌≡◌, ◌+◌, ◌*◌, ◌%◌, ℕ, Bool, true, false, cond, not, ◌&&◌, ◌==◌, List, [], ◌∷◌, ◌++◌, length, map, refl, ap, ap₂, ◌∙◌, sym, subst, arith, length-append}
-use Rattle.std.specs.List.{AllByRecursion, flat_map}
+use Rattle.std.proofs.Common.{◌≡◌, ℕ, Bool, true, false, cond, ◌&&◌, List, [], ◌∷◌, ◌++◌, length, map, refl, ap, ap₂, ◌∙◌, sym, arith, length-append}
+use Rattle.std.specs.List.{AllByRecursion}
 use Rattle.nat_types.specs.declared.gateways.GatewayId.{GatewayId}
 use Rattle.ipv4.specs.Header.{header_of}
 use Rattle.fragments.specs.Fragment.{ipv4_in}
-use Rattle.fragments.specs.Cut.{cut, identified, is_long, pieces}
+use Rattle.fragments.specs.Cut.{cut, identified}
 use Rattle.output.specs.Output.{Output, Sent}
 use Rattle.packet_rules.specs.declared.networks.Networks.{Networks}
 use Rattle.packet_rules.specs.Networks.{mtu_of}

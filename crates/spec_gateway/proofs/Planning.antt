@@ -1,7 +1,7 @@
 -- What a gateway plans for a frame that is not cut is the same with `pass` and without.
-use Rattle.std.proofs.Common.{◌≡◌, ◌⊎◌, inl, inr, ◌≤◌, ◌+◌, ◌-◌, ℕ, Bool, true, false, cond, not, ◌&&◌, ◌||◌, nat_le, Option, None, Some, Result, Ok, Err, List, length, take, drop, refl, ap, ◌∙◌, sym, arith}
+use Rattle.std.proofs.Common.{◌≡◌, ◌⊎◌, inl, inr, ◌≤◌, ◌+◌, ◌-◌, ℕ, Bool, true, false, cond, not, ◌&&◌, ◌||◌, nat_le, Option, None, Some, Result, Ok, Err, List, length, drop, refl, ap, ◌∙◌, arith}
 use Rattle.std.proofs.lemmas.Bool.{le-leb}
-use Rattle.std.proofs.lemmas.List.{length-drop, length-take}
+use Rattle.std.proofs.lemmas.List.{length-take}
 use Rattle.addresses.specs.declared.ethernet.Mac.{Mac}
 use Rattle.addresses.specs.declared.internet.Ip.{Ip}
 use Rattle.nat_types.specs.declared.gateways.Side.{Side}
@@ -18,13 +18,13 @@ use Rattle.packet_rules.specs.declared.networks.Direction.TheVariants as way
 use Rattle.packet_rules.specs.declared.networks.Networks.{Networks}
 use Rattle.packet_rules.specs.declared.readings.Asked.{Asked as Echo}
 use Rattle.packet_rules.specs.declared.reasons.Reason.{Reason}
-use Rattle.packet_rules.specs.declared.reasons.Reason.TheVariants.{CannotWait, HostLimit, NoBinding, NoPort, TooMany}
+use Rattle.packet_rules.specs.declared.reasons.Reason.TheVariants.{NoBinding, TooMany}
 use Rattle.packet_rules.specs.declared.translations.Translation.{Translation}
 use Rattle.packet_rules.specs.declared.translations.Translation.TheVariants.{Outward, Inward, Hairpin}
 use Rattle.packet_rules.specs.Asked.{asked_of}
 use Rattle.packet_rules.specs.Errors.{error_direction}
 use Rattle.packet_rules.specs.Flows.{source_of}
-use Rattle.packet_rules.specs.Networks.{direction_of, exit_of, inside_direction, may_answer, mtu_of, outside_direction, outside_hop}
+use Rattle.packet_rules.specs.Networks.{direction_of, exit_of, inside_direction, may_answer, may_come, mtu_of, outside_direction, outside_hop}
 use Rattle.packet_rules.specs.Steps.{and_then}
 use Rattle.interfaces.specs.Tallies.{may_reply}
 use Rattle.spec_binding.specs.declared.changes.Want as want
@@ -146,7 +146,7 @@ next-same g Inside source = refl
 next-same g Outside source = refl
 
 pub may-same : (g : Shown) (side : Side) (source : ℕ) → may_answer (without_pass g).networks side source ≡ may_answer g.networks side source
-unfolding may_answer
+unfolding may_answer may_come
 may-same g Inside source = refl
 may-same g Outside source = refl
 

@@ -1,5 +1,5 @@
 -- A whole step with a frame that is not cut is the same with `pass` and without.
-use Rattle.std.proofs.Common.{◌≡◌, ◌⊎◌, inl, inr, ◌≤◌, ◌+◌, ℕ, Bool, true, false, cond, not, ◌&&◌, nat_lt, Option, None, Some, Result, Ok, Err, List, [], ◌∷◌, ◌++◌, length, refl, ap, ap₂, ◌∙◌, sym, subst, arith}
+use Rattle.std.proofs.Common.{◌≡◌, ◌⊎◌, ℕ, Bool, true, false, cond, nat_lt, Result, Ok, Err, List, [], ◌∷◌, ◌++◌, length, refl, ap, ap₂, ◌∙◌, sym, subst}
 use Rattle.std.specs.Borrow.{Bor}
 use Rattle.nat_types.specs.declared.gateways.GatewayId.{GatewayId}
 use Rattle.nat_types.specs.declared.gateways.Side.{Side}
@@ -22,16 +22,14 @@ use Rattle.packet_rules.specs.declared.reasons.Reason.TheVariants.{ShortFrame}
 use Rattle.packet_rules.specs.Own.{is_own_frame}
 use Rattle.packet_rules.specs.Steps.{Carries, reading_of}
 use Rattle.vrrp_states.specs.Table as table
-use Rattle.spec_step.specs.declared.events.Event.{Event}
 use Rattle.spec_step.specs.declared.events.Event.TheVariants.{Frame}
-use Rattle.spec_step.specs.declared.events.Outcome.{Outcome}
 use Rattle.spec_step.specs.Parts.{size_in}
 use Rattle.spec_step.specs.Routers.{RouterActs}
 use Rattle.spec_step.specs.Shown.{GatewayAndOutput, Shown, id_of, is_up, scene, station_on}
 use Rattle.spec_step.specs.Steps.{FrameDoes, IsStepOn}
 use Rattle.spec_step.specs.Verdict.{outcome_by, outcome_read, outcome_reply, reading_on, verdict}
 use Rattle.spec_gateway.specs.Arrivals.{Arrival, arrival, fragment_arrives, frame_arrives, is_gathered, is_part, nothing_arrives}
-use Rattle.spec_gateway.specs.Sendings.{is_cut, is_for_many, is_numbered, next_number, number_after, number_of, numbered}
+use Rattle.spec_gateway.specs.Sendings.{is_for_many, is_numbered, next_number, number_after, number_of, numbered}
 use Rattle.spec_gateway.specs.State.{GatewayState}
 use Rattle.spec_gateway.specs.Steps.{IsGatewayStep, Takes, frame_event, lent, outcome_of, whole_event}
 use Rattle.spec_gateway.specs.Without.{FitsBoth, IsUncut, is_arp, without, without_pass}
@@ -48,8 +46,8 @@ reading-same g Outside bytes = refl
 
 -- what a packet's size may be, by its reading
 abbrev IsFitting : Shown → List ℕ → Reading → Type 0
-IsFitting g bytes (Arp p) = ⊤
-IsFitting g bytes (Advert a from) = ⊤
+IsFitting g bytes (Arp p) = Unit {0}
+IsFitting g bytes (Advert a from) = Unit {0}
 IsFitting g bytes (Packet packet) = Allowed g.networks packet.size
 IsFitting g bytes (Error packet) = Allowed g.networks packet.size
 IsFitting g bytes (Asked echo) = Allowed g.networks echo.size
