@@ -6,8 +6,11 @@ use crate::telling::{digest_of, write_step};
 use cases_words::Case;
 use gateway::{Event, Out, Outcome};
 use nat_types::{GatewayId, Side};
+use packet_rules::Networks;
+use sendings::pieces_of;
 use settings::Settings;
 use std::alloc::Global;
+use std::io::{self, ErrorKind};
 use std::mem;
 
 /// The place where bytes come in: a side of the gateway, or the link.
@@ -59,6 +62,15 @@ pub(crate) struct Bench<G> {
     told: Vec<u8>,
     drops: u32,
     changed: u32,
+}
+
+/// Writes what came of a step at the gateway that was started so.
+fn tell(told: &mut Vec<u8>, outcome: Outcome, start: &Start, out: &Out) -> io::Result<()> {
+    let networks = Networks::of_gateway(&start.settings, start.id);
+    match pieces_of(*told.allocator(), &networks, out) {
+        Ok(pieces) => write_step(told, outcome, pieces.as_slice(), out),
+        Err(_) => Err(io::Error::from(ErrorKind::OutOfMemory)),
+    }
 }
 
 impl<G: Gate> Bench<G> {
@@ -124,7 +136,7 @@ impl<G: Gate> Bench<G> {
         match self.gateway.as_mut() {
             Some(gateway) => {
                 let outcome = gateway.step(event_of(way, bytes), &mut self.out, case);
-                case.keep(write_step(&mut self.told, outcome, &self.out));
+                case.keep(tell(&mut self.told, outcome, &self.start, &self.out));
                 let is_drop = matches!(&outcome, Outcome::Dropped(_));
                 if is_drop {
                     self.drops = self.drops.saturating_add(1);

@@ -258,7 +258,7 @@ impl Gateway {
     pub fn fragments(&self, side: Side) -> FragmentCounts
         ensures { result.incomplete ≡ length (of_side side self.now.gathered) }
     {
-        self.fragments.of(side)
+        self.fragments.counts_of(side)
     }
 
     /// Returns how many packets wait for a pair.

@@ -39,8 +39,8 @@ const FRAGMENT: usize = 20;
 /// The bytes of a frame up to the end of these.
 const FRAGMENT_END: usize = 22;
 
-/// Twice the flag More Fragments, above which are Don't Fragment and the reserved bit.
-const BEYOND_MORE_FRAGMENTS: u16 = 0x4000;
+/// The flag Don't Fragment, below which are More Fragments and the offset.
+const DONT_FRAGMENT: u16 = 0x4000;
 
 /// The places of fields of an IPv4 header (RFC 791, section 3.1).
 mod field {
@@ -82,7 +82,7 @@ impl Fragments {
     }
 
     /// Returns the numbers of a side.
-    pub(crate) fn of(&self, side: Side) -> FragmentCounts
+    pub(crate) fn counts_of(&self, side: Side) -> FragmentCounts
         ensures { result.incomplete ≡ length (of_side side self.now.gathering) }
     {
         FragmentCounts {
@@ -105,7 +105,7 @@ fn looks_cut(bytes: &[u8]) -> bool
     ensures { result ≡ looks_cut bytes.now }
 {
     bytes.len() >= FRAGMENT_END
-        && BigEndian::read_u16(&bytes[FRAGMENT..]) % BEYOND_MORE_FRAGMENTS != 0
+        && BigEndian::read_u16(&bytes[FRAGMENT..]) % DONT_FRAGMENT != 0
 }
 
 /// Reminds the prover that a frame that is read as a fragment is one, and looks so; it does nothing
@@ -344,7 +344,7 @@ fn drop_old(fragments: &mut Fragments, moment: u64)
 }
 
 /// Takes a tick, and gives up the datagrams of which fragments are missing for too long.
-fn take_tick(
+fn step_tick(
     alloc: Global,
     forwarder: &mut Forwarder,
     fragments: &mut Fragments,
@@ -426,7 +426,7 @@ pub(crate) fn take(
             let frame = Arrived { side, bytes };
             take_frame(alloc, forwarder, fragments, page, frame)
         }
-        Event::Tick(now) => take_tick(alloc, forwarder, fragments, page, now),
+        Event::Tick(now) => step_tick(alloc, forwarder, fragments, page, now),
         Event::Datagram(_) | Event::Stop | Event::PeerOff(_) | Event::Side(..) => {
             take_plain(alloc, forwarder, fragments, page, event)
         }
