@@ -31,6 +31,8 @@ impl Gathered {
     /// - `lost`: why the fragment that came last gave a datagram up, if it did
     /// - `tick NOW`: how many datagrams are there then, inside and outside
     /// - `cut MTU ID HEX`, `cut-long MTU ID TOTAL HEX`: the fragments of a packet, as `pieces` has them
+    /// - `sent MTU HEX`, `sent-long MTU TOTAL HEX`: the pieces in which a frame goes out
+    /// - `number ID HEX`: a frame whose packet has another identification
     fn answer(&mut self, case: &mut Case) {
         match case.word() {
             "anew" => self.renew(case),
@@ -43,6 +45,9 @@ impl Gathered {
             "tick" => self.tick(case),
             "cut" => pieces::cut(case),
             "cut-long" => pieces::cut_long(case),
+            "sent" => pieces::sent(case),
+            "sent-long" => pieces::sent_long(case),
+            "number" => pieces::number(case),
             _ => case.fault(),
         }
     }

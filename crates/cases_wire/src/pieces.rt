@@ -1,11 +1,12 @@
-//! Packets that are cut.
-ghost use Rattle.std.specs.Prelude.{◌<◌, IsTrue};
+//! Packets that are cut, and frames as they go out.
+ghost use Rattle.std.specs.Prelude.{◌≡◌, ◌+◌, ◌<◌, length, IsTrue};
+ghost use Rattle.ipv4.specs.Header.{header_of};
 ghost use Rattle.fragments.specs.Cut.{IsIpv4Frame, IsMtu, piece_count};
 ghost use Rattle.fragments.specs.Fragment.{ipv4_in};
 
 use crate::parts::{long_frame, tell_frame};
 use cases_words::Case;
-use fragments::{append_piece, piece_count};
+use fragments::{Cutter, append_piece, piece_count, set_identification};
 use frames::EthView;
 use ipv4::Ipv4View;
 use std::alloc::{AllocError, Global};
@@ -119,4 +120,82 @@ fn tell_pieces(case: &mut Case, list: &[Vec<u8>]) {
         total = sums::add(total, sum(piece.as_slice()));
     }
     case.hex_short(" sum ", total);
+}
+
+/// Prints in how many pieces a frame goes out, and each.
+fn tell_sent(case: &mut Case, cutter: &mut Cutter, frame: &[u8], mtu: u16)
+    requires { IsMtu mtu }
+{
+    let count = cutter.count(frame, mtu);
+    case.put(count);
+    for k in 0..count {
+        tell_frame(case, ";", cutter.piece(frame, mtu, k));
+    }
+}
+
+/// Prints in how many pieces a frame goes out, the IPv4 bytes of the first and of the last, and the sum of all pieces' sums.
+fn tell_long(case: &mut Case, cutter: &mut Cutter, frame: &[u8], mtu: u16)
+    requires { IsMtu mtu }
+{
+    let count = cutter.count(frame, mtu);
+    case.put(count);
+    let mut total = 0;
+    for k in 0..count {
+        let piece = cutter.piece(frame, mtu, k);
+        if k == 0 {
+            case.say(": ", piece.len().saturating_sub(14));
+        }
+        if k == count - 1 {
+            case.say(" .. ", piece.len().saturating_sub(14));
+        }
+        total = sums::add(total, sum(piece));
+    }
+    case.hex_short(" sum ", total);
+}
+
+/// Reads `MTU HEX`. Prints the pieces in which a frame goes out.
+pub fn sent(case: &mut Case) {
+    let mtu = mtu(case);
+    let frame = case.bytes();
+    match Cutter::new(case.alloc) {
+        Ok(mut cutter) => tell_sent(case, &mut cutter, frame.as_slice(), mtu),
+        Err(_) => case.fault(),
+    }
+}
+
+/// Reads `MTU TOTAL HEX`: a packet of so many bytes with these options. Prints the same of its frame in short.
+pub fn sent_long(case: &mut Case) {
+    let mtu = mtu(case);
+    let frame = long_frame(case);
+    match Cutter::new(case.alloc) {
+        Ok(mut cutter) => tell_long(case, &mut cutter, frame.as_slice(), mtu),
+        Err(_) => case.fault(),
+    }
+}
+
+/// Whether nothing stands behind a frame's packet.
+fn is_unpadded(frame: &[u8]) -> bool
+    requires { IsIpv4Frame frame.now }
+    ensures { IsTrue result
+        → length frame.now ≡ 14 + (header_of (ipv4_in frame.now)).total_length }
+{
+    let packet = Ipv4View {
+        bytes: EthView { bytes: frame }.body(),
+    };
+    frame.len() == 14 + packet.total_length()
+}
+
+/// Reads `ID HEX`. Prints a frame whose packet has this identification.
+pub fn number(case: &mut Case) {
+    let identification = case.short();
+    let mut frame = case.bytes();
+    if !is_whole(case, frame.as_slice()) {
+        return;
+    }
+    if is_unpadded(frame.as_slice()) {
+        set_identification(frame.as_mut_slice(), identification);
+        tell_frame(case, "with", frame.as_slice());
+    } else {
+        case.refused("padding");
+    }
 }

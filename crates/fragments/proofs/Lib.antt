@@ -8,6 +8,7 @@ mod Filling
 mod Grammar
 mod Identifying
 mod Joining
+mod Makings
 mod Keeping
 mod Later
 mod Longs

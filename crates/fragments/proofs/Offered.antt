@@ -5,6 +5,8 @@
 pub use Rattle.fragments.proofs.Making.{kept-after, kept-after_join, kept-after_end, kept-without_old, kept-none_there}
 -- A taking in two steps comes to the same as one.
 pub use Rattle.fragments.proofs.Ending.{ends-whole, ends-other}
+-- Whether it makes a whole frame, by what came of the fragment.
+pub use Rattle.fragments.proofs.Makings.{Makes, held-none, refused-none, whole-makes}
 -- What is kept of frames that are bytes is bytes, and so is a whole frame that is made of them.
 pub use Rattle.fragments.proofs.Bytes.{reassembled-bytes, taken-bytes, TakesBytes}
 -- The same of both sides: after a fragment, before its datagram ends and when it ends, and after a tick.

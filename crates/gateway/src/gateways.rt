@@ -32,7 +32,7 @@ use crate::begins::begin;
 use crate::counts::FragmentCounts;
 use crate::entries::{self, hop_count, pair_count};
 use crate::gathers::{Fragments, take};
-use crate::numbers::{mtu_of, number};
+use crate::numbers::{Before, mtu_of, number_sent};
 use crate::rooms::{PACKET_NOTES, entry_count};
 use crate::steps::{recall_event, recall_set_up};
 use crate::{NoMemory, OutputBuffer};
@@ -258,7 +258,7 @@ impl Gateway {
     pub fn fragments(&self, side: Side) -> FragmentCounts
         ensures { result.incomplete ≡ length (of_side side self.now.gathered) }
     {
-        self.fragments.of(side)
+        self.fragments.counts_of(side)
     }
 
     /// Returns how many packets wait for a pair.
@@ -357,8 +357,10 @@ impl Gateway {
         ensures plugged { is_of_side event.entry ≡ true → IsOk result }
     {
         recall_event(event);
-        let first = page.frame_count();
-        let most = page.frame_octets() + self.longest;
+        let before = Before {
+            frames: page.frame_count(),
+            octets: page.frame_octets() + self.longest,
+        };
         let outcome = take(
             self.alloc,
             &mut self.forwarder,
@@ -366,10 +368,8 @@ impl Gateway {
             page,
             event,
         )?;
-        if page.frame_octets() > most {
-            let networks = &self.forwarder.networks;
-            number(networks, self.id, &mut self.fragments, page, first);
-        }
+        let networks = &self.forwarder.networks;
+        number_sent(networks, self.id, &mut self.fragments, page, before);
         Ok(outcome)
     }
 }

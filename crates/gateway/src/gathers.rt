@@ -1,18 +1,20 @@
 //! Fragments that come in: they are put together, and the whole frame is taken in their place.
-ghost use Rattle.std.specs.Prelude.{◌≡◌, ◌≤◌, ◌⊎◌, IfOk, IsOk, IsTrue, OnErr, OnOk, Err, Some, length, true};
+ghost use Rattle.std.specs.Prelude.{◌≡◌, ◌≤◌, ◌⊎◌, IfOk, IsOk, OnErr, OnOk, Some, false, length, true};
 ghost use Rattle.fragments.specs.Fragment.{IsFragment};
 ghost use Rattle.fragments.specs.Gathered.{after_end, none_there, of_side, without_old};
 ghost use Rattle.frames.specs.Frame.{frame_of};
-ghost use Rattle.packet_rules.specs.declared.reasons.Reason.TheVariants.{Fragment};
+ghost use Rattle.spec_step.specs.declared.events.Event.TheVariants.{Tick as TickEvent};
+ghost use Rattle.spec_step.specs.declared.events.Outcome.TheVariants.{Done};
 ghost use Rattle.spec_step.specs.Verdict.{reading_on, verdict};
-ghost use Rattle.spec_gateway.specs.Arrivals.{arrival, is_gathered, is_translated_protocol};
-ghost use Rattle.spec_gateway.specs.Arrivals.{may_pass};
+ghost use Rattle.spec_gateway.specs.Arrivals.{arrival, is_gathered, is_part};
+ghost use Rattle.spec_gateway.specs.Arrivals.{is_translated_protocol, may_pass};
 ghost use Rattle.spec_gateway.specs.Steps.{Takes, frame_event, gathered_after, outcome_of};
 ghost use Rattle.spec_gateway.specs.Steps.{whole_event};
 ghost use Rattle.forwarder.specs.Forwarder.{scene_on, shown_of};
 ghost use Rattle.gateway.specs.Gateway.{GoesOn, IsInOrder, IsTaken, part_of, state_of};
-ghost use Rattle.gateway.specs.Lacks.{LacksMemory, LacksPart, LacksWhole};
-ghost use Rattle.gateway.specs.Rooms.{is_of_side};
+ghost use Rattle.gateway.specs.Lacks.{LacksMemory, LacksPart, LacksStep, LacksWhole};
+ghost use Rattle.gateway.specs.Parts.{looks_cut};
+ghost use Rattle.gateway.specs.Rooms.{is_of_side, is_plain};
 
 use crate::counts::{Counts, FragmentCounts};
 use crate::ticks::clock_after;
@@ -37,8 +39,8 @@ const FRAGMENT: usize = 20;
 /// The bytes of a frame up to the end of these.
 const FRAGMENT_END: usize = 22;
 
-/// Twice the flag More Fragments, above which are Don't Fragment and the reserved bit.
-const BEYOND_MORE_FRAGMENTS: u16 = 0x4000;
+/// The flag Don't Fragment, below which are More Fragments and the offset.
+const DONT_FRAGMENT: u16 = 0x4000;
 
 /// The places of fields of an IPv4 header (RFC 791, section 3.1).
 mod field {
@@ -80,7 +82,7 @@ impl Fragments {
     }
 
     /// Returns the numbers of a side.
-    pub(crate) fn of(&self, side: Side) -> FragmentCounts
+    pub(crate) fn counts_of(&self, side: Side) -> FragmentCounts
         ensures { result.incomplete ≡ length (of_side side self.now.gathering) }
     {
         FragmentCounts {
@@ -97,23 +99,37 @@ pub(crate) struct Arrived<'a> {
     pub(crate) bytes: &'a [u8],
 }
 
-/// Whether a frame may carry a fragment, by the flags and the offset of its packet.
+/// Whether a frame looks as one that carries a fragment, by the flags and the offset of its packet.
 #[inline(always)]
-fn may_be_part(bytes: &[u8]) -> bool
-    ensures { IsFragment bytes.now → IsTrue result }
+fn looks_cut(bytes: &[u8]) -> bool
+    ensures { result ≡ looks_cut bytes.now }
 {
     bytes.len() >= FRAGMENT_END
-        && BigEndian::read_u16(&bytes[FRAGMENT..]) % BEYOND_MORE_FRAGMENTS != 0
+        && BigEndian::read_u16(&bytes[FRAGMENT..]) % DONT_FRAGMENT != 0
 }
 
-/// Reminds the prover that a frame that is read as a fragment is one; it does nothing when it runs.
+/// Reminds the prover that a frame that is read as a fragment is one, and looks so; it does nothing
+/// when it runs.
 fn recall_part(forwarder: &Forwarder, frame: Arrived<'_>)
-    ensures { reading_on (shown_of forwarder.now) frame.side frame.bytes.now ≡ Err Fragment
-        → IsFragment frame.bytes.now }
+    ensures part { is_part (reading_on (shown_of forwarder.now) frame.entry.side frame.entry.bytes.now) ≡ true
+        → IsFragment frame.entry.bytes.now }
+    ensures plain { looks_cut frame.entry.bytes.now ≡ false
+        → is_part (reading_on (shown_of forwarder.now) frame.entry.side frame.entry.bytes.now) ≡ false }
 {
     fragment_grammar();
     let _ = forwarder.moment;
     let _ = frame.bytes;
+}
+
+/// Whether a frame is read as a fragment.
+fn is_part(forwarder: &Forwarder, frame: Arrived<'_>) -> bool
+    ensures { result
+        ≡ is_part (reading_on (shown_of forwarder.now) frame.entry.side frame.entry.bytes.now) }
+{
+    match forwarder.read_whole(frame.side, frame.bytes) {
+        Err(Reason::Fragment) => true,
+        Ok(_) | Err(_) => false,
+    }
 }
 
 fn is_translated(protocol: u8) -> bool
@@ -144,7 +160,7 @@ fn may_pass(network: &Network, frame: &[u8]) -> bool
 /// Whether a frame that carries a fragment is put together with others.
 fn is_gathered(forwarder: &Forwarder, frame: Arrived<'_>) -> bool
     requires { IsFragment frame.bytes.now }
-    ensures { result ≡ is_gathered (shown_of forwarder.now) frame.side frame.bytes.now }
+    ensures { result ≡ is_gathered (shown_of forwarder.now) frame.entry.side frame.entry.bytes.now }
 {
     forwarder.networks.pass && may_pass(&forwarder.station(frame.side).network(), frame.bytes)
 }
@@ -169,14 +185,14 @@ fn take_joined(
     requires gateway { IsInOrder (shown_of forwarder.old) }
     requires part { IsFragment frame.bytes.now }
     ensures outcome { IfOk result (λ o. o
-        ≡ verdict (shown_of forwarder.old) frame.side fragments.old.gathering.whole) }
+        ≡ verdict (shown_of forwarder.old) frame.entry.side fragments.old.gathering.whole) }
     ensures takes { OnOk result (Takes (shown_of forwarder.old) page.old.told
-        (frame_event frame.side (Some fragments.old.gathering.whole))
+        (frame_event frame.entry.side (Some fragments.old.gathering.whole))
         (shown_of forwarder.new) page.new.told) }
     ensures goes_on { OnOk result (GoesOn (shown_of forwarder.old) page.old.told
         (shown_of forwarder.new) page.new.told) }
     ensures fragments { OnOk result (fragments.new ≡ record fragments.old {
-      gathering = after_end frame.side frame.bytes.now fragments.old.gathering;
+      gathering = after_end frame.entry.side frame.entry.bytes.now fragments.old.gathering;
       counts = fragments.new.counts;
     }) }
     ensures gateway { IsInOrder (shown_of forwarder.new) }
@@ -184,7 +200,7 @@ fn take_joined(
         ≡ scene_on forwarder.old page.old) }
     ensures unmoved { OnErr result (fragments.new ≡ fragments.old) }
     ensures lacks { OnErr result (LacksWhole (shown_of forwarder.old) page.old
-        (frame_event frame.side (Some fragments.old.gathering.whole))) }
+        (frame_event frame.entry.side (Some fragments.old.gathering.whole))) }
 {
     let whole = Event::Frame(frame.side, fragments.gathering.whole());
     let outcome = steps::step(alloc, forwarder, page, whole)?;
@@ -204,22 +220,22 @@ fn take_part(
     frame: Arrived<'_>,
 ) -> Result<Outcome, NoMemory>
     requires gateway { IsInOrder (shown_of forwarder.old) }
-    requires part { reading_on (shown_of forwarder.old) frame.side frame.bytes.now
-        ≡ Err Fragment }
+    requires part { is_part (reading_on (shown_of forwarder.old) frame.side frame.bytes.now)
+        ≡ true }
     ensures outcome { let s = state_of forwarder.old fragments.old
-        in IfOk result (λ o. o ≡ (part_of s frame.side frame.bytes.now).outcome) }
+        in IfOk result (λ o. o ≡ (part_of s frame.entry.side frame.entry.bytes.now).outcome) }
     ensures taken { let s = state_of forwarder.old fragments.old
-        in let arrival = part_of s frame.side frame.bytes.now
-        in OnOk result (IsTaken s page.old.told (frame_event frame.side arrival.frame)
+        in let arrival = part_of s frame.entry.side frame.entry.bytes.now
+        in OnOk result (IsTaken s page.old.told (frame_event frame.entry.side arrival.frame)
         arrival.gathered (state_of forwarder.new fragments.new) page.new.told) }
     ensures gateway { IsInOrder (shown_of forwarder.new) }
     ensures err { OnErr result (state_of forwarder.new fragments.new
         ≡ state_of forwarder.old fragments.old) }
     ensures untold { OnErr result (page.new.told ≡ page.old.told) }
     ensures lacks { let s = state_of forwarder.old fragments.old
-        in let arrival = part_of s frame.side frame.bytes.now
-        in OnErr result (LacksPart s frame.side frame.bytes.now
-        ⊎ LacksWhole s.shown page.old (frame_event frame.side arrival.frame)) }
+        in let arrival = part_of s frame.entry.side frame.entry.bytes.now
+        in OnErr result (LacksPart s frame.entry.side frame.entry.bytes.now
+        ⊎ LacksWhole s.shown page.old (frame_event frame.entry.side arrival.frame)) }
 {
     recall_part(forwarder, frame);
     if !is_gathered(forwarder, frame) {
@@ -241,9 +257,9 @@ fn take_part(
     }
 }
 
-/// Takes a frame that is none that plainly carries no fragment.
+/// Takes a frame that looks as one that carries a fragment.
 #[cold]
-fn take_doubtful(
+fn take_alike(
     alloc: Global,
     forwarder: &mut Forwarder,
     fragments: &mut Fragments,
@@ -253,27 +269,25 @@ fn take_doubtful(
     requires gateway { IsInOrder (shown_of forwarder.old) }
     requires short { length frame.bytes.now ≤ 1514 }
     ensures outcome { let s = state_of forwarder.old fragments.old
-        in IfOk result (λ o. o ≡ (arrival s frame.side frame.bytes.now).outcome) }
+        in IfOk result (λ o. o ≡ (arrival s frame.entry.side frame.entry.bytes.now).outcome) }
     ensures taken { let s = state_of forwarder.old fragments.old
-        in let a = arrival s frame.side frame.bytes.now
-        in OnOk result (IsTaken s page.old.told (frame_event frame.side a.frame)
+        in let a = arrival s frame.entry.side frame.entry.bytes.now
+        in OnOk result (IsTaken s page.old.told (frame_event frame.entry.side a.frame)
         a.gathered (state_of forwarder.new fragments.new) page.new.told) }
     ensures gateway { IsInOrder (shown_of forwarder.new) }
     ensures err { OnErr result (state_of forwarder.new fragments.new
         ≡ state_of forwarder.old fragments.old) }
     ensures untold { OnErr result (page.new.told ≡ page.old.told) }
     ensures lacks { let s = state_of forwarder.old fragments.old
-        in let a = arrival s frame.side frame.bytes.now
-        in OnErr result (LacksPart s frame.side frame.bytes.now
-        ⊎ LacksWhole s.shown page.old (frame_event frame.side a.frame)) }
+        in let a = arrival s frame.entry.side frame.entry.bytes.now
+        in OnErr result (LacksPart s frame.entry.side frame.entry.bytes.now
+        ⊎ LacksWhole s.shown page.old (frame_event frame.entry.side a.frame)) }
 {
-    match forwarder.read_whole(frame.side, frame.bytes) {
-        Err(Reason::Fragment) => take_part(alloc, forwarder, fragments, page, frame),
-        Ok(_) | Err(_) => {
-            let whole = Event::Frame(frame.side, frame.bytes);
-            steps::step(alloc, forwarder, page, whole)
-        }
+    if is_part(forwarder, frame) {
+        return take_part(alloc, forwarder, fragments, page, frame);
     }
+    let whole = Event::Frame(frame.side, frame.bytes);
+    steps::step(alloc, forwarder, page, whole)
 }
 
 /// Takes a frame that came in.
@@ -287,25 +301,25 @@ fn take_frame(
 ) -> Result<Outcome, NoMemory>
     requires gateway { IsInOrder (shown_of forwarder.old) }
     ensures outcome { let s = state_of forwarder.old fragments.old
-        in IfOk result (λ o. o ≡ (arrival s frame.side frame.bytes.now).outcome) }
+        in IfOk result (λ o. o ≡ (arrival s frame.entry.side frame.entry.bytes.now).outcome) }
     ensures taken { let s = state_of forwarder.old fragments.old
-        in let a = arrival s frame.side frame.bytes.now
-        in OnOk result (IsTaken s page.old.told (frame_event frame.side a.frame)
+        in let a = arrival s frame.entry.side frame.entry.bytes.now
+        in OnOk result (IsTaken s page.old.told (frame_event frame.entry.side a.frame)
         a.gathered (state_of forwarder.new fragments.new) page.new.told) }
     ensures gateway { IsInOrder (shown_of forwarder.new) }
     ensures err { OnErr result (state_of forwarder.new fragments.new
         ≡ state_of forwarder.old fragments.old) }
     ensures untold { OnErr result (page.new.told ≡ page.old.told) }
     ensures lacks { let s = state_of forwarder.old fragments.old
-        in let a = arrival s frame.side frame.bytes.now
-        in OnErr result (LacksPart s frame.side frame.bytes.now
-        ⊎ LacksWhole s.shown page.old (frame_event frame.side a.frame)) }
+        in let a = arrival s frame.entry.side frame.entry.bytes.now
+        in OnErr result (LacksPart s frame.entry.side frame.entry.bytes.now
+        ⊎ LacksWhole s.shown page.old (frame_event frame.entry.side a.frame)) }
 {
     if frame.bytes.len() > LONGEST {
         return Ok(Outcome::Dropped(Reason::ShortFrame));
     }
-    if may_be_part(frame.bytes) {
-        return take_doubtful(alloc, forwarder, fragments, page, frame);
+    if looks_cut(frame.bytes) {
+        return take_alike(alloc, forwarder, fragments, page, frame);
     }
     recall_part(forwarder, frame);
     let whole = Event::Frame(frame.side, frame.bytes);
@@ -327,6 +341,60 @@ fn drop_old(fragments: &mut Fragments, moment: u64)
     let counts = &mut fragments.counts;
     counts.gave_up(Side::Inside, inside.saturating_sub(inside_left));
     counts.gave_up(Side::Outside, outside.saturating_sub(outside_left));
+}
+
+/// Takes a tick, and gives up the datagrams of which fragments are missing for too long.
+fn step_tick(
+    alloc: Global,
+    forwarder: &mut Forwarder,
+    fragments: &mut Fragments,
+    page: &mut OutputBuffer,
+    now: u64,
+) -> Result<Outcome, NoMemory>
+    requires gateway { IsInOrder (shown_of forwarder.old) }
+    ensures outcome { IfOk result (λ o. o ≡ Done) }
+    ensures taken { let s = state_of forwarder.old fragments.old
+        in OnOk result (IsTaken s page.old.told (Some (TickEvent now))
+        (gathered_after s (TickEvent now)) (state_of forwarder.new fragments.new)
+        page.new.told) }
+    ensures gateway { IsInOrder (shown_of forwarder.new) }
+    ensures err { OnErr result (state_of forwarder.new fragments.new
+        ≡ state_of forwarder.old fragments.old) }
+    ensures untold { OnErr result (page.new.told ≡ page.old.told) }
+    ensures lacks { OnErr result
+        (LacksStep (shown_of forwarder.old) page.old (TickEvent now)) }
+{
+    let moment = clock_after(forwarder.moment, now);
+    let outcome = steps::step(alloc, forwarder, page, Event::Tick(now))?;
+    drop_old(fragments, moment);
+    Ok(outcome)
+}
+
+/// Takes an event that is neither a frame nor a tick.
+fn take_plain(
+    alloc: Global,
+    forwarder: &mut Forwarder,
+    fragments: &Fragments,
+    page: &mut OutputBuffer,
+    event: Event<'_>,
+) -> Result<Outcome, NoMemory>
+    requires gateway { IsInOrder (shown_of forwarder.old) }
+    requires plain { is_plain event ≡ true }
+    ensures outcome { IfOk result (λ o. o
+        ≡ outcome_of (state_of forwarder.old fragments.now) event.entry) }
+    ensures taken { let s = state_of forwarder.old fragments.now
+        in OnOk result (IsTaken s page.old.told (whole_event s event.entry)
+        (gathered_after s event.entry) (state_of forwarder.new fragments.now) page.new.told) }
+    ensures gateway { IsInOrder (shown_of forwarder.new) }
+    ensures err { OnErr result (state_of forwarder.new fragments.now
+        ≡ state_of forwarder.old fragments.now) }
+    ensures untold { OnErr result (page.new.told ≡ page.old.told) }
+    ensures lacks { OnErr result
+        (LacksMemory (state_of forwarder.old fragments.now) page.old event.entry) }
+    ensures plugged { is_of_side event.entry ≡ true → IsOk result }
+{
+    let _ = &fragments.gathering;
+    steps::step(alloc, forwarder, page, event)
 }
 
 /// Takes an event, and a frame that carries a fragment with the others of its datagram. What is sent
@@ -358,14 +426,9 @@ pub(crate) fn take(
             let frame = Arrived { side, bytes };
             take_frame(alloc, forwarder, fragments, page, frame)
         }
-        Event::Tick(now) => {
-            let moment = clock_after(forwarder.moment, now);
-            let outcome = steps::step(alloc, forwarder, page, event)?;
-            drop_old(fragments, moment);
-            Ok(outcome)
-        }
+        Event::Tick(now) => step_tick(alloc, forwarder, fragments, page, now),
         Event::Datagram(_) | Event::Stop | Event::PeerOff(_) | Event::Side(..) => {
-            steps::step(alloc, forwarder, page, event)
+            take_plain(alloc, forwarder, fragments, page, event)
         }
     }
 }

@@ -4,12 +4,13 @@ ghost use Rattle.ipv4.specs.Header.{header_of};
 ghost use Rattle.fragments.specs.Cut.{IsIpv4Frame, IsMtu, identified, is_long};
 ghost use Rattle.fragments.specs.Fragment.{ipv4_in};
 ghost use Rattle.frames.specs.Frame.{frame_of};
-ghost use Rattle.output.specs.Output.{changed_at, with_frames};
+ghost use Rattle.output.specs.Output.{changed_at, octet_count, with_frames};
 ghost use Rattle.output.specs.Readers.{sent_of};
 ghost use Rattle.packet_rules.specs.Networks.{mtu_of};
 ghost use Rattle.packet_rules.specs.Own.{is_own_frame};
-ghost use Rattle.spec_gateway.specs.Sendings.{is_for_many, is_numbered, number_after, number_of};
-ghost use Rattle.spec_gateway.specs.Sendings.{numbered};
+ghost use Rattle.spec_gateway.specs.Sendings.{is_for_many, is_numbered, next_number, number_after};
+ghost use Rattle.spec_gateway.specs.Sendings.{number_of, numbered};
+ghost use Rattle.gateway.specs.Numbers.{IsUncut, frames_by, number_by};
 
 use crate::counts::Counts;
 use crate::gathers::Fragments;
@@ -24,9 +25,10 @@ use packet_rules::Networks;
 const ICMP: u8 = 1;
 
 /// How many numbers there are: after these the identifications are the same again.
-const NUMBERS: u16 = 32768;
+const NUMBERS: u32 = 32768;
 
 /// Another identification for the packet of a frame.
+#[derive(Clone, Copy)]
 struct Identification {
     value: u16,
 }
@@ -57,6 +59,8 @@ pub(crate) fn mtu_of(networks: &Networks, side: Side) -> u16
 /// when it runs.
 fn recall_long(frame: &[u8])
     ensures packet { (mtu : ℕ) → is_long mtu frame.now ≡ true → IsIpv4Frame frame.now }
+    ensures ethertype { (mtu : ℕ) → is_long mtu frame.now ≡ true
+        → (frame_of frame.now).ethertype ≡ 2048 }
     ensures unpadded { (mtu : ℕ) → is_long mtu frame.now ≡ true
         → length frame.now ≡ 14 + (header_of (ipv4_in frame.now)).total_length }
 {
@@ -95,7 +99,7 @@ fn is_own_frame(networks: &Networks, side: Side, packet: &Ipv4View<'_>) -> bool
 fn is_for_many(networks: &Networks, frame: Frame<'_>) -> bool
     requires packet { IsIpv4Frame frame.bytes.now }
     requires ethertype { (frame_of frame.bytes.now).ethertype ≡ 2048 }
-    ensures { result ≡ is_for_many networks.now (sent_of frame) }
+    ensures { result ≡ is_for_many networks.now (sent_of frame.entry) }
 {
     let view = EthView { bytes: frame.bytes };
     let packet = Ipv4View { bytes: view.body() };
@@ -105,7 +109,7 @@ fn is_for_many(networks: &Networks, frame: Frame<'_>) -> bool
 
 /// Whether a frame goes out in fragments with an identification of the gateway's own.
 fn is_numbered(networks: &Networks, frame: Frame<'_>) -> bool
-    ensures { result ≡ is_numbered networks.now (sent_of frame) }
+    ensures { result ≡ is_numbered networks.now (sent_of frame.entry) }
 {
     if !is_long(frame.bytes, mtu_of(networks, frame.side)) {
         return false;
@@ -150,6 +154,36 @@ fn number_frame(networks: &Networks, page: &mut OutputBuffer, k: usize, identifi
     numbered
 }
 
+/// Returns the number of the packet after a packet.
+fn next_number(number: u16) -> u16
+    ensures { result ≡ next_number number }
+{
+    ((u32::from(number) + 1) % NUMBERS) as u16
+}
+
+/// Gives the frame at an index its identification, where it is to have one of the gateway's own, and
+/// returns the number of the next packet.
+fn number_next(
+    networks: &Networks,
+    page: &mut OutputBuffer,
+    k: usize,
+    id: GatewayId,
+    number: u16,
+) -> u16
+    requires { k < length page.old.told.frames }
+    ensures told { IfSome (slice_get page.old.told.frames k) (λ f. page.new.told
+        ≡ with_frames page.old.told
+        (frames_by (is_numbered networks.now f) id number k page.old.told.frames)) }
+    ensures next { IfSome (slice_get page.old.told.frames k)
+        (λ f. result ≡ number_by (is_numbered networks.now f) number) }
+{
+    if number_frame(networks, page, k, number_of(id, number)) {
+        next_number(number)
+    } else {
+        number
+    }
+}
+
 /// Gives the frames from an index on their identifications, where they are to have one of the
 /// gateway's own, and returns the number of the next packet.
 fn number_from(
@@ -167,9 +201,7 @@ fn number_from(
 {
     let mut number = next;
     for k in first..page.frame_count() {
-        if number_frame(networks, page, k, number_of(id, number)) {
-            number = (number + 1) % NUMBERS;
-        }
+        number = number_next(networks, page, k, id, number);
     }
     number
 }
@@ -185,7 +217,7 @@ fn count_cut(networks: &Networks, page: &OutputBuffer, first: usize, counts: &mu
 
 /// Numbers what was sent from an index on, and counts what of it goes out in fragments.
 #[cold]
-pub(crate) fn number(
+fn number(
     networks: &Networks,
     id: GatewayId,
     fragments: &mut Fragments,
@@ -204,4 +236,42 @@ pub(crate) fn number(
 {
     fragments.numbered = number_from(networks, page, first, id, fragments.numbered);
     count_cut(networks, page, first, &mut fragments.counts);
+}
+
+/// How much was on a page before a step.
+#[derive(Clone, Copy)]
+pub(crate) struct Before {
+    /// How many frames there were.
+    pub(crate) frames: usize,
+    /// The bytes that all frames may have together where those of the step fit at both sides.
+    pub(crate) octets: usize,
+}
+
+/// Numbers what a step sent, and counts what of it goes out in fragments. Where few bytes were sent,
+/// no frame is too long.
+#[inline(always)]
+pub(crate) fn number_sent(
+    networks: &Networks,
+    id: GatewayId,
+    fragments: &mut Fragments,
+    page: &mut OutputBuffer,
+    before: Before,
+)
+    requires before { before.frames ≤ length page.old.told.frames }
+    requires short { octet_count page.old.told.frames ≤ before.octets
+        → IsUncut networks.now id fragments.old.numbered
+        (drop before.frames page.old.told.frames) }
+    ensures told { page.new.told ≡ with_frames page.old.told
+        (take before.frames page.old.told.frames
+        ++ numbered networks.now id fragments.old.numbered
+        (drop before.frames page.old.told.frames)) }
+    ensures fragments { fragments.new ≡ record fragments.old {
+      numbered = number_after networks.now fragments.old.numbered
+          (drop before.frames page.old.told.frames);
+      counts = fragments.new.counts;
+    } }
+{
+    if page.frame_octets() > before.octets {
+        number(networks, id, fragments, page, before.frames);
+    }
 }

@@ -295,7 +295,7 @@ fn take_event(
     page: &mut OutputBuffer,
     event: Event<'_>,
 ) -> Result<Outcome, NoMemory>
-    requires short { IsShort event.entry }
+    requires short { IsShort event }
     requires gateway { IsInOrder (shown_of forwarder.old) }
     ensures outcome { IfOk result (λ o. o ≡ outcome_on (shown_of forwarder.old) event.entry) }
     ensures does { OnOk result (Does (scene_on forwarder.old page.old) event.entry
@@ -370,7 +370,7 @@ pub(crate) fn step(
     page: &mut OutputBuffer,
     event: Event<'_>,
 ) -> Result<Outcome, NoMemory>
-    requires short { IsShort event.entry }
+    requires short { IsShort event }
     requires gateway { IsInOrder (shown_of forwarder.old) }
     ensures outcome { IfOk result (λ o. o ≡ outcome_on (shown_of forwarder.old) event.entry) }
     ensures step { OnOk result (IsStepOn (scene_on forwarder.old page.old) event.entry

@@ -1,28 +1,24 @@
 -- The step inside: what a gateway's step does to all but its fragments.
-use Rattle.std.proofs.Common.{◌≡◌, ◌⊎◌, inl, inr, ◌+◌, ℕ, Option, None, Some, List, [], ◌∷◌, ◌++◌, refl, ap, ap₂, ◌∙◌, sym, subst, arith, IsPermutation}
+use Rattle.std.proofs.Common.{◌≡◌, ◌⊎◌, inl, inr, ℕ, Option, None, Some, List, [], ◌∷◌, ◌++◌, refl, ap, ◌∙◌, sym, subst}
 use Rattle.std.specs.Borrow.{Bor}
 use Rattle.std.specs.Option.{IfSome}
 use Rattle.std.proofs.lemmas.List.Sorted.{IsPermutation-refl}
 use Rattle.nat_types.specs.declared.gateways.Side.{Side}
-use Rattle.nat_types.specs.declared.notes.Note.{Note}
 use Rattle.output.specs.Output.{Output, Sent}
 use Rattle.fragments.specs.Bytes.{AreBytes}
 use Rattle.fragments.specs.Gathered.{Gathered}
-use Rattle.spec_binding.specs.Books.{IsBook}
 use Rattle.spec_step.specs.declared.events.Event.{Event}
 use Rattle.spec_step.specs.declared.events.Event.TheVariants.{Frame, Datagram, Tick, Stop, PeerOff, Side as SideIs}
-use Rattle.spec_step.specs.Machine.{HasBytes, KeepsBytes}
+use Rattle.spec_step.specs.Machine.{HasBytes}
 use Rattle.spec_step.specs.OwnAnswers.{SaysJust}
 use Rattle.spec_step.specs.PassedOn.{TellsAll}
-use Rattle.spec_step.specs.Sayings.{AreOwnIn}
-use Rattle.spec_step.specs.Shown.{GatewayAndOutput, Shown, id_of, scene}
+use Rattle.spec_step.specs.Shown.{Shown, id_of, scene}
 use Rattle.spec_step.specs.Steps.{IsStepOn}
-use Rattle.spec_step.specs.Truly.{IsSetUp, Tells, hand_of, packets_of}
+use Rattle.spec_step.specs.Truly.{Tells, packets_of}
 use Rattle.spec_gateway.specs.Arrivals.{arrival}
-use Rattle.spec_gateway.specs.Inner.{AreOwnAt, IsFrameFor, StandsFor, TakesNothing, TakesWhole}
-use Rattle.spec_gateway.specs.Sendings.{number_count, numbered}
+use Rattle.spec_gateway.specs.Inner.{AreOwnAt, StandsFor, TakesNothing, TakesWhole}
 use Rattle.spec_gateway.specs.State.{GatewayState, KeepsParts}
-use Rattle.spec_gateway.specs.Steps.{IsGatewayStep, Takes, frame_event, hand_at, hand_by, lent, whole_event}
+use Rattle.spec_gateway.specs.Steps.{IsGatewayStep, Takes, frame_event, lent, whole_event}
 use Rattle.spec_gateway.proofs.Keeping.{frame-bytes}
 use Rattle.spec_gateway.proofs.Numbers.{told-same}
 
@@ -30,7 +26,7 @@ use Rattle.spec_gateway.proofs.Numbers.{told-same}
 pub nothing : (s : GatewayState) (told : Output) (event : Event) (s2 : GatewayState) (told2 : Output) (step : IsGatewayStep s told event s2 told2) → (s2.shown ≡ s.shown) × (step.whole ≡ told) → TakesNothing s told s2 told2
 nothing s told event s2 told2 step none =
     let same = told-same s.shown.networks (id_of s.shown) s.numbered step.whole told step.sent none.1 step.sent_are in
-    record { shown = none.0; told_is = step.told_is ∙ same.0; numbered = omega (arith, step.numbered_is, same.1) }
+    record { shown = none.0; told_is = step.told_is ∙ same.0; numbered = step.numbered_is ∙ same.1 }
 
 state-is : {a a2 : Shown} {b b2 : Gathered} {c c2 : ℕ} → a ≡ a2 → b ≡ b2 → c ≡ c2
     → (let s : GatewayState = record { shown = a; gathered = b; numbered = c } in s) ≡ record { shown = a2; gathered = b2; numbered = c2 }
@@ -137,4 +133,4 @@ nothing-tells-all g told = record {
 }
 
 pub nothing-says : (g : Shown) (told : Output) → (own : List Sent) × (AreOwnAt (scene g told) None own × SaysJust (scene g told) (scene g told) own)
-nothing-says g told = ([], refl, record { frames = []; frames_are = append-none told.frames; own_are = refl })
+nothing-says g told = ([], (refl, record { frames = []; frames_are = append-none told.frames; own_are = refl }))

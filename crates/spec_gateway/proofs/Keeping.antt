@@ -1,5 +1,5 @@
 -- The fragments that are there stay within their bounds, and bytes.
-use Rattle.std.proofs.Common.{◌≡◌, ◌<◌, ℕ, Bool, true, false, cond, nat_lt, Option, None, Some, List, [], length, refl, sym, subst, arith}
+use Rattle.std.proofs.Common.{◌≡◌, ℕ, Bool, true, false, cond, nat_lt, List, length, refl, sym, subst, arith}
 use Rattle.std.specs.Option.{IfSome}
 use Rattle.nat_types.specs.declared.gateways.Side.{Side}
 use Rattle.nat_types.specs.declared.gateways.Side.TheVariants.{Inside, Outside}
@@ -7,7 +7,7 @@ use Rattle.frames.specs.declared.ethernet.TheConstants.{LONGEST}
 use Rattle.output.specs.Output.{Output}
 use Rattle.packet_rules.specs.declared.reasons.Reason.TheVariants.{ShortFrame}
 use Rattle.fragments.specs.Bytes.{AreBytes, HaveBytes, KeepsBytes}
-use Rattle.fragments.specs.Gathered.{Gathered, IsKept, after, of_side, taken, there_of, without_old}
+use Rattle.fragments.specs.Gathered.{Gathered, IsKept, after, of_side, taken, there_of}
 use Rattle.fragments.proofs.Offered.{after-bytes, kept-after, kept-without_old, none_there-bytes, taken-bytes, without_old-bytes}
 use Rattle.spec_step.specs.declared.events.Event.{Event}
 use Rattle.spec_step.specs.declared.events.Event.TheVariants.{Frame, Datagram, Tick, Stop, PeerOff, Side as SideIs}

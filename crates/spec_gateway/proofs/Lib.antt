@@ -1,4 +1,5 @@
 mod Reading
+mod Renumbered
 mod Keeping
 mod Numbers
 mod Inside

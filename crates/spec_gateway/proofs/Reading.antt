@@ -1,7 +1,9 @@
 -- A frame that is read as a fragment carries one.
-use Rattle.std.proofs.Common.{◌≡◌, ◌⊎◌, inl, inr, ◌≤◌, ◌↔◌, ◌&&◌, ℕ, Bool, true, false, cond, nat_le, Option, None, Some, Result, Ok, Err, List, [], ◌∷◌, length, refl, ap, ◌∙◌, sym, arith}
+use Rattle.std.proofs.Common.{◌≡◌, ◌≤◌, ◌↔◌, ◌&&◌, ◌==◌, ℕ, Bool, true, false, cond, nat_le, is_none, Option, None, Some, Result, Ok, Err, List, [], ◌∷◌, length, refl, ap, ◌∙◌, sym, arith}
 use Rattle.std.specs.Option.{option_map}
 use Rattle.std.proofs.lemmas.Bool.Decides.{nat_tests}
+use Rattle.arp.specs.Packet.{arp_refusal, packet_of}
+use Rattle.vrrp_packet.specs.Message.{advert_of, advert_refusal}
 use Rattle.nat_types.specs.declared.gateways.Side.{Side}
 use Rattle.frames.specs.Frame.{Frame, frame_of}
 use Rattle.frames.specs.declared.ethernet.TheConstants.{LONGEST_WHOLE}
@@ -18,12 +20,13 @@ use Rattle.ipv4.specs.declared.faults.Ipv4Fault as fault
 use Rattle.ipv4.specs.declared.faults.Ipv4Fault.{Ipv4Fault}
 use Rattle.packet_rules.specs.declared.networks.Network.{Network}
 use Rattle.packet_rules.specs.declared.readings.Reading.{Reading}
+use Rattle.packet_rules.specs.declared.readings.Reading.TheVariants.{Arp, Advert}
 use Rattle.packet_rules.specs.declared.reasons.Reason.{Reason}
 use Rattle.packet_rules.specs.declared.reasons.Reason.TheVariants.{ShortFrame, NotMine, BadHeader, BadLength, BadHeaderSum, Fragment, TtlOver, NotUdpTcp, BadTransport, BadArp, BadAdvert, NotUp, NoBinding, NoPort, CannotWait, BadDatagram, OldWord, HostLimit, TooLong, TooMany}
 use Rattle.packet_rules.specs.Asked.{is_asked}
 use Rattle.packet_rules.specs.Networks.{is_virtual}
 use Rattle.packet_rules.specs.Queries.{kind_entering, kind_leaving}
-use Rattle.packet_rules.specs.Steps.{about_refusal, advert_reading, arp_reading, body_reading, destination_refusal, error_reading, error_refusal, header_refusal, icmp_reading, ipv4_reading, is_vrrp, other_reading, packet_reading, query_reading, query_refusal, reading_of, reason_of, reason_of_icmp, size_refusal, transport_reading, transport_refusal, ttl_refusal, unless, up_refusal, virtual_refusal}
+use Rattle.packet_rules.specs.Steps.{about_refusal, advert_reading, arp_reading, body_reading, destination_refusal, error_reading, error_refusal, header_refusal, icmp_reading, ipv4_reading, is_from_peer, is_vrrp, other_reading, packet_reading, query_reading, query_refusal, reading_of, reason_of, reason_of_icmp, size_refusal, transport_reading, transport_refusal, ttl_refusal, unless, up_refusal, virtual_refusal}
 use Rattle.fragments.specs.Fragment.{HasHeader, IsFragment}
 use Rattle.spec_gateway.specs.Arrivals.{is_part}
 
@@ -61,6 +64,10 @@ Never o = o ≡ Some Fragment → ⊥
 none-if : (b : Bool) (x y : Result Reading Reason) → is_part x ≡ false → is_part y ≡ false → is_part (cond b x y) ≡ false
 none-if true x y one two = one
 none-if false x y one two = two
+
+none-ok : (b : Bool) (x : Reading) (reason : Reason) → is_part (Err reason) ≡ false → is_part (cond b (Ok x) (Err reason)) ≡ false
+none-ok true x reason none = refl
+none-ok false x reason none = none
 
 none-unless : (o : Option Reason) (r : Result Reading Reason) → Never o → is_part r ≡ false → is_part (unless o r) ≡ false
 none-unless None r never rest = rest
@@ -118,7 +125,7 @@ no-packet side network frame =
 
 no-advert : (network : Network) (packet : List ℕ) → is_part (advert_reading network packet) ≡ false
 unfolding advert_reading
-no-advert network packet = none-if _ _ _ refl refl
+no-advert network packet = none-ok (is_none (advert_refusal packet) && is_from_peer network packet) (Advert (advert_of (payload_of packet)) (record { 0 = (header_of packet).source })) BadAdvert refl
 
 no-other : (side : Side) (network : Network) (frame : Frame) → is_part (other_reading side network frame) ≡ false
 unfolding other_reading
@@ -144,12 +151,11 @@ part-ipv4 side network active frame is =
     is
 
 part-body : (side : Side) (network : Network) (active : Bool) (frame : Frame) → is_part (body_reading side network active frame) ≡ true → ipv4_refusal frame.body ≡ Some fault.TheVariants.Fragment
-unfolding body_reading
+unfolding body_reading arp_reading
 part-body side network active frame is = by (frame.ethertype == 2054) is
   where
     no-arp : is_part (arp_reading frame.body) ≡ false
-    unfolding arp_reading
-    no-arp = none-if _ _ _ refl refl
+    no-arp = none-ok (is_none (arp_refusal frame.body)) (Arp (packet_of frame.body)) BadArp refl
 
     by : (b : Bool) → is_part (cond b (arp_reading frame.body) (ipv4_reading side network active frame)) ≡ true → ipv4_refusal frame.body ≡ Some fault.TheVariants.Fragment
     by true is = absurd (let e : false ≡ true = sym no-arp ∙ is in cc)

@@ -1,4 +1,4 @@
-use Rattle.std.proofs.Common.{◌≡◌, ℕ, true, sym, subst}
+use Rattle.std.proofs.Common.{◌≡◌, true, sym, subst}
 use Rattle.std.specs.List.{AllByRecursion}
 use Rattle.fragments.specs.Gathered.{Gathered, is_young, of_side}
 use Rattle.spec_step.specs.Steps.{clock_after}

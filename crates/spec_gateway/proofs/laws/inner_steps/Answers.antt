@@ -1,4 +1,4 @@
-use Rattle.std.proofs.Common.{◌≡◌, ap}
+use Rattle.std.proofs.Common.{ap}
 use Rattle.output.specs.Output.{Output}
 use Rattle.spec_gateway.proofs.Inside.{inner}
 use Rattle.spec_gateway.proofs.laws.inner_steps.Goals as goal
