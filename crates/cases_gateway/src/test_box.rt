@@ -157,11 +157,7 @@ impl<G: AnyGateway> TestBox<G> {
     }
 
     /// Runs the rounds, and keeps the lines of the log.
-    pub(crate) fn go_on(
-        &mut self,
-        run: Run,
-        lines: &RefCell<Vec<u8>>,
-    ) -> Result<(), NoMemory> {
+    pub(crate) fn go_on(&mut self, run: Run, lines: &RefCell<Vec<u8>>) -> Result<(), NoMemory> {
         let gone = self.run_with(run, 0, open(lines));
         self.wire.outages.clear();
         gone

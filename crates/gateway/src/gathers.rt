@@ -104,8 +104,7 @@ pub(crate) struct Arrived<'a> {
 fn looks_cut(bytes: &[u8]) -> bool
     ensures { result ≡ looks_cut bytes.now }
 {
-    bytes.len() >= FRAGMENT_END
-        && BigEndian::read_u16(&bytes[FRAGMENT..]) % DONT_FRAGMENT != 0
+    bytes.len() >= FRAGMENT_END && BigEndian::read_u16(&bytes[FRAGMENT..]) % DONT_FRAGMENT != 0
 }
 
 /// Reminds the prover that a frame that is read as a fragment is one, and looks so; it does nothing

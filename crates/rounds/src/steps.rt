@@ -67,7 +67,13 @@ pub(crate) fn take_event<W: Wire, L: Journal>(
 {
     let before = View::of(gateway);
     let outcome = step(gateway, event, &mut state.out);
-    send_all(wire, gateway, &state.out, &mut state.cutter, &mut state.counters);
+    send_all(
+        wire,
+        gateway,
+        &state.out,
+        &mut state.cutter,
+        &mut state.counters,
+    );
     let cause = cause_of(outcome);
     if let Some(cause) = cause {
         state
