@@ -26,6 +26,7 @@ pub(crate) fn cut(frame: &[u8], cutter: &mut Cutter) -> u32 {
 }
 
 /// The frames of a datagram's fragments, in order.
+#[derive(Drop)]
 struct Datagram {
     side: Side,
     frames: [[u8; LONGEST]; 3],

@@ -77,7 +77,8 @@ impl Part {
             0x45, 0, 0, 0, 0, 0, 0, 0, 64, 17, 0, 0, 0, 0, 0, 0, 198, 51, 100, 7,
         ];
         let flags = if more { 0x2000 } else { 0 };
-        BigEndian::write_u16(&mut header[2..4], self.count.saturating_add(20) as u16);
+        let total = self.count.saturating_add(20) % 65536;
+        BigEndian::write_u16(&mut header[2..4], total as u16);
         BigEndian::write_u16(&mut header[4..6], self.identification);
         BigEndian::write_u16(&mut header[6..8], flags + (self.place / 8 % 8192) as u16);
         BigEndian::write_u32(&mut header[12..16], self.source.0);
