@@ -1,5 +1,5 @@
 -- What is sent, and turns, one after the other.
-use Rattle.std.proofs.Common.{◌≡◌, ◌∙◌, ◌++◌, ℕ, zero, suc, List, [], ◌∷◌, take, Option, Some, None, Result, Ok, Err, OnErr, OnOk, refl, sym, ap, subst, inl, inr}
+use Rattle.std.proofs.Common.{◌≡◌, ◌∙◌, ◌++◌, ℕ, zero, suc, List, [], ◌∷◌, map, take, Option, Some, None, Result, Ok, Err, OnErr, OnOk, refl, sym, ap, subst, inl, inr}
 use Rattle.std.proofs.lemmas.List.{append-nil, append_assoc}
 use Rattle.nat_types.specs.declared.gateways.Side.{Side}
 use Rattle.fragments.specs.Cut.{pieces}
@@ -46,8 +46,8 @@ sent_all passes all rest a b had is =
 pub taken_by : {W T E : Type 0} (passes : Passes W) (event : Event) (r : Result T E) (g g2 : GatewayState) (out : Output) (w w2 : W)
     → OnOk r (IsGatewayStep g none_told event g2 out) → OnErr r (g2 ≡ g) → OnErr r (out ≡ none_told) → AreSent passes (all_sent g2.shown.networks out) w w2
     → Takes passes event g w g2 w2
-taken_by passes event (Ok x) g g2 out w w2 step err untold sent = inl (out, (step, sent))
-taken_by passes event (Err x) g g2 out w w2 step err untold sent = inr (err, subst (λ (o : Output). AreSent passes (all_sent g2.shown.networks o) w w2) untold sent)
+taken_by passes event (Ok x) g g2 out w w2 step err untold all = inl (out, (step, all))
+taken_by passes event (Err x) g g2 out w w2 step err untold all = inr (err, subst (λ (o : Output). AreSent passes (all_sent g2.shown.networks o) w w2) untold all)
 
 -- no turn was had
 pub none_had : {W : Type 0} (passes : Passes W) (g g2 : GatewayState) (w w2 : W) → g2 ≡ g → w2 ≡ w → HasTurned passes g w g2 w2
