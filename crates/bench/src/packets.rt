@@ -136,11 +136,18 @@ pub(crate) fn piece_of(side: Side, piece: Piece) -> [u8; LONGEST] {
         protocol: Protocol::Udp,
         size: piece.size,
     });
-    frame[20..22].copy_from_slice(&piece.place.to_be_bytes());
-    frame[24..26].copy_from_slice(&[0, 0]);
+    let [high, low] = piece.place.to_be_bytes();
+    frame[20] = high;
+    frame[21] = low;
+    frame[24] = 0;
+    frame[25] = 0;
     let checksum = 65535 - sum(&frame[14..34]);
-    frame[24..26].copy_from_slice(&checksum.to_be_bytes());
-    frame[38..40].copy_from_slice(&WHOLE.to_be_bytes());
+    let [high, low] = checksum.to_be_bytes();
+    frame[24] = high;
+    frame[25] = low;
+    let [high, low] = WHOLE.to_be_bytes();
+    frame[38] = high;
+    frame[39] = low;
     frame
 }
 
