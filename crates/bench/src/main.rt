@@ -95,22 +95,6 @@ fn read_words(rt: &HostRuntime) -> Result<String> {
     Ok(line)
 }
 
-/// Reads the word `alone`, where the line begins with it.
-fn read_alone(line: &str, settings: &mut Settings, case: &mut Case) {
-    if line.starts_with("alone ") {
-        settings.alone = 100;
-        case.word();
-    }
-}
-
-/// Reads the word `pass`, where the line begins with it.
-fn read_pass(line: &str, settings: &mut Settings, case: &mut Case) {
-    if line.starts_with("pass ") {
-        settings.fragments.pass = true;
-        case.word();
-    }
-}
-
 fn main(rt: HostRuntime) -> Result<()> {
     let line = read_words(&rt)?;
     if line.is_empty() {
@@ -119,8 +103,15 @@ fn main(rt: HostRuntime) -> Result<()> {
     let mut settings = Settings::sample(rt.alloc())?;
     let mut case = Case::new(rt.alloc());
     case.begin(line.as_str());
-    read_alone(line.as_str(), &mut settings, &mut case);
-    read_pass(line.as_str(), &mut settings, &mut case);
+    if line.starts_with("alone ") {
+        settings.alone = 100;
+        case.word();
+    }
+    let pass = line.starts_with("pass ");
+    settings.fragments.pass = pass;
+    if pass {
+        case.word();
+    }
     report(&rt, &mut settings, &mut case);
     drop(settings);
     case.flush(&rt);
