@@ -107,8 +107,9 @@ fn main(rt: HostRuntime) -> Result<()> {
         settings.alone = 100;
         case.word();
     }
-    if line.starts_with("pass ") {
-        settings.fragments.pass = true;
+    let pass = line.starts_with("pass ");
+    settings.fragments.pass = pass;
+    if pass {
         case.word();
     }
     report(&rt, &mut settings, &mut case);
