@@ -1,53 +1,26 @@
 //! The cost of UDP datagrams of 3,000 bytes that come in three fragments and go out in three.
 
-ghost use Rattle.std.specs.Prelude.{IsTrue};
-ghost use Rattle.fragments.specs.Cut.{IsIpv4Frame};
-
 use crate::clocks::{now, since, tell_sent};
 use crate::gates::Gate;
 use crate::packets::{LONGEST, PIECES, PORTS, STRIDE, piece_of, set_pair};
 use crate::stations::Station;
 use addresses::Protocol;
 use cases_words::Case;
-use fragments::{append_piece, piece_count};
-use frames::EthView;
+use fragments::Cutter;
 use gateway::Outcome;
-use ipv4::Ipv4View;
 use nat_types::Side;
 use settings::Settings;
 
 /// The most bytes of a packet that goes out whole.
 const MTU: u16 = 1500;
 
-/// Whether a frame carries an IPv4 packet that is no fragment.
-fn is_whole(frame: &[u8]) -> bool
-    ensures { IsTrue result → IsIpv4Frame frame.now }
-{
-    match EthView::parse(frame) {
-        Ok(view) => Ipv4View::parse(view.body()).is_ok(),
-        Err(_) => false,
-    }
-}
-
-/// Cuts a frame's packet, as who sends it does, each fragment into `room`, and returns how many fragments there are. A frame
-/// that is short enough is one.
-pub(crate) fn cut(frame: &[u8], room: &mut Vec<u8>, case: &mut Case) -> u32 {
-    if frame.len() <= LONGEST {
-        return 1;
-    }
-    if !is_whole(frame) {
-        case.fault();
-        return 0;
-    }
-    let view = EthView { bytes: frame };
+/// Cuts a frame as who sends it does, and returns in how many frames it goes out.
+pub(crate) fn cut(frame: &[u8], cutter: &mut Cutter) -> u32 {
     let mut count = 0u32;
-    for k in 0..piece_count(view.body(), MTU) {
-        room.clear();
-        match room.reserve(LONGEST) {
-            Ok(()) => append_piece(room, frame, MTU, 0, k),
-            Err(_) => case.fault(),
+    for k in 0..cutter.count(frame, MTU) {
+        if !cutter.piece(frame, MTU, k).is_empty() {
+            count = count.saturating_add(1);
         }
-        count = count.saturating_add(1);
     }
     count
 }
@@ -78,38 +51,48 @@ impl Datagram {
     }
 }
 
-/// Prints the cost of each of `count` datagrams, which belong to `pairs` pairs in turn, and how many went out in three
-/// fragments.
-fn measure<G: Gate>(
-    rt: &HostRuntime,
-    station: &mut Station<G>,
+/// How many datagrams come in on a side, and to how many pairs they belong in turn.
+#[derive(Clone, Copy)]
+struct Load {
     side: Side,
     count: u32,
     pairs: u32,
+}
+
+/// Prints the cost of each datagram, and how many went out in three fragments.
+fn measure<G: Gate>(
+    rt: &HostRuntime,
+    station: &mut Station<G>,
+    cutter: &mut Cutter,
+    load: Load,
     case: &mut Case,
 ) {
+    let Load { side, count, pairs } = load;
     let mut datagram = Datagram::of(side);
-    let mut room = Vec::new(case.alloc);
     let mut sent = 0u32;
     let start = now(rt, case);
     for number in 0..count {
         let pair = number.wrapping_mul(STRIDE) % pairs.clamp(1, PORTS);
         set_pair(&mut datagram.frames[0], side, pair);
-        if datagram.is_sent(station, case) && station.cut(&mut room, case) == 3 {
+        if datagram.is_sent(station, case) && station.cut(cutter) == 3 {
             sent = sent.saturating_add(1);
         }
     }
     let spent = since(rt, start, case);
-    drop(room);
     tell_sent(spent, count, sent, case);
 }
 
-/// Prints the cost of datagrams in fragments that come in on a side, over as many as the next words say.
+/// Prints the cost of datagrams in fragments that come in on a side, over as many pairs as the last word says.
 pub(crate) fn report_fragments<G: Gate>(rt: &HostRuntime, settings: &Settings, case: &mut Case) {
     let side = case.side();
     let (count, pairs) = (case.times(), case.times());
+    let Ok(mut cutter) = Cutter::new(case.alloc) else {
+        return case.fault();
+    };
     if let Some(mut station) = Station::<G>::ready(settings, Protocol::Udp, pairs, case) {
-        measure(rt, &mut station, side, count, pairs, case);
+        let load = Load { side, count, pairs };
+        measure(rt, &mut station, &mut cutter, load, case);
         station.end();
     }
+    drop(cutter);
 }

@@ -6,6 +6,7 @@ use crate::packets::{HEADER, Kind, LONGEST, OPENING, PORTS, frame_of, set_pair};
 use crate::pieces::cut;
 use addresses::Protocol;
 use cases_words::Case;
+use fragments::Cutter;
 use gateway::{Event, Out, Outcome};
 use nat_types::{GatewayId, NoteKind, Side};
 use settings::Settings;
@@ -86,10 +87,10 @@ impl<G: Gate> Station<G> {
     }
 
     /// Cuts the frames of the gateway's last output, as who sends them does, and returns how many frames that makes.
-    pub(crate) fn cut(&self, room: &mut Vec<u8>, case: &mut Case) -> u32 {
+    pub(crate) fn cut(&self, cutter: &mut Cutter) -> u32 {
         let mut count = 0u32;
         for frame in self.out.frames() {
-            count = count.saturating_add(cut(frame.bytes, room, case));
+            count = count.saturating_add(cut(frame.bytes, cutter));
         }
         count
     }
