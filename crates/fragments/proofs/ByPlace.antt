@@ -1,11 +1,11 @@
 -- A datagram by its place in the list, where it is the first of its name.
-use Rattle.std.proofs.Common.{◌≡◌, ℕ, zero, suc, ◌-◌, ◌<◌, Option, Some, None, List, [], ◌∷◌, ◌++◌, length, get_or, set, take, drop, refl, ap, ◌∙◌, sym, subst, arith}
+use Rattle.std.proofs.Common.{◌≡◌, ℕ, zero, suc, ◌-◌, ◌<◌, Option, Some, List, [], ◌∷◌, ◌++◌, length, get_or, set, take, refl, ap, ◌∙◌, sym, arith}
 use Rattle.std.specs.List.{find, position, remove}
 use Rattle.std.proofs.lemmas.List.{length_push, take_at}
-use Rattle.fragments.specs.Gathered.{Datagram, arrived, effect_of, is_named, joined, with_first, with_fragments, without_first}
+use Rattle.fragments.specs.Gathered.{Datagram, arrived, effect_of, is_named, joined, with_fragments, without_first}
 use Rattle.fragments.specs.Name.{name_of}
 use Rattle.fragments.specs.Places.{added_at, fragments_at, joined_at, with_at, without_last_at}
-use Rattle.fragments.proofs.Placing.{IsFirst, changed-at, first-at, found-at, removed-at}
+use Rattle.fragments.proofs.Placing.{changed-at, first-at, found-at, removed-at}
 use Rattle.fragments.specs.declared.names.Name.{Name}
 
 -- its fragments

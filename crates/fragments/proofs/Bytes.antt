@@ -1,5 +1,5 @@
 -- What is kept of frames that are bytes is bytes, and so is a whole frame that is made of them.
-use Rattle.std.proofs.Common.{◌≡◌, ◌⊎◌, inl, inr, ℕ, zero, suc, ◌+◌, ◌-◌, ◌*◌, ◌/◌, ◌<◌, ◌≤◌, Bool, true, false, cond, Option, Some, None, unwrap_or, List, [], ◌∷◌, ◌++◌, length, map, take, drop, get_or, slice_index, refl, ap, ◌∙◌, sym, subst, arith}
+use Rattle.std.proofs.Common.{◌≡◌, ◌⊎◌, inl, inr, ℕ, zero, suc, ◌+◌, ◌-◌, ◌*◌, ◌/◌, ◌<◌, ◌≤◌, Bool, true, false, cond, Option, Some, None, unwrap_or, List, [], ◌∷◌, ◌++◌, length, map, take, drop, slice_index, refl, sym, subst, arith}
 use Rattle.std.specs.Option.{IfSome}
 use Rattle.std.specs.List.{AllByRecursion, find, list_any, range_with_len}
 use Rattle.std.proofs.lemmas.Bool.{cases_lt}
@@ -11,7 +11,7 @@ use Rattle.sums.specs.Sum.{checksum_of}
 use Rattle.ipv4.specs.Header.{header_of, options_of}
 use Rattle.fragments.specs.Bytes.{AreBytes, HaveBytes, KeepsBytes}
 use Rattle.fragments.specs.Fragment.{carried, carries, first_of, ipv4_in, is_broken, starts, trimmed}
-use Rattle.fragments.specs.Gathered.{Datagram, Gathered, Taking, after, after_end, after_join, arrived, effect_of, ended, is_from, is_named, is_young, joined, left_by, left_first, none_there, of_side, refused, taken, with_place, without_first, without_old}
+use Rattle.fragments.specs.Gathered.{Datagram, Gathered, Taking, after, after_end, after_join, arrived, effect_of, ended, is_named, is_young, joined, left_by, none_there, of_side, refused, taken, with_place, without_first, without_old}
 use Rattle.fragments.specs.Header.{fixed_summed, fixed_with, header_with}
 use Rattle.fragments.specs.Name.{name_of}
 use Rattle.fragments.specs.Whole.{byte_at, is_marked, payload_end, reassembled, whole_fields, whole_service}

@@ -1,20 +1,20 @@
 -- What a packet is cut into: each fragment as it is read, and all of them put together again.
-use Rattle.std.proofs.Common.{◌≡◌, ◌⊎◌, inl, inr, ℕ, zero, suc, ◌+◌, ◌-◌, ◌*◌, ◌/◌, ◌%◌, ◌^◌, ◌<◌, ◌≤◌, Bool, true, false, not, cond, ◌&&◌, ◌||◌, ◌==◌, nat_le, nat_lt, Option, Some, None, unwrap_or, List, [], ◌∷◌, ◌++◌, length, map, take, drop, get_or, slice_index, refl, ap, ap₂, ◌∙◌, sym, subst, arith}
+use Rattle.std.proofs.Common.{◌≡◌, ◌⊎◌, inl, inr, ℕ, zero, suc, ◌+◌, ◌-◌, ◌*◌, ◌/◌, ◌%◌, ◌<◌, ◌≤◌, Bool, true, false, not, cond, ◌&&◌, ◌||◌, ◌==◌, nat_le, nat_lt, Option, unwrap_or, List, [], ◌++◌, length, map, take, drop, get_or, slice_index, refl, ap, ap₂, ◌∙◌, sym, subst, arith}
 use Rattle.std.specs.List.{count_by, find, list_any, range_with_len}
 use Rattle.std.proofs.lemmas.Bool.{cases_lt, eq-eqb, eqb-true, le-leb, lt-leb, ne_eqb, or_left, or_right, not_from_false}
 use Rattle.std.proofs.lemmas.List.{get_or-drop, get_or-take, length-drop, length-take-le}
 use Rattle.std.proofs.lemmas.List.FromFn.{fill_by_all}
 use Rattle.byteorder.specs.Numbers.{big_from-lt}
-use Rattle.ipv4.specs.Header.{IsIpv4, header_of, is_fragment, options_of, payload_of}
+use Rattle.ipv4.specs.Header.{IsIpv4, header_of, options_of, payload_of}
 use Rattle.fragments.specs.Bytes.{AreBytes}
 use Rattle.fragments.specs.Cut.{IsCut, IsPiece, cut, identified, is_last_piece, piece, piece_count, piece_fields, piece_options, piece_payload, step_of}
-use Rattle.fragments.specs.Fragment.{HasHeader, IsFragment, carried, carries, end_of, first_of, ipv4_in, is_last, more_of, starts}
+use Rattle.fragments.specs.Fragment.{carried, carries, end_of, first_of, ipv4_in, is_last, more_of, starts}
 use Rattle.fragments.specs.Header.{header_with}
 use Rattle.fragments.specs.Options.{later_options}
-use Rattle.fragments.specs.Whole.{IsComplete, byte_at, first_header_length, is_marked, last_fragment, payload_again, payload_end, reassembled, whole_fields, whole_service}
+use Rattle.fragments.specs.Whole.{IsComplete, byte_at, first_header_length, is_marked, payload_again, payload_end, reassembled, whole_fields, whole_service}
 use Rattle.fragments.proofs.Later.{same_room}
 use Rattle.fragments.proofs.Orders.{AreSame, byte_of, byte-found, same-whole}
-use Rattle.fragments.proofs.Ranges.{Items, PassesOnce, any-one, counts-none, counts-one}
+use Rattle.fragments.proofs.Ranges.{PassesOnce, any-one, counts-none, counts-one}
 use Rattle.fragments.proofs.Shares.{FlagsAre, Holds, before, beyond-ends, flag-alone, flags-are, holder, within-ends}
 use Rattle.fragments.proofs.Sizes.{Sizes, count, counted, few, last-fits, more-left, payload-size, place-eighths, place-within, sizes, step-fits, step-least, step-left, word-fits}
 use Rattle.fragments.proofs.Spelling.{SameHeader, Spelled, Writes, behind-parts, ethernet-parts, header-same, length-header, length-options, length-parts, spelled}

@@ -1,5 +1,5 @@
 -- A taking in two steps: first all but the end of a datagram that is whole, then that end.
-use Rattle.std.proofs.Common.{◌≡◌, ℕ, Bool, true, false, cond, Option, Some, None, List, [], ◌∷◌, ◌++◌, refl, ap, arith}
+use Rattle.std.proofs.Common.{◌≡◌, ℕ, Bool, true, false, cond, Option, Some, None, List, [], ◌∷◌, ◌++◌, refl, ap}
 use Rattle.std.specs.List.{find}
 use Rattle.nat_types.specs.declared.gateways.Side.{Side}
 use Rattle.nat_types.specs.declared.gateways.Side.TheVariants.{Inside, Outside}
@@ -9,8 +9,7 @@ use Rattle.fragments.specs.Name.{name_of}
 use Rattle.fragments.specs.declared.names.Name.{Name}
 use Rattle.fragments.specs.declared.datagrams.Effect.{Effect}
 use Rattle.fragments.specs.declared.datagrams.Effect.TheVariants.{Repeats, Contradicts, Waits, TooLong, Completes}
-use Rattle.fragments.specs.declared.gatherings.Came.{Came}
-use Rattle.fragments.specs.declared.gatherings.Came.TheVariants.{Refused, Held, Whole}
+use Rattle.fragments.specs.declared.gatherings.Came.TheVariants.{Whole}
 
 -- what a taking leaves at first, and once its datagram ended
 record InSteps (name : Name) (ds : List Datagram) (taking : Taking) : Type 0 where

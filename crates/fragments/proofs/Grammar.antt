@@ -1,7 +1,7 @@
 -- The tests of an IPv4 header, and what they say where the last one finds a fragment.
 use Rattle.std.proofs.Common.{◌≡◌, ◌≤◌, ◌<◌, ◌%◌, ℕ, Bool, true, false, not, ◌||◌, ◌==◌, nat_lt, List, [], ◌∷◌, length, take, arith, Option, Some, ◌↔◌}
 use Rattle.std.proofs.lemmas.Bool.Decides.{nat_tests}
-use Rattle.sums.specs.Sum.{IsRight, word_sum}
+use Rattle.sums.specs.Sum.{word_sum}
 use Rattle.ipv4.specs.Order.{first_fault}
 use Rattle.ipv4.specs.Header.{has_wrong_sum, header_of, ipv4_refusal, is_fragment}
 use Rattle.ipv4.specs.declared.faults.Ipv4Fault.{Ipv4Fault}

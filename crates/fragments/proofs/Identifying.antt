@@ -1,5 +1,5 @@
 -- A frame whose packet has another identification.
-use Rattle.std.proofs.Common.{◌≡◌, ◌≤◌, ◌+◌, ◌-◌, ℕ, List, ◌++◌, length, take, drop, ap, ◌∙◌, sym, subst, arith, append_assoc, length-drop}
+use Rattle.std.proofs.Common.{◌≡◌, ◌≤◌, ◌+◌, ◌-◌, ℕ, List, ◌++◌, length, take, drop, ap, ◌∙◌, sym, arith, append_assoc, length-drop}
 use Rattle.std.proofs.lemmas.List.{drop-drop, take-append-drop, take_all}
 use Rattle.ipv4.specs.Header.{header_of, options_of, payload_of}
 use Rattle.fragments.specs.Cut.{IsIpv4Frame, identified, numbered_fields}

@@ -1,14 +1,14 @@
 -- What comes of a fragment beside those of the datagram at a place, by its effect.
-use Rattle.std.proofs.Common.{◌≡◌, ◌⊎◌, ◌≤◌, ◌<◌, ℕ, zero, suc, ◌+◌, false, Option, Some, None, List, [], ◌∷◌, ◌++◌, length, get_or, refl, ap, ◌∙◌, sym, subst, arith}
+use Rattle.std.proofs.Common.{◌≡◌, ◌≤◌, ◌<◌, ℕ, zero, suc, ◌+◌, false, Some, List, [], ◌∷◌, ◌++◌, length, get_or, ap, ◌∙◌, sym, subst, arith}
 use Rattle.std.specs.List.{AllByRecursion, find, position, remove}
 use Rattle.fragments.specs.Fragment.{IsFragment, is_broken}
-use Rattle.fragments.specs.Gathered.{AreKept, Datagram, IsOf, IsPartial, Taking, effect_of, is_named, joined, left_first}
+use Rattle.fragments.specs.Gathered.{AreKept, Datagram, IsPartial, Taking, effect_of, is_named, joined, left_first}
 use Rattle.fragments.specs.Name.{name_of}
 use Rattle.fragments.specs.Places.{added_at, fragments_at, joined_at, with_at}
 use Rattle.fragments.specs.Whole.{IsReady, reassembled, whole_length}
 use Rattle.fragments.proofs.ByPlace.{fragments-there, named-added, named-removed}
 use Rattle.fragments.proofs.Making.{length-whole, ready-there}
-use Rattle.fragments.proofs.Placing.{IsFirst, first-at, found-at}
+use Rattle.fragments.proofs.Placing.{first-at, found-at}
 use Rattle.fragments.specs.declared.datagrams.Effect.{Effect}
 use Rattle.fragments.specs.declared.datagrams.Effect.TheVariants.{Repeats, Contradicts, Waits, TooLong, Completes}
 

@@ -1,5 +1,5 @@
 -- Frames that have to be cut, and the pieces in which frames go out.
-use Rattle.std.proofs.Common.{◌≡◌, ◌≤◌, ◌<◌, ◌+◌, ◌/◌, ◌%◌, ℕ, Bool, true, false, cond, not, ◌&&◌, ◌||◌, ◌==◌, nat_le, nat_lt, is_none, List, [], ◌∷◌, length, map, take, drop, get_or, refl, ap, ◌∙◌, sym, subst, arith, Option, None}
+use Rattle.std.proofs.Common.{◌≡◌, ◌≤◌, ◌<◌, ◌+◌, ◌/◌, ◌%◌, ℕ, zero, suc, Bool, true, false, cond, not, ◌&&◌, ◌||◌, ◌==◌, nat_le, nat_lt, is_none, List, [], ◌∷◌, length, map, take, drop, ap, ◌∙◌, sym, subst, arith, Option}
 use Rattle.std.specs.List.{AllByRecursion, range_with_len}
 use Rattle.std.proofs.lemmas.Bool.Decides.{nat_tests}
 use Rattle.std.proofs.lemmas.List.{drop_more, get_or-drop}
@@ -7,11 +7,11 @@ use Rattle.std.proofs.lemmas.List.FromFn.{get_or-map-range_with_len, length-map-
 use Rattle.sums.specs.Sum.{word_sum}
 use Rattle.frames.specs.Frame.{frame_of}
 use Rattle.ipv4.specs.Order.{first_fault}
-use Rattle.ipv4.specs.Header.{IsIpv4, has_wrong_sum, header_of, ipv4_refusal, is_fragment}
+use Rattle.ipv4.specs.Header.{IsIpv4, has_wrong_sum, header_of, ipv4_refusal, is_unbroken}
 use Rattle.ipv4.specs.declared.faults.Ipv4Fault.{Ipv4Fault}
 use Rattle.ipv4.specs.declared.faults.Ipv4Fault.TheVariants.{TooShort, BadVersion, BadLength, BadHeaderSum, Fragment}
 use Rattle.fragments.specs.Bytes.{AreBytes}
-use Rattle.fragments.specs.Cut.{IsCut, IsMtu, IsIpv4Frame, IsPiece, MayBeCut, cut, identified, is_cuttable, is_long, piece, piece_count, pieces}
+use Rattle.fragments.specs.Cut.{IsCut, IsMtu, IsIpv4Frame, MayBeCut, cut, identified, is_cuttable, is_long, piece, piece_count, pieces}
 use Rattle.fragments.specs.Fragment.{ipv4_in}
 use Rattle.fragments.specs.Whole.{IsComplete, reassembled}
 use Rattle.fragments.proofs.Cutting.{again, complete-cut, few-pieces, piece-is}
@@ -120,6 +120,17 @@ long-cut mtu frame limits bytes e =
     behind : (n : ℕ) (xs : List ℕ) → AreBytes xs → AreBytes (drop n xs)
     behind n xs are i = subst (λ (x : ℕ). x < 256) (sym (get_or-drop n xs i 0)) (are (n + i))
 
+-- the last test of such a frame, on numbers
+pub last-test : (long kind total word : ℕ) (packet : Bool) → 14 ≤ long → kind ≡ 2048 → packet ≡ true → long ≡ 14 + total
+    → not (word % 2 == 1) ≡ (nat_le 14 long && (kind == 2048) && packet && (long == 14 + total) && (word % 2 == 0))
+last-test long kind total word packet framed type_is packet_is size = grind (arith, nat_tests)
+
+pub cuttable-is : (frame : List ℕ) → 14 ≤ length frame → (frame_of frame).ethertype ≡ 2048 → is_none (ipv4_refusal (ipv4_in frame)) ≡ true → length frame ≡ 14 + (header_of (ipv4_in frame)).total_length
+    → not (is_unbroken (ipv4_in frame)) ≡ is_cuttable frame
+unfolding is_cuttable is_unbroken
+cuttable-is frame framed type_is packet_is size =
+    last-test (length frame) (frame_of frame).ethertype (header_of (ipv4_in frame)).total_length ((header_of (ipv4_in frame)).flags_word / 0x4000) (is_none (ipv4_refusal (ipv4_in frame))) framed type_is packet_is size
+
 -- ---- its pieces
 pub long-pieces : (mtu : ℕ) (frame : List ℕ) → is_long mtu frame ≡ true → pieces mtu frame ≡ cut mtu (identification_of frame) frame
 long-pieces mtu frame e = ap (λ (b : Bool). cond b (cut mtu (identification_of frame) frame) (frame ∷ [])) e
@@ -133,12 +144,16 @@ count-cut mtu identification frame = length-map-range_with_len (piece mtu identi
 pub count-pieces : (mtu : ℕ) (frame : List ℕ) → is_long mtu frame ≡ true → length (pieces mtu frame) ≡ piece_count mtu (ipv4_in frame)
 count-pieces mtu frame e = ap length (long-pieces mtu frame e) ∙ count-cut mtu (identification_of frame) frame
 
+pub some-pieces : (mtu : ℕ) (frame : List ℕ) → 1 ≤ piece_count mtu (ipv4_in frame)
+unfolding piece_count
+some-pieces mtu frame = omega arith
+
 pub next-cut : (mtu identification : ℕ) (frame : List ℕ) (k : ℕ) → k < piece_count mtu (ipv4_in frame)
     → drop k (cut mtu identification frame) ≡ piece mtu identification frame k ∷ drop (k + 1) (cut mtu identification frame)
 next-cut mtu identification frame k there =
     drop_more (cut mtu identification frame) k [] (omega (arith, count-cut mtu identification frame, there))
     ∙ ap (λ (x : List ℕ). x ∷ drop (k + 1) (cut mtu identification frame))
-    (get_or-map-range_with_len (piece mtu identification frame) 0 (piece_count mtu (ipv4_in frame)) k k [] there refl)
+    (get_or-map-range_with_len (piece mtu identification frame) 0 (piece_count mtu (ipv4_in frame)) k k [] there (omega arith))
 
 pub next-long : (mtu : ℕ) (frame : List ℕ) (k : ℕ) → is_long mtu frame ≡ true → k < length (pieces mtu frame)
     → drop k (pieces mtu frame) ≡ piece mtu (identification_of frame) frame k ∷ drop (k + 1) (pieces mtu frame)

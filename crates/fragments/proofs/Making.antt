@@ -1,5 +1,5 @@
 -- What is made whole is made of the fragments of a datagram that is there and the one that completes them.
-use Rattle.std.proofs.Common.{◌≡◌, ◌≤◌, ℕ, ◌+◌, ◌-◌, Bool, true, false, cond, Option, Some, None, unwrap_or, List, [], ◌∷◌, ◌++◌, length, map, refl, ap, ◌∙◌, sym, subst, arith}
+use Rattle.std.proofs.Common.{◌≡◌, ◌≤◌, ℕ, ◌+◌, Bool, true, false, cond, Option, Some, None, unwrap_or, List, [], ◌∷◌, ◌++◌, length, map, refl, ap, ◌∙◌, sym, subst, arith}
 use Rattle.std.specs.Option.{IfSome}
 use Rattle.std.specs.List.{AllByRecursion, IsDistinct, find, range_with_len}
 use Rattle.std.proofs.lemmas.List.FromFn.{length-map-range_with_len}
@@ -7,9 +7,9 @@ use Rattle.nat_types.specs.declared.gateways.Side.{Side}
 use Rattle.nat_types.specs.declared.gateways.Side.TheVariants.{Inside, Outside}
 use Rattle.ipv4.specs.Header.{header_of, options_of}
 use Rattle.fragments.specs.Fragment.{IsFragment, ipv4_in, is_broken, starts, trimmed}
-use Rattle.fragments.specs.Gathered.{AreApart, AreKept, Datagram, Gathered, IsKept, IsOf, IsPartial, MakesWhole, Taking, after, after_end, after_join, arrived, effect_of, ended, is_named, joined, left_by, left_first, none_there, of_side, refused, taken, without_first, without_old}
+use Rattle.fragments.specs.Gathered.{AreApart, AreKept, Datagram, Gathered, IsKept, IsOf, IsPartial, MakesWhole, after, after_end, after_join, arrived, effect_of, ended, is_named, joined, left_by, left_first, none_there, of_side, refused, taken, without_first, without_old}
 use Rattle.fragments.specs.Header.{header_with}
-use Rattle.fragments.specs.Name.{name_of, same_name}
+use Rattle.fragments.specs.Name.{name_of}
 use Rattle.fragments.specs.Whole.{IsReady, byte_at, first_fragment, first_header_length, payload_end, reassembled, whole_fields, whole_length}
 use Rattle.fragments.proofs.Counting.{all-of, found-all, found-of, found-passes, whole-complete, whole-within}
 use Rattle.fragments.proofs.Keeping.{apart-more, completes, each-more, kept-none, kept-without, kept-young, same-name, taken-kept, unbroken-each}
@@ -18,7 +18,6 @@ use Rattle.fragments.proofs.Trimming.{trimmed-fragment}
 use Rattle.fragments.specs.declared.names.Name.{Name}
 use Rattle.fragments.specs.declared.datagrams.Effect.{Effect}
 use Rattle.fragments.specs.declared.datagrams.Effect.TheVariants.{Repeats, Contradicts, Waits, TooLong, Completes}
-use Rattle.fragments.specs.declared.gatherings.Came.{Came}
 use Rattle.fragments.specs.declared.gatherings.Came.TheVariants.{Whole}
 
 -- the fragments that are there and one that completes them

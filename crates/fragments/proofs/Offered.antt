@@ -13,3 +13,8 @@ pub use Rattle.fragments.proofs.Bytes.{after-bytes, join-bytes, end-bytes, witho
 pub use Rattle.fragments.proofs.Making.{length-whole, taken-most}
 -- What a packet is cut into makes the packet again.
 pub use Rattle.fragments.proofs.Cutting.{again, complete-cut, few-pieces, piece-is}
+-- Frames that have to be cut, and their pieces.
+pub use Rattle.fragments.proofs.Longs.{IsLong, long-is, long-cut, long-pieces, short-pieces, count-pieces, next-long, next-short, whole-packet}
+-- What is read from a frame whose header was written.
+pub use Rattle.fragments.proofs.Spelling.{Spelled, Writes, SameHeader, spelled, header-same, behind-parts, ethernet-parts, length-header, length-options, length-parts}
+pub use Rattle.fragments.proofs.Sizes.{word-fits}

@@ -1,11 +1,11 @@
 -- The order of fragments is no matter, nor how often each stands there.
-use Rattle.std.proofs.Common.{◌≡◌, ◌⊎◌, inl, inr, ℕ, zero, suc, ◌+◌, ◌-◌, ◌<◌, ◌≤◌, Bool, true, false, cond, Option, Some, None, unwrap_or, List, [], ◌∷◌, ◌++◌, length, map, get_or, take, slice_index, refl, ap, ap₂, ◌∙◌, sym, subst, arith}
+use Rattle.std.proofs.Common.{◌≡◌, ◌⊎◌, inl, inr, ℕ, zero, suc, ◌+◌, ◌-◌, ◌<◌, ◌≤◌, Bool, true, false, cond, Option, Some, None, List, [], ◌∷◌, length, map, get_or, slice_index, refl, ap, ap₂, ◌∙◌, sym, subst, arith}
 use Rattle.std.specs.List.{AllByRecursion, Contains, count_by, find, list_any, range_with_len}
 use Rattle.std.proofs.lemmas.Bool.{or_left, or_right}
 use Rattle.std.proofs.lemmas.Option.{same_Some}
 use Rattle.fragments.proofs.Counting.{any-found, count-cons, found-of, none-of, tally}
-use Rattle.fragments.specs.Fragment.{carried, carries, end_of, first_of, is_last, starts}
-use Rattle.fragments.specs.Whole.{IsComplete, byte_at, first_header_length, is_marked, payload_again, payload_end, reassembled, whole_fields, whole_service}
+use Rattle.fragments.specs.Fragment.{carried, carries, first_of, is_last, starts}
+use Rattle.fragments.specs.Whole.{IsComplete, byte_at, first_header_length, is_marked, payload_end, reassembled, whole_fields, whole_service}
 
 -- an item is one of a list
 abbrev pub IsAmong : List ℕ → List (List ℕ) → Type 0

@@ -1,12 +1,12 @@
 -- What is read from a frame whose header was written.
-use Rattle.std.proofs.Common.{◌≡◌, ℕ, ◌+◌, ◌-◌, ◌*◌, ◌/◌, ◌%◌, ◌^◌, ◌<◌, ◌≤◌, true, List, [], ◌∷◌, ◌++◌, length, take, drop, slice_index, refl, ap, ap₂, ◌∙◌, sym, subst, arith, append_assoc, length-append, length-drop}
+use Rattle.std.proofs.Common.{◌≡◌, ℕ, ◌+◌, ◌-◌, ◌*◌, ◌/◌, ◌%◌, ◌^◌, ◌<◌, ◌≤◌, List, [], ◌∷◌, ◌++◌, length, take, drop, slice_index, refl, ap, ◌∙◌, sym, subst, arith, append_assoc, length-append, length-drop}
 use Rattle.std.proofs.lemmas.List.{length-take-le, drop_at, take_at, take_all}
 use Rattle.byteorder.specs.Numbers.{big_number-reads_back}
 use Rattle.sums.specs.Sum.{IsRight, checksum_of}
-use Rattle.ipv4.specs.Header.{Header, header_of, options_of, payload_of}
+use Rattle.ipv4.specs.Header.{header_of, options_of, payload_of}
 use Rattle.fragments.specs.Fragment.{HasHeader, ipv4_in}
 use Rattle.byteorder.specs.Endian.{big_bytes}
-use Rattle.fragments.specs.Header.{fixed_summed, fixed_with, header_with}
+use Rattle.fragments.specs.Header.{fixed_summed, header_with}
 use Rattle.fragments.specs.declared.headers.Fields.{Fields}
 
 word-written : (x : ℕ) → x < 65536 → x / 256 % 256 * 256 + (x % 256 * 1 + 0) ≡ x

@@ -1,9 +1,9 @@
 -- What comes of a fragment, by what a call answered.
-use Rattle.std.proofs.Common.{◌≡◌, ◌⊎◌, inl, inr, ◌≤◌, ◌+◌, ℕ, Bool, false, cond, Option, Some, None, unwrap_or, Result, Ok, Err, OnOk, OnErr, List, [], ◌∷◌, ◌++◌, length, refl, ap, ◌∙◌, sym, subst, arith}
+use Rattle.std.proofs.Common.{◌≡◌, ◌⊎◌, inl, inr, ◌≤◌, ◌+◌, ℕ, Bool, false, cond, Option, Some, None, unwrap_or, Result, Ok, Err, OnOk, OnErr, List, [], length, ap, ◌∙◌, sym, subst}
 use Rattle.std.specs.List.{find, position}
 use Rattle.memory.specs.Memory.{WasRefused}
 use Rattle.fragments.specs.Fragment.{IsFragment, is_broken, trimmed}
-use Rattle.fragments.specs.Gathered.{AreKept, Datagram, Taking, arrived, begun, effect_of, held, is_named, joined, left_first, lost_for, refused, taken}
+use Rattle.fragments.specs.Gathered.{AreKept, Datagram, Taking, arrived, begun, effect_of, held, is_named, left_first, lost_for, refused, taken}
 use Rattle.fragments.specs.Memory.{LacksCopy, LacksWhole}
 use Rattle.fragments.specs.Name.{name_of}
 use Rattle.fragments.specs.Places.{fragments_at, joined_at, with_at}

@@ -1,5 +1,5 @@
 -- The fragments that are there at a side, and what comes of one more (RFC 791, section 3.2; RFC 815; RFC 5722).
-use Rattle.std.specs.Prelude.{◌≡◌, ◌≤◌, ℕ, ◌-◌, Bool, true, false, not, ◌==◌, ◌&&◌, ◌||◌, nat_le, nat_lt, Option, None, Some, unwrap_or, List, [], ◌∷◌, ◌++◌, length, drop, find, if◌then◌else◌}
+use Rattle.std.specs.Prelude.{◌≡◌, ◌≤◌, ℕ, ◌-◌, Bool, false, not, ◌==◌, ◌||◌, nat_le, nat_lt, Option, None, Some, unwrap_or, List, [], ◌∷◌, ◌++◌, length, drop, find, if◌then◌else◌}
 use Rattle.std.specs.List.{filter, count_by, list_any, AllByRecursion, IsDistinct}
 use Rattle.nat_types.specs.declared.gateways.Side.{Side}
 use Rattle.nat_types.specs.declared.gateways.Side.TheVariants.{Inside, Outside}

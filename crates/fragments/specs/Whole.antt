@@ -1,5 +1,5 @@
 -- The whole frame that the fragments of a datagram make (RFC 791, section 3.2; RFC 815; RFC 3168, section 5.3).
-use Rattle.std.specs.Prelude.{◌≡◌, ◌≤◌, ◌<◌, ℕ, ◌+◌, ◌-◌, ◌*◌, ◌/◌, ◌%◌, Bool, ◌==◌, ◌&&◌, Option, unwrap_or, List, [], ◌∷◌, ◌++◌, length, take, map, slice_index, find, if◌then◌else◌}
+use Rattle.std.specs.Prelude.{◌≡◌, ◌≤◌, ◌<◌, ℕ, ◌+◌, ◌-◌, ◌*◌, ◌/◌, ◌%◌, Bool, ◌==◌, ◌&&◌, unwrap_or, List, [], ◌∷◌, ◌++◌, length, take, map, slice_index, find, if◌then◌else◌}
 use Rattle.std.specs.List.{count_by, sum_by, list_any, range_with_len, AllByRecursion}
 use Rattle.ipv4.specs.Header.{header_of, options_of}
 use Rattle.fragments.specs.Fragment.{carried, carries, end_of, first_of, ipv4_in, is_last, starts}

@@ -22,12 +22,16 @@ fn is_cuttable(frame: &[u8]) -> bool
     let Ok(view) = EthView::parse(frame) else {
         return false;
     };
+    if view.ethertype() != EtherType::IPV4 {
+        return false;
+    }
     let Ok(packet) = Ipv4View::parse(view.body()) else {
         return false;
     };
-    view.ethertype() == EtherType::IPV4
-        && frame.len() == ETHERNET + packet.total_length()
-        && !packet.is_unbroken()
+    if frame.len() != ETHERNET + packet.total_length() {
+        return false;
+    }
+    !packet.is_unbroken()
 }
 
 /// Whether a frame has to be cut for an exit that takes `mtu` bytes of IPv4: it is longer, an IPv4 packet without padding,

@@ -27,6 +27,7 @@ const ICMP: u8 = 1;
 const NUMBERS: u16 = 32768;
 
 /// Another identification for the packet of a frame.
+#[derive(Clone, Copy)]
 struct Identification {
     value: u16,
 }

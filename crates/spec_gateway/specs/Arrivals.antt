@@ -1,5 +1,5 @@
 -- What a frame that comes in brings to be taken: itself, the whole frame that a fragment completes, or nothing.
-use Rattle.std.specs.Prelude.{ℕ, Bool, true, false, ◌==◌, ◌&&◌, ◌||◌, nat_lt, Option, None, Some, Result, Ok, Err, List, length, if◌then◌else◌}
+use Rattle.std.specs.Prelude.{ℕ, Bool, true, false, ◌==◌, ◌&&◌, ◌||◌, nat_lt, Option, None, Some, Result, Err, List, length, if◌then◌else◌}
 use Rattle.std.specs.Str.{bytes_eq}
 use Rattle.frames.specs.Frame.{Frame, frame_of}
 use Rattle.frames.specs.declared.ethernet.TheConstants.{LONGEST}

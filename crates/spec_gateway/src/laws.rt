@@ -1,12 +1,16 @@
 //! What is known of a gateway's step beside the laws of its step on whole frames. Each law is the contract of a function
 //! that does nothing.
-ghost use Rattle.std.specs.Prelude.{◌≡◌, ◌⊎◌, ◌++◌, ℕ, None, List, false, true};
+ghost use Rattle.std.specs.Prelude.{◌≡◌, ◌≢◌, ◌⊎◌, ℕ, None, List, false, map, true};
 ghost use Rattle.std.specs.Borrow.{Bor};
 ghost use Rattle.std.specs.List.{AllByRecursion};
 ghost use Rattle.nat_types.specs.declared.gateways.Side.{Side};
 ghost use Rattle.output.specs.Output.{Output, Sent};
 ghost use Rattle.packet_rules.specs.declared.networks.Networks.{Networks};
 ghost use Rattle.nat_types.specs.declared.gateways.GatewayId.{GatewayId};
+ghost use Rattle.nat_types.specs.declared.gateways.GatewayId.TheVariants.{Zero, One};
+ghost use Rattle.packet_rules.specs.Networks.{mtu_of};
+ghost use Rattle.fragments.specs.Bytes.{AreBytes};
+ghost use Rattle.fragments.specs.Cut.{cut, identified};
 ghost use Rattle.fragments.specs.Gathered.{IsKept, is_young, of_side};
 ghost use Rattle.spec_binding.specs.Books.{IsBook};
 ghost use Rattle.spec_step.specs.declared.events.Event.{Event};
@@ -19,12 +23,13 @@ ghost use Rattle.spec_step.specs.Steps.{clock_after};
 ghost use Rattle.spec_step.specs.Truly.{IsSetUp, Tells};
 ghost use Rattle.spec_gateway.specs.State.{GatewayState, KeepsParts, beginning};
 ghost use Rattle.spec_gateway.specs.Arrivals.{arrival};
-ghost use Rattle.spec_gateway.specs.Sendings.{all_pieces, is_cut, number_after, numbered};
+ghost use Rattle.spec_gateway.specs.Sendings.{all_pieces, is_cut, is_numbered, number_after, number_of, numbered, pieces_of};
 ghost use Rattle.spec_gateway.specs.Steps.{IsGatewayStep, hand_at, outcome_of, whole_event};
 ghost use Rattle.spec_gateway.specs.Inner.{AreOwnAt, TakesNothing, TakesWhole};
 ghost use Rattle.spec_gateway.specs.Without.{IsUncut, without};
 
 use fragments::{bounded, fragment_grammar};
+use ipv4::ipv4_grammar;
 use packet_rules::readings_law;
 use spec_step::{steps_pass_on, steps_say, steps_tell};
 
@@ -60,6 +65,19 @@ pub fn short_frames_stay()
         → (numbered networks id n frames ≡ frames) × (number_after networks n frames ≡ n)
         × (all_pieces networks frames ≡ frames) }
 {}
+
+/// A frame that is too long, with an identification of the gateway's, goes out in what its packet is cut into under that
+/// identification. No identification is of both gateways.
+pub fn pieces_are_numbered()
+    ensures pieces { (networks : Networks) (id : GatewayId) (n : ℕ) (f : Sent) → AreBytes f.bytes
+        → is_numbered networks f ≡ true
+        → pieces_of networks (record f { bytes = identified (number_of id n) f.bytes })
+        ≡ map (λ bytes. record { side = f.side; bytes = bytes })
+        (cut (mtu_of networks f.side) (number_of id n) f.bytes) }
+    ensures apart { (m n : ℕ) → number_of Zero m ≢ number_of One n }
+{
+    ipv4_grammar();
+}
 
 /// To all but the fragments that are there a step does nothing, or what a step on a whole event does: the event that came, or
 /// where that is a frame a frame of the same side. Notes and datagrams are those of that step, and frames differ in their

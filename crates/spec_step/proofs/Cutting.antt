@@ -23,6 +23,7 @@ use Rattle.interfaces.specs.Stations.{is_active}
 use Rattle.interfaces.specs.Tallies.{may_reply}
 use Rattle.packet_rules.specs.declared.networks.Direction.{Direction}
 use Rattle.packet_rules.specs.declared.networks.Direction.TheVariants as way
+use Rattle.packet_rules.specs.declared.networks.Network.{Network}
 use Rattle.packet_rules.specs.declared.readings.Asked.{Asked as Echo}
 use Rattle.packet_rules.specs.declared.readings.Reading.{Reading}
 use Rattle.packet_rules.specs.declared.readings.Reading.TheVariants.{Arp, Advert, Packet, Error, Asked}
@@ -33,7 +34,7 @@ use Rattle.packet_rules.specs.declared.translations.Translation.TheVariants.{Out
 use Rattle.packet_rules.specs.Errors.{error_direction}
 use Rattle.packet_rules.specs.Flows.{source_of}
 use Rattle.packet_rules.specs.Networks.{direction_of, exit_of, may_answer, mtu_of}
-use Rattle.packet_rules.specs.Steps.{and_then}
+use Rattle.packet_rules.specs.Steps.{and_then, reading_of}
 use Rattle.spec_step.specs.declared.events.Outcome.TheVariants.{Dropped}
 use Rattle.spec_step.specs.declared.plans.Plan.{Plan}
 use Rattle.spec_step.specs.declared.plans.Plan.TheVariants.{Send, Ask, AskAgain, Wait}
@@ -179,8 +180,8 @@ outcome-reply-short (Ok (reply.Ask hop)) short = λ e. cc
 outcome-reply-short (Ok (reply.AskAgain hop)) short = λ e. cc
 outcome-reply-short (Err reason) short = λ e. short cc
 
-pub read-short : (g : Shown) (side : Side) (bytes : List ℕ) → IsShort (reading_on g side bytes)
-read-short g side bytes = early-short (reading_on g side bytes) (reading-early side (station_on g side).network (is_active (station_on g side)) (is_up g) bytes)
+pub read-short : (side : Side) (network : Network) (active up : Bool) (bytes : List ℕ) → IsShort (reading_of side network active up bytes)
+read-short side network active up bytes = early-short (reading_of side network active up bytes) (reading-early side network active up bytes)
 
 pub never-long : Reads → (g : Shown) (side : Side) (bytes : List ℕ) → g.networks.pass ≡ true → is_unbroken (frame_of bytes).body ≡ false → verdict g side bytes ≢ Dropped TooLong
 never-long reads g side bytes pass cut = at (reading_on g side bytes) refl

@@ -25,12 +25,14 @@ ghost use Rattle.ipv4.specs.declared.flows.Flow.{Flow};
 ghost use Rattle.ipv4.specs.declared.packets.Size.{Size};
 ghost use Rattle.ipv4.specs.Header.{is_unbroken};
 ghost use Rattle.packet_rules.specs.declared.complaints.Complaint.TheVariants.{TooBig};
+ghost use Rattle.packet_rules.specs.declared.networks.Network.{Network};
 ghost use Rattle.packet_rules.specs.declared.networks.Networks.{Networks};
 ghost use Rattle.packet_rules.specs.declared.reasons.Reason.{Reason};
 ghost use Rattle.packet_rules.specs.declared.reasons.Reason.TheVariants.{Fragment, HostLimit, NoPort, TooLong};
 ghost use Rattle.packet_rules.specs.declared.translations.Translation.{Translation};
 ghost use Rattle.packet_rules.specs.Networks.{direction_of, mtu_of};
 ghost use Rattle.packet_rules.specs.Own.{complaint_of, exit_for};
+ghost use Rattle.packet_rules.specs.Steps.{reading_of};
 ghost use Rattle.spec_trace.specs.Past.{Idle};
 ghost use Rattle.spec_pair.specs.Talk.{note};
 ghost use Rattle.waiting.specs.Packets.{HeldPacket, hop_count};
@@ -538,8 +540,8 @@ pub fn steps_stay()
 /// dropped because it is too long: no packet that is translated, no error that is passed on, and no
 /// Echo to the box.
 pub fn never_too_long()
-    ensures read { (g : Shown) (side : Side) (bytes : List ℕ)
-        → reading_on g side bytes ≢ Err TooLong }
+    ensures read { (side : Side) (network : Network) (active up : Bool) (bytes : List ℕ)
+        → reading_of side network active up bytes ≢ Err TooLong }
     ensures cut { (g : Shown) (side : Side) (bytes : List ℕ) → g.networks.pass ≡ true
         → is_unbroken (frame_of bytes).body ≡ false
         → verdict g side bytes ≢ outcome.Dropped TooLong }

@@ -1,4 +1,4 @@
-use Rattle.std.proofs.Common.{◌<◌, ◌≤◌, ◌++◌, ◌∷◌, [], true, false, length, refl, sym, ◌∙◌, arith}
+use Rattle.std.proofs.Common.{◌++◌, ◌∷◌, [], true, false, length, refl, sym, ◌∙◌, arith}
 use Rattle.std.proofs.lemmas.Bool.{le-leb, le-ltb, lt-leb, lt-ltb, or_from, or_left, or_right}
 use Rattle.fragments.specs.Whole.{whole_length}
 use Rattle.fragments.proofs.Adding.{effect-is}

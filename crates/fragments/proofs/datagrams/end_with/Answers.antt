@@ -1,6 +1,5 @@
 use Rattle.std.proofs.Common.{◌<◌, List, ℕ, length, ap, sym, ◌∙◌, rules}
-use Rattle.ipv4.specs.Header.{header_of}
-use Rattle.fragments.specs.Fragment.{end_of, ipv4_in, is_last}
+use Rattle.fragments.specs.Fragment.{end_of, is_last}
 use Rattle.fragments.proofs.Adding.{end-before, end-behind, place-within}
 use Rattle.fragments.proofs.datagrams.end_with.Goals as goal
 

@@ -1,6 +1,6 @@
 use Rattle.std.proofs.Common.{◌<◌, List, ℕ, length, ap, sym, ◌∙◌, rules}
 use Rattle.ipv4.specs.Header.{header_of}
-use Rattle.fragments.specs.Fragment.{end_of, ipv4_in, starts}
+use Rattle.fragments.specs.Fragment.{ipv4_in, starts}
 use Rattle.fragments.proofs.Adding.{header-before, header-behind, place-within}
 use Rattle.fragments.proofs.datagrams.header_length_with.Goals as goal
 

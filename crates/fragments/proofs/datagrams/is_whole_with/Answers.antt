@@ -1,4 +1,4 @@
-use Rattle.std.proofs.Common.{◌==◌, ◌+◌, List, ℕ, length, ap, ap₂, sym, ◌∙◌}
+use Rattle.std.proofs.Common.{◌==◌, ◌+◌, List, ℕ, length, ap₂, sym, ◌∙◌}
 use Rattle.fragments.proofs.Adding.{counts-with, not-whole-with}
 use Rattle.fragments.proofs.datagrams.is_whole_with.Goals as goal
 

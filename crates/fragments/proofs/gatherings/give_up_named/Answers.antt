@@ -1,4 +1,4 @@
-use Rattle.std.proofs.Common.{◌≡◌, Option, None, Some, ℕ, ap, subst, sym, ◌∙◌}
+use Rattle.std.proofs.Common.{◌≡◌, None, Some, ap, subst, sym, ◌∙◌}
 use Rattle.std.specs.List.{position}
 use Rattle.fragments.specs.Fragment.{trimmed}
 use Rattle.fragments.specs.Gathered.{ended, is_named}

@@ -1,5 +1,4 @@
-use Rattle.std.proofs.Common.{◌≡◌, ◌≤◌, ℕ, Some, List, [], length, ap, ◌∙◌, sym, subst, arith}
-use Rattle.std.specs.List.{position}
+use Rattle.std.proofs.Common.{◌≤◌, ℕ, List, [], length, ap, ◌∙◌, sym, subst}
 use Rattle.fragments.specs.Gathered.{Datagram, effect_of, is_named}
 use Rattle.fragments.specs.Name.{name_of}
 use Rattle.fragments.specs.Places.{fragments_at}

@@ -1,4 +1,4 @@
-use Rattle.std.proofs.Common.{◌≡◌, ◌≤◌, ◌<◌, ◌+◌, List, ℕ, length, ap, subst, sym, ◌∙◌, arith, vec_len, vec_capacity}
+use Rattle.std.proofs.Common.{◌≡◌, ◌<◌, List, ℕ, length, ap, subst, sym, ◌∙◌, arith}
 use Rattle.fragments.specs.Gathered.{Datagram}
 use Rattle.fragments.specs.Places.{fragments_at, with_at, without_last_at}
 use Rattle.fragments.specs.Whole.{IsReady, reassembled, whole_length}

@@ -1,7 +1,7 @@
-use Rattle.std.proofs.Common.{◌≡◌, ◌⊎◌, ℕ, Bool, false, Option, Some, None, unwrap_or, IfOk, OnOk, OnErr, List, ap, ◌∙◌, sym, subst}
+use Rattle.std.proofs.Common.{◌≡◌, ◌⊎◌, ℕ, false, Option, Some, None, unwrap_or, IfOk, OnOk, OnErr, List, ap, ◌∙◌, sym, subst}
 use Rattle.std.specs.List.{position}
 use Rattle.fragments.specs.Fragment.{is_broken, trimmed}
-use Rattle.fragments.specs.Gathered.{Datagram, Taking, is_named, left_first, lost_for, taken}
+use Rattle.fragments.specs.Gathered.{Taking, is_named, left_first, taken}
 use Rattle.fragments.specs.Memory.{LacksCopy, LacksWhole}
 use Rattle.fragments.specs.Name.{name_of}
 use Rattle.fragments.specs.Places.{joined_at}

@@ -1,4 +1,4 @@
-use Rattle.std.proofs.Common.{◌≡◌, ◌+◌, ◌++◌, List, ℕ, length, ap, refl, ◌∙◌, sym}
+use Rattle.std.proofs.Common.{◌≡◌, ◌++◌, List, ℕ, ap, refl, ◌∙◌, sym}
 use Rattle.sums.specs.Sum.{ones_sum, word_sum}
 use Rattle.sums.proofs.Offered.{word_sum-append}
 use Rattle.fragments.specs.Header.{fixed_summed, fixed_with}

@@ -1,4 +1,4 @@
-use Rattle.std.proofs.Common.{ℕ, arith, rules}
+use Rattle.std.proofs.Common.{ℕ, arith}
 use Rattle.fragments.proofs.Sizes.{word-fits}
 use Rattle.fragments.proofs.numbering.renumbered.Goals as goal
 

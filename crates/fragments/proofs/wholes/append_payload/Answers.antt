@@ -1,8 +1,5 @@
-use Rattle.std.proofs.Common.{◌≡◌, ◌≤◌, ◌++◌, List, ℕ, length, replicate, subst, sym, ◌∙◌, ap, arith}
-use Rattle.std.specs.List.{AllByRecursion}
-use Rattle.fragments.specs.Fragment.{end_of}
-use Rattle.fragments.specs.Whole.{payload_end}
-use Rattle.fragments.proofs.Filling.{IsTail, bytes_to, tail-is}
+use Rattle.std.proofs.Common.{◌++◌, ℕ, ◌∙◌, ap, arith}
+use Rattle.fragments.proofs.Filling.{bytes_to, tail-is}
 use Rattle.fragments.proofs.wholes.append_payload.Goals as goal
 
 pub fill_tail-requires-clause-within : goal.fill_tail-requires-clause-within

@@ -1,4 +1,4 @@
-use Rattle.std.proofs.Common.{◌≡◌, ◌≤◌, ◌++◌, ◌∷◌, [], List, ℕ, length, ap, subst, sym, arith}
+use Rattle.std.proofs.Common.{List, ℕ, length, ap, subst, arith}
 use Rattle.frames.specs.Bytes.{Puts}
 use Rattle.fragments.specs.Fragment.{carried, end_of, first_of}
 use Rattle.fragments.proofs.Filling.{fill-begins, fill-ends, fill-goes, fill-long, fill-within}

@@ -1,6 +1,5 @@
-use Rattle.std.proofs.Common.{◌<◌, List, ℕ, length, ap, sym, ◌∙◌, arith, rules}
-use Rattle.fragments.specs.Fragment.{end_of, starts}
-use Rattle.fragments.specs.Whole.{payload_end}
+use Rattle.std.proofs.Common.{◌<◌, length, sym, ◌∙◌, arith, rules}
+use Rattle.fragments.specs.Fragment.{starts}
 use Rattle.fragments.proofs.Adding.{found-place, place-within}
 use Rattle.fragments.proofs.Placing.{none-counted}
 use Rattle.fragments.proofs.wholes.first_fragment.Goals as goal

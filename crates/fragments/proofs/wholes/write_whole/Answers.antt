@@ -1,4 +1,4 @@
-use Rattle.std.proofs.Common.{◌≡◌, ◌≤◌, ℕ, List, subst, sym, arith}
+use Rattle.std.proofs.Common.{◌≤◌, ℕ, List, subst, sym, arith}
 use Rattle.std.specs.List.{AllByRecursion}
 use Rattle.fragments.specs.Fragment.{end_of}
 use Rattle.fragments.proofs.Writing.{length-is}

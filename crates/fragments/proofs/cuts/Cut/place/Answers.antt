@@ -1,6 +1,6 @@
 use Rattle.std.proofs.Common.{◌≡◌, ◌≤◌, ◌<◌, ◌*◌, ℕ, length, ap, sym, subst, arith}
 use Rattle.ipv4.specs.Header.{header_of, payload_of}
-use Rattle.fragments.specs.Cut.{piece_count, step_of}
+use Rattle.fragments.specs.Cut.{step_of}
 use Rattle.fragments.proofs.Sizes.{count, counted, payload-size, place-eighths, place-within, sizes}
 use Rattle.fragments.proofs.cuts.Cut.place.Goals as goal
 

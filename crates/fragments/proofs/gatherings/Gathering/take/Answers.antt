@@ -1,4 +1,4 @@
-use Rattle.std.proofs.Common.{◌≡◌, ap, ◌∙◌, sym}
+use Rattle.std.proofs.Common.{ap, ◌∙◌, sym}
 use Rattle.fragments.specs.Gathered.{after_end}
 use Rattle.fragments.proofs.Ending.{ends-other, ends-whole}
 use Rattle.fragments.proofs.Takings.{held-other, refused-other}

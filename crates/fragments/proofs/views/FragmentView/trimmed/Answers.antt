@@ -1,5 +1,5 @@
 use Rattle.std.proofs.Common.{◌+◌, ap, take}
-use Rattle.fragments.specs.Fragment.{IsFragment, trimmed}
+use Rattle.fragments.specs.Fragment.{trimmed}
 use Rattle.fragments.proofs.Trimming.{trimmed-fragment}
 use Rattle.fragments.proofs.views.FragmentView.trimmed.Goals as goal
 

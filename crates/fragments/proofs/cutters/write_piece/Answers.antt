@@ -1,0 +1,14 @@
+use Rattle.std.proofs.Common.{subst, sym}
+use Rattle.ipv4.specs.Header.{IsIpv4}
+use Rattle.fragments.proofs.Longs.{long-is}
+use Rattle.fragments.proofs.cutters.write_piece.Goals as goal
+
+pub invariant_of-body : goal.invariant_of-body
+invariant_of-body c =
+    let is = long-is c.args.mtu c.args.frame.now c.requires.long in
+    record { whole = is.packet.whole }
+
+pub invariant_of-packet : goal.invariant_of-packet
+invariant_of-packet c =
+    let is = long-is c.args.mtu c.args.frame.now c.requires.long in
+    record { right = subst IsIpv4 (sym c.body.ensures) is.packet.packet }
