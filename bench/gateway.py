@@ -3,9 +3,9 @@
 
     bench/gateway.py [--program FILE] [--turns N] [--count N] [--jobs N] [--keep FILE] [PART..]
 
-PART is instructions, time, memory, churn or many; without one all are measured. It builds crates/bench by
+PART is instructions, fragments, time, memory, churn or many; without one all are measured. It builds crates/bench by
 `rt run`, or takes the program of --program, which is built already; and bench/gateway/bare.rs by `rustc -O`, for the same
-processor. Both get the same words.
+processor. Both get the same words, but for datagrams in fragments, which the plain one doesn't know.
 
 Instructions are counted by valgrind's cachegrind, exactly and whatever else runs: two runs, of which one does more, and
 the difference divided. What a program does before and after is in both. Each round of a `rep` counts as one, so memory that
@@ -29,7 +29,7 @@ import tempfile
 
 HERE = pathlib.Path(__file__).resolve().parent
 CRATE = HERE.parent / "crates/bench"
-PARTS = ("instructions", "time", "memory", "churn", "many")
+PARTS = ("instructions", "fragments", "time", "memory", "churn", "many")
 PAIRS = (1, 1000, 40_000)
 KINDS = [(protocol, size, side) for protocol in ("udp", "tcp") for size in (44, 1500) for side in ("inside", "outside")]
 WAYS = {"inside": "outward", "outside": "inward"}
@@ -54,11 +54,14 @@ PORTS = {
     "the Begin of a batch": "ports begin {}",
     "a batch of 20,000 pairs, both boxes together": "ports batch {}",
 }
+# Datagrams of 3,000 bytes in three fragments, which go out in three; and the packet beside which they stand.
+FRAGMENTS = {WAYS[side]: (f"pass fragments {side} {{}} 1000", f"pass kind {side} udp 1500 {{}} 1000") for side in WAYS}
 # What must ask for no memory: the words of a shorter and of a longer run, and how many more things the longer one does.
 MEMORY = {
     **{f"{protocol} {size} bytes, {WAYS[side]}, 1,000 pairs": (f"kind {side} {protocol} {size} {{}} 1000", 20_000, 40_000)
        for protocol, size, side in KINDS},
     **{name: (words, short, long) for name, (words, short, long, _) in STEPS.items()},
+    **{f"datagrams of 3,000 bytes in three fragments, {way}": (words, 5000, 10_000) for way, (words, _) in FRAGMENTS.items()},
     "flows that come and go, 2,000 at a time": ("churn {} 2000", 2, 6),
     **{name: (words, 0, 1) for name, words in PORTS.items()},
 }
@@ -154,6 +157,41 @@ def three(name, gateway, plain):
     if plain is None:
         return [name, f"{gateway:,.0f}", "", ""]
     return [name, f"{gateway:,.0f}", f"{plain:,.0f}", f"{gateway / max(plain, 1):.2f}"]
+
+
+def kind_of(protocol, size, side):
+    """The words of a kind of packets, with a place for how often."""
+    return f"kind {side} {protocol} {size} {{}} 1000"
+
+
+def of_one(program, words):
+    """Instructions of one of the things that a program does."""
+    more, less = (instructions(program, words.format(count)) for count in (5000, 1000))
+    return (more - less) / 4000
+
+
+def count_fragments(program, jobs):
+    """Instructions of datagrams in fragments, and of packets that are none, with `pass` and without."""
+    words = {each for both in FRAGMENTS.values() for each in both}
+    words |= {before + kind_of(*kind) for kind in KINDS for before in ("", "pass ")}
+    with concurrent.futures.ThreadPoolExecutor(jobs) as pool:
+        waits = {each: pool.submit(of_one, program, each) for each in sorted(words)}
+        return {each: wait.result() for each, wait in waits.items()}
+
+
+def tell_fragments(counted):
+    print("Instructions of a UDP datagram of 3,000 bytes in three fragments, which goes out in three:\n")
+    rows = []
+    for way, (whole, packet) in FRAGMENTS.items():
+        rows.append([way, f"{counted[whole]:,.0f}", f"{counted[packet]:,.0f}", f"{counted[whole] / counted[packet]:.2f}"])
+    table(["", "a datagram", "a UDP packet of 1,500 bytes", "ratio"], rows)
+    print("Instructions of a packet that is no fragment:\n")
+    rows = []
+    for protocol, size, side in KINDS:
+        without, with_it = (counted[before + kind_of(protocol, size, side)] for before in ("", "pass "))
+        name = f"{protocol}, {size:,} bytes, {WAYS[side]}"
+        rows.append([name, f"{without:,.0f}", f"{with_it:,.0f}", f"{with_it - without:+,.0f}"])
+    table(["a packet", "without `pass`", "with `pass`", "more"], rows)
 
 
 def kinds_table(text):
@@ -299,6 +337,7 @@ def main():
             print("No rustc: nothing stands beside the gateway.\n")
         steps = {
             "instructions": (lambda: count_all(programs, options.jobs), tell_instructions, "valgrind"),
+            "fragments": (lambda: count_fragments(programs["gateway"], options.jobs), tell_fragments, "valgrind"),
             "time": (lambda: time_all(programs, options), tell_time, None),
             "memory": (lambda: ask_all(made, programs), tell_memory, "cc"),
             "churn": (lambda: churn(programs["gateway"], options.rounds), tell_churn, None),

@@ -26,6 +26,7 @@ CRATE = pathlib.Path(__file__).resolve().parent.parent / "crates" / "cases_hosti
 sys.path.insert(0, str(CRATE / "second_reading"))
 
 import audit  # noqa: E402
+import fragments  # noqa: E402
 import vectors  # noqa: E402
 from hostile import SETTINGS, Script  # noqa: E402
 
@@ -36,6 +37,8 @@ ALL, GATE = range(1, 501), range(1, 51)
 def make(seeds):
     """The scripts of these seeds; the second audit finds nothing in them, and each fault that is planted."""
     audit.self_test()
+    fragments.self_test()
+    vectors.self_test(DATA)
     scripts = [Script(seed, DATA) for seed in seeds]
     faults = [fault for script in scripts for fault in script.faults]
     assert not faults, "\n".join(faults)
@@ -68,7 +71,7 @@ def printed(program, scripts):
     """What the program prints where these scripts lie."""
     with tempfile.TemporaryDirectory() as name:
         folder = pathlib.Path(name)
-        for file in ["vectors.cases", "S.toml", *(f"{settings}.toml" for settings in SETTINGS)]:
+        for file in ["vectors.cases", "S.toml", "P.toml", *(f"{settings}.toml" for settings in SETTINGS)]:
             shutil.copy(DATA / file, folder)
         written(scripts, folder)
         run = subprocess.run([program], cwd=folder, capture_output=True, text=True, timeout=600, check=False)

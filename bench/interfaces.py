@@ -6,7 +6,8 @@
 KIND is natpair, bare or kernel. All three stand in the same namespaces between the same virtual cables, one at a time,
 in turns: a host inside, the box, and a host outside that is the router too. One sender sends datagrams as fast as it
 can, in frames of 64 bytes (46 of them a packet, 14 the Ethernet header, 4 the checksum that a real cable adds) and
-in packets of 1,500; then one connection of iperf3; then questions and answers, one at a time. Printed are medians.
+in packets of 1,500; then datagrams of 3,000 bytes, each in three packets, and packets of 1,500, as many packets a second of
+the one as of the other; then one connection of iperf3; then questions and answers, one at a time. Printed are medians.
 
 Where a tool is missing it says which, and installs it by apt-get where it can. Each of the sender, the box and the
 receiver has a processor of its own where there are enough, and goes before other work. It needs root.
@@ -41,6 +42,8 @@ VIRTUAL = {"inside": "00:00:5e:00:01:0b", "outside": "00:00:5e:00:01:0a"}
 PORT = 7700
 # The bytes of a datagram in a frame of 64 bytes, and in a packet of 1,500.
 SIZES = {"64": 18, "1500": 1472}
+# The bytes of a datagram in one packet of 1,500, and in three packets; and how many are sent a second, so that few are lost.
+PACED = {"one": (1472, 30_000), "three": (3000, 10_000)}
 QUESTIONS = 1000
 # The processors of the sender, the box and the receiver.
 SENDER, BOX, RECEIVER = {0}, {1}, {2}
@@ -175,12 +178,13 @@ class Lab:
             self.process.stdout.close()
             self.process = None
 
-    def packets(self, size):
-        """Packets a second, the box's own time a packet and all processors' time a packet, in nanoseconds."""
+    def packets(self, size, rate=0):
+        """Datagrams a second, the box's own time for each and all processors' time for each, in nanoseconds. They are sent as
+        fast as they can be, or so many a second."""
         sink = self.far.start(*on(RECEIVER, (self.traffic, "sink", str(PORT), str(size))), stdout=subprocess.PIPE)
         sink.stdout.readline()
         before, worked = self.process and ran(self.process), busy()
-        sender = (self.traffic, "send", ROUTER, str(PORT), str(size), str(self.options.seconds))
+        sender = (self.traffic, "send", ROUTER, str(PORT), str(size), str(self.options.seconds), str(rate))
         sent = int(self.host.run(*on(SENDER, sender)))
         time.sleep(0.2)
         after, worked = self.process and ran(self.process), busy() - worked
@@ -189,7 +193,8 @@ class Lab:
         if count < 2:
             raise SystemExit(f"interfaces: {count} of {sent} packets came")
         own = (after - before) / count if self.process else None
-        return {"rate": count / lasted * 1e9, "own": own, "all": worked / count, "sent": sent / self.options.seconds}
+        return {"rate": count / lasted * 1e9, "own": own, "all": worked / count, "sent": sent / self.options.seconds,
+                "lost": max(sent - count, 0) / sent}
 
     def stream(self):
         """Bits a second of one connection of iperf3."""
@@ -216,6 +221,7 @@ class Lab:
         try:
             self.trips()
             found = {name: self.packets(size) for name, size in SIZES.items()}
+            found |= {name: self.packets(size, rate) for name, (size, rate) in PACED.items()}
             found["stream"] = self.stream()
             found["trips"] = self.trips()
             return found
@@ -263,6 +269,7 @@ def tell(turns):
         own[size] = row(f"the box's own time a packet, {size} bytes, us", turns, lambda turn, size=size: turn[size]["own"],
                         1000, 2)
         row(f"all processors' time a packet, {size} bytes, us", turns, lambda turn, size=size: turn[size]["all"], 1000, 2)
+    paced = tell_paced(turns)
     row("one connection, Mbit/s", turns, lambda turn: turn["stream"], 1_000_000)
     row("round trip, us", turns, lambda turn: turn["trips"]["median"], 1000, 1)
     row("round trip, the slowest hundredth, us", turns, lambda turn: turn["trips"]["late"], 1000, 1)
@@ -272,6 +279,19 @@ def tell(turns):
               own[size].get("natpair"))
         ratio(f"{size} bytes: natpair's packets a second, of kernel NAT's", rates[size].get("natpair"),
               rates[size].get("kernel"))
+    for kind in paced["three"]:
+        ratio(f"{kind}: its own time for a datagram in three packets, of that for three in one each", paced["three"][kind],
+              3 * paced["one"][kind])
+
+
+def tell_paced(turns):
+    """The rows of datagrams in one packet and in three; the medians of the box's own time for each."""
+    own = {}
+    for name, (size, rate) in PACED.items():
+        text = f"{size:,} bytes, {rate:,} a second"
+        own[name] = row(f"{text}: own time, us", turns, lambda turn, name=name: turn[name]["own"], 1000, 2)
+        row(f"{text}: lost, %", turns, lambda turn, name=name: turn[name]["lost"], 0.01, 2)
+    return own
 
 
 def options_of(words):

@@ -35,6 +35,7 @@ def rows(networks):
         "mtu": {"inside": {"mtu": 1400}, "outside": {"mtu": 1300}},
         "router": {"outside": {"router": SECOND_ROUTER}},
         "echo, errors": {"icmp": {"echo": False, "errors": False}},
+        "pass": {"fragments": {"pass": False}},
         "neighbour": {"neighbour": neighbours(networks)},
         "inside_ip, outside_ip": of_both(lambda n: {"inside_ip": f"192.168.1.{4 + n}", "outside_ip": f"192.0.2.{4 + n}"}),
         "inside_mac, outside_mac": of_both(

@@ -6,7 +6,7 @@ import struct
 import time
 
 from cards import SO_RCVBUFFORCE, SOL_PACKET, card
-from packets import ECHO, ICMP, TCP, UDP
+from packets import ECHO, ICMP, PLACE, TCP, UDP
 from pair import SERVER, SIDES
 
 SO_ATTACH_FILTER = 26
@@ -69,10 +69,15 @@ def here(moment):
     return moment - time.time() + time.monotonic()
 
 
+def has_no_ports(frame):
+    """Whether it is a fragment that isn't its datagram's first."""
+    return int.from_bytes(frame[20:22], "big") & PLACE != 0
+
+
 def marks_of(frame):
     """A frame's protocol, ends, and what marks its flow on both sides, if anything does: the first
     number of a connection, the text of a question, or that of a ping."""
-    if len(frame) < 42 or frame[12:14] != b"\x08\x00" or frame[23] not in NAMES:
+    if len(frame) < 42 or frame[12:14] != b"\x08\x00" or frame[23] not in NAMES or has_no_ports(frame):
         return None
     start = 14 + (frame[14] & 15) * 4
     if frame[23] == ICMP:

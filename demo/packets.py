@@ -8,7 +8,7 @@ ARP, IPV4 = 0x0806, 0x0800
 ICMP, TCP, UDP, VRRP = 1, 6, 17, 112
 ECHO, REPLY = 8, 0
 FIN, SYN, RST, PSH, ACK = 1, 2, 4, 8, 16
-MORE_FRAGMENTS, DONT_FRAGMENT = 0x2000, 0x4000
+MORE_FRAGMENTS, DONT_FRAGMENT, PLACE = 0x2000, 0x4000, 0x1FFF
 EVERYBODY = b"\xff" * 6
 VRRP_MAC = bytes.fromhex("01005e000012")
 VRRP_GROUP = "224.0.0.18"
@@ -56,6 +56,21 @@ def ipv4(source, target, protocol, payload, header=PLAIN):
                        header.identification, header.fragment, header.ttl, protocol, 0,
                        ip_bytes(source), ip_bytes(target)) + header.options
     return head[:10] + checksum(head).to_bytes(2, "big") + head[12:] + payload
+
+
+def fragment_of(head, word, part):
+    """A packet with this header but for its length, and its flags and offset, which are `word`; and this payload."""
+    head = b"".join((head[:2], (len(head) + len(part)).to_bytes(2, "big"), head[4:6], word.to_bytes(2, "big"), head[8:10],
+                     bytes(2), head[12:]))
+    return head[:10] + checksum(head).to_bytes(2, "big") + head[12:] + part
+
+
+def cut(packet, most=1500):
+    """The fragments, in order, in which a packet without options goes where so many bytes are taken at once."""
+    size = (packet[0] & 15) * 4
+    head, body, share = packet[:size], packet[size:], (most - size) // 8 * 8
+    return [fragment_of(head, start // 8 | MORE_FRAGMENTS * (start + share < len(body)), body[start : start + share])
+            for start in range(0, len(body), share)]
 
 
 def transport_sum(source, target, protocol, segment):
@@ -148,6 +163,15 @@ class Packet:
         self.payload = body[length : self.length]
 
     @property
+    def is_fragment(self):
+        return self.fragment & (MORE_FRAGMENTS | PLACE) != 0
+
+    @property
+    def start(self):
+        """Which byte of a datagram's payload its own first one is."""
+        return (self.fragment & PLACE) * 8
+
+    @property
     def source_port(self):
         """Of a query its identifier, which stands for both ports."""
         return int.from_bytes(self.payload[4:6] if self.protocol == ICMP else self.payload[:2], "big")
@@ -172,3 +196,28 @@ def is_advert(frame):
 
 def is_arp(frame, operation):
     return len(frame) >= 42 and frame[12:14] == b"\x08\x06" and frame[21] == operation
+
+
+def joined(packets):
+    """The packet that fragments make, in whatever order they are; None where a byte is missing, or is there twice."""
+    found, body = sorted(packets, key=lambda packet: packet.start), b""
+    for packet in found:
+        if packet.start != len(body) or bool(packet.fragment & MORE_FRAGMENTS) != (packet is not found[-1]):
+            return None
+        body += packet.payload
+    size = len(found[0].options) + 20
+    frame = found[0].frame
+    return Packet(frame[:14] + fragment_of(frame[14 : 14 + size], found[0].fragment & DONT_FRAGMENT, body))
+
+
+def wholes(frames):
+    """The packets that the fragments among some frames make, in order. Of a fragment that comes twice one counts."""
+    there, found = {}, []
+    for packet in map(Packet, frames):
+        name = packet.frame[:12], packet.source, packet.target, packet.protocol, packet.identification
+        parts = there.setdefault(name, {})
+        parts.setdefault(packet.start, packet)
+        if whole := joined(parts.values()):
+            found.append(whole)
+            del there[name]
+    return found

@@ -33,12 +33,16 @@ def ask(current, rate, seconds):
     return rate, asked, lost, f"{lost / asked:.0%}", f"{gap} ms", f"{taken(box) - before:.2f} s"
 
 
+def serve_load(current):
+    words = (*PYTHON, str(FOLDER / "load.py"), "echo", SERVER, str(LOAD_PORT))
+    echo = current.networks.server.start(*words, stdout=subprocess.PIPE)
+    if echo.stdout.readline() != b"serving\n":
+        raise SystemExit("demo: the server of the load doesn't run")
+
+
 def rates(options):
     with scene(options, options.capture, bool(options.capture)) as current:
-        words = (*PYTHON, str(FOLDER / "load.py"), "echo", SERVER, str(LOAD_PORT))
-        echo = current.networks.server.start(*words, stdout=subprocess.PIPE)
-        if echo.stdout.readline() != b"serving\n":
-            raise SystemExit("demo: the server of the load doesn't run")
+        serve_load(current)
         begun = time.monotonic()
         rows = [ask(current, rate, options.time) for rate in options.rates or RATES]
         moved = [number for moment, _, number in current.observer.changes if moment > begun and number == 1]

@@ -1,12 +1,9 @@
-"""What the standards ask, measured on the running pair from outside, and held against docs/RFC.md."""
+"""What the standards ask, measured on the running pair from outside, and held against docs/RFC.md. The pair has `pass`."""
 
-import contextlib
 import functools
 import math
 import signal
-import tempfile
 import time
-from pathlib import Path
 from typing import NamedTuple
 
 import rfc_page
@@ -14,6 +11,7 @@ from benches import Couple, Scripted, Wired
 from pair import SETTINGS
 from rfc_clock import BY_THE_CLOCK, both_boxes, no_room
 from rfc_errors import OF_ERRORS
+from rfc_fragments import OF_FRAGMENTS, echoes, waiting
 from rfc_hosts import by_hosts
 from rfc_linux import at_linux
 from rfc_own import AT_ITSELF, by_default, nobody_there, too_long_in, too_long_out
@@ -21,7 +19,7 @@ from rfc_packets import AT_A_BOX
 from rfc_pings import OF_PINGS, Pings, through_a_kill
 from rfc_programs import at_a_narrow_side, by_programs
 from rfc_routers import BY_THE_TABLE, ended, on_the_wire, taken_over
-from scene import scene, show
+from scene import scene, settings_with, show
 
 # What a settings file has in the place of what stands in the demo's: two ports, sides that take 1,400 bytes, and no `[icmp]`.
 TWO_PORTS = ("zero = [20000, 39999]", "zero = [20000, 20001]")
@@ -74,23 +72,9 @@ class Fresh:
         return self.make(lines)
 
 
-@contextlib.contextmanager
-def settings_with(*changes):
-    """A settings file that is the demo's but for these changes, each a text and what stands in its place."""
-    text = SETTINGS.read_text(encoding="utf-8")
-    for old, new in changes:
-        if old not in text:
-            raise SystemExit(f"demo: {SETTINGS.name} has no {old!r}")
-        text = text.replace(old, new)
-    with tempfile.TemporaryDirectory(prefix="natpair-rfc-") as folder:
-        file = Path(folder) / SETTINGS.name
-        file.write_text(text, encoding="utf-8")
-        yield file
-
-
 def by_sim(options, report):
     fresh = Fresh(options.program, SETTINGS)
-    for probe in (*BY_THE_CLOCK, *BY_THE_TABLE, nobody_there):
+    for probe in (*BY_THE_CLOCK, *BY_THE_TABLE, nobody_there, waiting):
         probe(fresh, report)
     both_boxes(functools.partial(Couple, options.program, SETTINGS), report)
     for changes, probes in (((TWO_PORTS,), (no_room,)), ((SILENT,), (by_default,)),
@@ -103,7 +87,7 @@ def by_sim(options, report):
 def at_box(current, number, report, alive):
     """Each probe at a box; `alive` are the boxes that run."""
     bench = Wired(number, current)
-    for probe in (*AT_A_BOX, *OF_ERRORS, *OF_PINGS, *AT_ITSELF):
+    for probe in (*AT_A_BOX, *OF_FRAGMENTS, *OF_ERRORS, *OF_PINGS, *AT_ITSELF, echoes):
         probe(bench, report)
     on_the_wire(bench, report)
     by_hosts(current, bench, report)

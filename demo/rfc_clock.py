@@ -7,8 +7,8 @@ looked at in a run of its own.
 import os
 
 from benches import HOSTS, REMOTES, SEQUENCE, End, is_error
-from packets import (ACK, DONT_FRAGMENT, ECHO, FIN, ICMP, IPV4, PLAIN, PSH, RST, SYN, TCP, UDP, ethernet, icmp, ipv4, tcp,
-                     udp)
+from packets import (ACK, DONT_FRAGMENT, ECHO, FIN, ICMP, IPV4, PLAIN, PSH, RST, SYN, TCP, UDP, ethernet, icmp, ipv4,
+                     is_ipv4, tcp, udp)
 from rfc_packets import LONGEST, PLACES, arrived, port_of, told, yes
 
 HOST, REMOTE, STRANGER = End(HOSTS[0], 5000), End(REMOTES[0], 53), End(REMOTES[1], 9)
@@ -214,14 +214,14 @@ def errors(fresh, report):
 
 
 def too_large(fresh, report):
-    """A packet of one byte more than an outside network of 1,500 bytes takes."""
+    """A packet of one byte more than an outside network of 1,500 bytes takes: one that isn't to be cut, and one that may be."""
     bench = fresh()
-    packet = ipv4(HOSTS[0].address, PLACES[0][0], UDP, udp(HOST.place, PLACES[0], bytes(LONGEST - 27)),
-                  PLAIN._replace(fragment=DONT_FRAGMENT))
-    bench.put("inside", ethernet(bench.own_mac("inside"), HOSTS[0].mac, IPV4, packet))
-    found = bench.heard(lambda frame: is_error(frame, packet[12:28]), 0)
-    report.note(bench, "4787 REQ-13 d", f"{LONGEST + 1} bytes, not to be cut, are answered by an error", yes(found),
-                bool(found))
+    for fragment, what in ((DONT_FRAGMENT, "not to be cut, are answered by an error"), (0, "which may be cut, go out")):
+        packet = ipv4(HOSTS[0].address, PLACES[0][0], UDP, udp(HOST.place, PLACES[0], bytes(LONGEST - 27)),
+                      PLAIN._replace(fragment=fragment))
+        sent = bench.frame("inside", ethernet(bench.own_mac("inside"), HOSTS[0].mac, IPV4, packet))
+        found = any(is_error(frame, packet[12:28]) if fragment else is_ipv4(frame) for _, frame in sent)
+        report.note(bench, "4787 REQ-13 d", f"{LONGEST + 1} bytes, {what}", yes(found), found)
 
 
 def no_room(narrow, report):

@@ -9,6 +9,7 @@ from namespaces import Namespace
 from packets import virtual_mac
 from pair import ROUTER, SETTINGS, SIDES, Surroundings
 from rfc_errors import OF_ERRORS
+from rfc_fragments import OF_FRAGMENTS
 from rfc_hosts import by_hosts
 from rfc_packets import AT_A_BOX
 from rfc_pings import OF_PINGS
@@ -20,7 +21,7 @@ RULES = ("add table ip nat; add chain ip nat out { type nat hook postrouting pri
 MEETS = ("4787 REQ-12 b", "4787 REQ-14", "5382 REQ-2", "5382 REQ-9", "5508 REQ-1 a", "5508 REQ-1 b", "5508 REQ-4",
          "5508 REQ-10 a", "5508 REQ-10 b")
 DOES_NOT = ("4787 REQ-8", "4787 REQ-9", "5382 REQ-3", "5382 REQ-4 a", "5382 REQ-8", "5508 REQ-3", "5508 REQ-5",
-            "5508 REQ-7")
+            "5508 REQ-7", "7857 10 a", "6864 4.3 a")
 
 
 class Kernel:
@@ -58,7 +59,7 @@ def at_linux(report, page):
         current = Kernel(stack)
         bench = Wired(0, current)
         bench.name = "linux"
-        for probe in (*AT_A_BOX, *OF_ERRORS, *OF_PINGS):
+        for probe in (*AT_A_BOX, *OF_FRAGMENTS, *OF_ERRORS, *OF_PINGS):
             probe(bench, report)
         by_hosts(current, bench, report)
     heads = ["requirement", "at", "expected", "seen", "verdict"]

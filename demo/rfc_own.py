@@ -4,7 +4,7 @@ import os
 
 from benches import HOSTS, REMOTES, SEQUENCE, SILENCE, PATIENCE, End, is_error
 from packets import (DONT_FRAGMENT, ECHO, EVERYBODY, ICMP, IPV4, MORE_FRAGMENTS, PLAIN, REPLY, SYN, TCP, UDP, Packet,
-                     ethernet, icmp, is_ipv4, ipv4, tcp, udp)
+                     ethernet, icmp, is_ipv4, ipv4, tcp, udp, wholes)
 from pair import SIDES
 from rfc_errors import TTL_OVER
 from rfc_packets import FREE, LONGEST, PLACES, yes
@@ -19,6 +19,8 @@ LONGEST_ERROR, LONGEST_QUOTE = 576, 548
 BURST, MOST = 40, 20
 # What the narrow settings' sides take.
 WIDTH = 1400
+# What a packet carries of which parts may come out: no two of its bytes that lie near each other are the same.
+TEXT = bytes(range(251))
 # An address of the outside network that nobody has.
 NOBODY = "192.0.2.200"
 
@@ -203,17 +205,31 @@ AT_ITSELF = (answers, long_answers, fields, to_everybody, ends_here, is_silent_a
 
 def of_size(source, place, protocol, size, fragment):
     """A packet of so many bytes, of one of the protocols that have pairs."""
-    header = PLAIN._replace(fragment=fragment)
-    inner = {UDP: lambda: udp(source, place, bytes(size - 28)), TCP: lambda: tcp(source, place, SYN, bytes(size - 40)),
-             ICMP: lambda: icmp(ECHO, 0, source[1].to_bytes(2, "big") + SEQUENCE, bytes(size - 28))}[protocol]()
+    header, text = PLAIN._replace(fragment=fragment), TEXT * (size // len(TEXT) + 1)
+    inner = {UDP: lambda: udp(source, place, text[: size - 28]), TCP: lambda: tcp(source, place, SYN, text[: size - 40]),
+             ICMP: lambda: icmp(ECHO, 0, source[1].to_bytes(2, "big") + SEQUENCE, text[: size - 28])}[protocol]()
     return ipv4(source[0], place[0], protocol, inner, header)
 
 
-def goes_on(bench, station, packet):
-    """Whether a packet comes out at the other side, of whatever length."""
+def sent_on(bench, station, packet, side):
+    """The packets that a station's one comes out as at a side."""
     bench.put(station.side, ethernet(bench.own_mac(station.side), station.mac, IPV4, packet))
-    other = next(side for side in SIDES if side != station.side)
-    return any(side == other and is_ipv4(frame) for side, frame in sent_by(bench))
+    return [frame for where, frame in sent_by(bench) if where == side and is_ipv4(frame)]
+
+
+def is_cut(found, packet, most):
+    """Whether what came out is one packet's, in pieces of at most so many bytes, with all that stands behind its ports and
+    checksum."""
+    pieces, made = [Packet(frame) for frame in found], wholes(found)
+    return (len(pieces) > 1 and max(piece.length for piece in pieces) <= most
+            and not any(piece.fragment & DONT_FRAGMENT for piece in pieces)
+            and [each.length for each in made] == [len(packet)] and made[0].payload[24:] == packet[44:])
+
+
+def note_cut(bench, report, what, found, packet):
+    right = is_cut(found, packet, WIDTH)
+    seen = f"{len(found)} fragments" if right else "comes out otherwise" if found else "nothing"
+    report.note(bench, "4787 REQ-13 c", f"{what} of {len(packet):,} bytes, which may be cut", seen, right)
 
 
 def sent_by(bench):
@@ -234,10 +250,10 @@ def too_long_out(narrow, report):
         most = told and found.payload[4:8] == said
         report.note(bench, "1191 4", f"{name}: the error has the side's MTU, {WIDTH:,}",
                     f"{int.from_bytes(found.payload[4:8], 'big'):,}" if found else "nothing", most)
-        cut = goes_on(bench, HOSTS[0], of_size(source, PLACES[0], protocol, WIDTH + 1, 0))
-        report.note(bench, "4787 REQ-13 c", f"{name} of {WIDTH + 1:,} bytes, which may be cut, goes out", yes(cut), cut)
-        fits = goes_on(bench, HOSTS[0], of_size(source, PLACES[0], protocol, WIDTH, DONT_FRAGMENT))
-        report.note(bench, "4787 REQ-13 a", f"{name} of {WIDTH:,} bytes, not to be cut, goes out", yes(fits), fits)
+        packet = of_size(source, PLACES[0], protocol, LONGEST, 0)
+        note_cut(bench, report, f"outward {name}", sent_on(bench, HOSTS[0], packet, "outside"), packet)
+        fits = sent_on(bench, HOSTS[0], of_size(source, PLACES[0], protocol, WIDTH, DONT_FRAGMENT), "outside")
+        report.note(bench, "4787 REQ-13 a", f"{name} of {WIDTH:,} bytes, not to be cut, goes out", yes(fits), len(fits) == 1)
 
 
 def too_long_in(narrow, report):
@@ -251,6 +267,10 @@ def too_long_in(narrow, report):
     report.note(bench, "1191 4", f"inward {WIDTH + 1:,} bytes, not to be cut: the error has the inside's MTU", yes(found), most)
     same = bool(found) and found.payload[8:] == packet[:LONGEST_QUOTE]
     report.note(bench, "1122 3.2.2 a", "inward: the packet in the error is as it came", "so" if same else yes(found), same)
+    other = HOSTS[1].address, 5001
+    for what, station, end in (("inward UDP", REMOTES[0], PLACES[0]), ("UDP between two hosts", HOSTS[1], other)):
+        packet = of_size(end, place, UDP, LONGEST, 0)
+        note_cut(bench, report, what, sent_on(bench, station, packet, "inside"), packet)
 
 
 def nobody_there(fresh, report):

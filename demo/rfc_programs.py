@@ -16,6 +16,8 @@ KINDS = {"UDP": (), "TCP": ("-T", "-p", str(TCP_PLACE[1])), "Echo": ("-I",)}
 TRACEROUTE = ("traceroute", "-n", "-N", "1", "-q", "1", "-w", "2", "-m", "6")
 # A packet of WIDTH bytes and 28 more: `ping` counts its data alone.
 PING = ("ping", "-n", "-c", "1", "-W", "1")
+# How many bytes of data an Echo in fragments has.
+LARGE = (3000, 65_000)
 LONG = ("-M", "do", "-s", str(WIDTH))
 NARROW_PATH = re.compile(r"^ *(\d+): +(\S+).* pmtu (\d+)", re.MULTILINE)
 
@@ -28,8 +30,10 @@ def output(current, space, *words):
     return child.communicate()[0].decode()
 
 
-def is_answered(current, space, address):
-    return f"bytes from {address}:" in output(current, space, *PING, address)
+def is_answered(current, space, address, size=56):
+    """Whether a ping of so many bytes of data is answered with all of them."""
+    found = output(current, space, *PING, "-s", str(size), address)
+    return f"{size + 8} bytes from {address}:" in found and "wrong data" not in found
 
 
 def places(current, side, alive):
@@ -46,6 +50,13 @@ def pinged(current, bench, report, alive):
         asked = places(current, side, alive)
         count = sum(is_answered(current, space, address) for address in asked)
         report.note(bench, ECHOS, f"{side}, by `ping`: {', '.join(asked)}", f"{count} of {len(asked)}", count == len(asked))
+        for size in LARGE:
+            count = sum(is_answered(current, space, address, size) for address in asked)
+            report.note(bench, "1122 3.2.2.6 b", f"{side}, by `ping -s {size}`: {', '.join(asked)}",
+                        f"{count} of {len(asked)}", count == len(asked))
+    for size in LARGE:
+        come = is_answered(current, current.networks.host, SERVER, size)
+        report.note(bench, "4787 REQ-14", f"`ping -s {size}` of the server is answered", yes(come), come)
 
 
 def hops(current, space, kind, target):

@@ -4,7 +4,9 @@ import contextlib
 import shutil
 import signal
 import subprocess
+import tempfile
 import time
+from pathlib import Path
 
 from crowd import crowd
 from flows import PORT, Flow, Loop
@@ -102,6 +104,20 @@ class Probe:
     def ask(self):
         if time.monotonic() - self.flow.asked > AGAIN:
             self.flow.ask()
+
+
+@contextlib.contextmanager
+def settings_with(*changes):
+    """A settings file that is the demo's but for these changes, each a text and what stands in its place."""
+    text = SETTINGS.read_text(encoding="utf-8")
+    for old, new in changes:
+        if old not in text:
+            raise SystemExit(f"demo: {SETTINGS.name} has no {old!r}")
+        text = text.replace(old, new)
+    with tempfile.TemporaryDirectory(prefix="natpair-demo-") as folder:
+        file = Path(folder) / SETTINGS.name
+        file.write_text(text, encoding="utf-8")
+        yield file
 
 
 @contextlib.contextmanager

@@ -1723,8 +1723,8 @@ fn number(words: &[String], at: usize) -> u32 {
 }
 
 fn main() {
-    // Here no box needs another one's answer, so that `alone` changes nothing.
-    let words: Vec<String> = std::env::args().skip(1).filter(|word| word != "alone").collect();
+    // Here no box needs another one's answer, and what is no fragment costs the same: `alone` and `pass` change nothing.
+    let words: Vec<String> = std::env::args().skip(1).filter(|word| word != "alone" && word != "pass").collect();
     let Some((command, words)) = words.split_first() else {
         return;
     };

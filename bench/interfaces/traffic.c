@@ -1,6 +1,8 @@
 // The ends of the traffic: a sender, a sink, one that echoes and one that asks.
 //
-//     traffic send ADDRESS PORT BYTES SECONDS     datagrams of so many bytes, as fast as one call each can; prints how many
+//     traffic send ADDRESS PORT BYTES SECONDS [RATE]
+//                                                 datagrams of so many bytes, so many a second, or as fast as one call each
+//                                                 can; prints how many
 //     traffic sink PORT BYTES                     counts datagrams of so many bytes until two seconds without one
 //                                                 pass; prints how many came, and within how many nanoseconds
 //     traffic echo PORT                           sends each datagram back
@@ -17,7 +19,7 @@
 #include <time.h>
 #include <unistd.h>
 
-enum { OWN_PORT = 6000, ROOM = 2048, BUFFER = 8 << 20 };
+enum { OWN_PORT = 6000, ROOM = 4096, BUFFER = 8 << 20 };
 
 static int64_t now(void)
 {
@@ -49,13 +51,15 @@ static int connected(const char *address, const char *port)
     return sock;
 }
 
-static int do_send(int sock, int bytes, double seconds)
+static int do_send(int sock, int bytes, double seconds, double rate)
 {
     char text[ROOM] = {0};
-    int64_t end = now() + (int64_t)(seconds * 1e9), sent = 0;
-    while (now() < end)
-        for (int turn = 0; turn < 64; turn++)
+    int64_t begun = now(), end = begun + (int64_t)(seconds * 1e9), tried = 0, sent = 0;
+    for (int64_t moment = begun; moment < end; moment = now()) {
+        int64_t due = rate > 0 ? (int64_t)((double)(moment - begun) * rate / 1e9) : tried + 64;
+        for (; tried < due; tried++)
             sent += send(sock, text, bytes, 0) == bytes;
+    }
     printf("%lld\n", (long long)sent);
     return 0;
 }
@@ -124,8 +128,8 @@ static int do_ask(int sock, int bytes, int count)
 
 int main(int count, char **words)
 {
-    if (count == 6 && strcmp(words[1], "send") == 0)
-        return do_send(connected(words[2], words[3]), atoi(words[4]), atof(words[5]));
+    if ((count == 6 || count == 7) && strcmp(words[1], "send") == 0)
+        return do_send(connected(words[2], words[3]), atoi(words[4]), atof(words[5]), count == 7 ? atof(words[6]) : 0);
     if (count == 4 && strcmp(words[1], "sink") == 0)
         return do_sink(udp(atoi(words[2])), atoi(words[3]));
     if (count == 3 && strcmp(words[1], "echo") == 0)

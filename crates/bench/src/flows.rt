@@ -3,16 +3,13 @@
 use crate::boxes::Both;
 use crate::clocks::{now, since, tell_held, tell_sent};
 use crate::gates::Gate;
-use crate::packets::{Kind, LONGEST, OPENING, PORTS, frame_of, set_pair};
+use crate::packets::{Kind, LONGEST, OPENING, PORTS, STRIDE, frame_of, set_pair};
 use crate::stations::{ACTIVE, Station};
 use addresses::Protocol;
 use cases_words::Case;
 use gateway::Outcome;
 use nat_types::Side;
 use settings::Settings;
-
-/// The distance from one packet's pair to the next one's, so that the pairs aren't found in order.
-const STRIDE: u32 = 7919;
 
 /// The time without a datagram after which one is due, in centiseconds.
 const INTERVAL: u64 = 10;

@@ -14,11 +14,13 @@
 //! - `churn ROUNDS ENDPOINTS`: flows that are opened, closed and released, by the processor's time;
 //!   `longest ROUNDS ENDPOINTS`: their longest step, and their longest tick
 //! - `many PAIRS..`: the cost of so many pairs at once
+//! - `fragments SIDE COUNT PAIRS`: datagrams of 3,000 bytes that come in three fragments, and go out in three
 //! - `start`: the start of a gateway, and nothing else
 //! - `arp COUNT`: a renewal, a stranger and a look-up in a full cache; `link COUNT`: datagrams of the link, a push, and
 //!   draining a whole batch; `wire COUNT`: parsing a packet and sending it on outward
 //!
-//! `alone` before a command has the gateways make pairs alone. Without words the program does nothing.
+//! `alone` before a command has the gateways make pairs alone, `pass` has them take fragments. Without words the program
+//! does nothing.
 #![tactic(auto)]
 
 mod boxes;
@@ -30,6 +32,7 @@ mod gates;
 mod many;
 mod neighbours;
 mod packets;
+mod pieces;
 mod ports;
 mod rewriting;
 mod stations;
@@ -43,6 +46,7 @@ use flows::{
 use gateway::Gateway;
 use many::report_many;
 use nat_types::GatewayId;
+use pieces::report_fragments;
 use ports::report_ports;
 use settings::Settings;
 use stations::Station;
@@ -70,6 +74,7 @@ fn report(rt: &HostRuntime, settings: &mut Settings, case: &mut Case) {
         "churn" => report_churn::<Gateway>(rt, settings, false, case),
         "longest" => report_churn::<Gateway>(rt, settings, true, case),
         "many" => report_many::<Gateway>(rt, settings, case),
+        "fragments" => report_fragments::<Gateway>(rt, settings, case),
         "start" => start(settings, case),
         "arp" => neighbours::measure(rt, case),
         "link" => datagrams::measure(rt, case),
@@ -100,6 +105,11 @@ fn main(rt: HostRuntime) -> Result<()> {
     case.begin(line.as_str());
     if line.starts_with("alone ") {
         settings.alone = 100;
+        case.word();
+    }
+    let pass = line.starts_with("pass ");
+    settings.fragments.pass = pass;
+    if pass {
         case.word();
     }
     report(&rt, &mut settings, &mut case);

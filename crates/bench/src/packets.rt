@@ -25,6 +25,9 @@ const FIRST_INSIDE: u32 = 5000;
 /// The outside port of the first pair.
 const FIRST_OUTSIDE: u32 = 20_000;
 
+/// The distance from one packet's pair to the next one's, so that the pairs aren't found in order.
+pub(crate) const STRIDE: u32 = 7919;
+
 /// The place of a segment's flags in its frame.
 pub(crate) const FLAGS: usize = 47;
 
@@ -41,6 +44,32 @@ pub(crate) struct Kind {
     pub(crate) protocol: Protocol,
     pub(crate) size: u16,
 }
+
+/// A fragment: its flags and offset, and its length in bytes, 40 to 1,500.
+#[derive(Clone, Copy)]
+pub(crate) struct Piece {
+    pub(crate) place: u16,
+    pub(crate) size: u16,
+}
+
+/// The fragments of a UDP datagram of 3,000 bytes, in order.
+pub(crate) const PIECES: [Piece; 3] = [
+    Piece {
+        place: 0x2000,
+        size: 1500,
+    },
+    Piece {
+        place: 0x20b9,
+        size: 1500,
+    },
+    Piece {
+        place: 0x0172,
+        size: 68,
+    },
+];
+
+/// The length of the datagram with its header, in bytes.
+const WHOLE: u16 = 3008;
 
 /// A packet of 192.168.1.10:5000 to 198.51.100.7:53 in its frame, up to the ports. The length, the protocol and the
 /// header checksum are 0.
@@ -97,6 +126,28 @@ pub(crate) fn frame_of(kind: Kind) -> [u8; LONGEST] {
     let mut frame = [0; LONGEST];
     frame[..STARTS].copy_from_slice(&start_of(kind));
     set_transport(&mut frame, kind);
+    frame
+}
+
+/// Returns the frame of a fragment of such a datagram, which belongs to the first pair. Only the first fragment has ports.
+pub(crate) fn piece_of(side: Side, piece: Piece) -> [u8; LONGEST] {
+    let mut frame = frame_of(Kind {
+        side,
+        protocol: Protocol::Udp,
+        size: piece.size,
+    });
+    let [high, low] = piece.place.to_be_bytes();
+    frame[20] = high;
+    frame[21] = low;
+    frame[24] = 0;
+    frame[25] = 0;
+    let checksum = 65535 - sum(&frame[14..34]);
+    let [high, low] = checksum.to_be_bytes();
+    frame[24] = high;
+    frame[25] = low;
+    let [high, low] = WHOLE.to_be_bytes();
+    frame[38] = high;
+    frame[39] = low;
     frame
 }
 

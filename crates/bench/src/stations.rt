@@ -3,8 +3,10 @@
 
 use crate::gates::Gate;
 use crate::packets::{HEADER, Kind, LONGEST, OPENING, PORTS, frame_of, set_pair};
+use crate::pieces::cut;
 use addresses::Protocol;
 use cases_words::Case;
+use fragments::Cutter;
 use gateway::{Event, Out, Outcome};
 use nat_types::{GatewayId, NoteKind, Side};
 use settings::Settings;
@@ -82,6 +84,15 @@ impl<G: Gate> Station<G> {
     /// Whether the gateway's last output has a frame.
     pub(crate) fn sends(&self) -> bool {
         self.out.frames().next().is_some()
+    }
+
+    /// Cuts the frames of the gateway's last output, as who sends them does, and returns how many frames that makes.
+    pub(crate) fn cut(&self, cutter: &mut Cutter) -> u32 {
+        let mut count = 0u32;
+        for frame in self.out.frames() {
+            count = count.saturating_add(cut(frame.bytes, cutter));
+        }
+        count
     }
 
     /// Returns how many pairs the gateway released in its last output.

@@ -68,7 +68,7 @@ pub(crate) trait AnyGateway: Sized {
         lines: Lines<'_>,
         orders: Orders,
         options: &Options,
-    );
+    ) -> Result<(), NoMemory>;
 
     /// Drops the gateway, and frees its memory.
     fn end(self);
@@ -158,7 +158,7 @@ impl AnyGateway for Gateway {
         lines: Lines<'_>,
         orders: Orders,
         options: &Options,
-    ) {
+    ) -> Result<(), NoMemory> {
         let mut until = EndAfter(orders.told);
         let mappings = if orders.mapped {
             Mappings::new(alloc).ok()
@@ -169,11 +169,11 @@ impl AnyGateway for Gateway {
         if orders.stops {
             serve(
                 alloc, self, wire, clock, &mut until, manager, &mut log, options,
-            );
+            )
         } else {
             run_rounds(
                 alloc, self, wire, clock, &mut until, manager, &mut log, options,
-            );
+            )
         }
     }
 

@@ -57,7 +57,7 @@ fn fail<G: AnyGateway>(found: &mut TestBox<G>, case: &mut Case) {
 /// Runs a first round, after which both sides are Active, and lets three frames come.
 fn make_ready<G: AnyGateway>(found: &mut TestBox<G>, case: &mut Case) {
     let lines = RefCell::new(Vec::new(case.alloc));
-    found.go_on(Run::endless(1, 360), &lines);
+    case.keep(found.go_on(Run::endless(1, 360), &lines));
     found.bring(Place::Side(Side::Inside), &OUT, case);
     found.bring(Place::Side(Side::Outside), &BACK, case);
     found.bring(Place::Side(Side::Inside), &SHORT, case);

@@ -5,12 +5,11 @@ use cases_words::Case;
 use gateway::{Out, Outcome};
 use nat_types::Pair;
 
-/// Prints the outcome of a step and how many frames were sent; then the notes; then the datagrams.
-pub(crate) fn print_step(outcome: Outcome, out: &Out, case: &mut Case) {
+/// Prints the outcome of a step and how many frames went out (`sent`); then the notes; then the datagrams.
+pub(crate) fn print_step(outcome: Outcome, sent: usize, out: &Out, case: &mut Case) {
     print_outcome(outcome, case);
-    let count = frame_count(out);
-    if 0 < count {
-        case.say(", frames ", count);
+    if 0 < sent {
+        case.say(", frames ", sent);
     }
     case.end();
     for note in out.notes() {
@@ -25,14 +24,6 @@ fn print_datagrams(out: &Out, case: &mut Case) {
         case.hex("  link ", datagram);
         case.end();
     }
-}
-
-fn frame_count(out: &Out) -> u32 {
-    let mut count = 0u32;
-    for _ in out.frames() {
-        count = count.saturating_add(1);
-    }
-    count
 }
 
 fn print_outcome(outcome: Outcome, case: &mut Case) {

@@ -6,13 +6,13 @@ use crate::managers::CountingManager;
 use crate::wires::{Datagram, Limit, MemoryWire, Outage, StepClock};
 use cases_words::Case;
 use gateway::Hashers;
-use nat_types::{GatewayId, Side};
+use nat_types::{GatewayId, NoMemory, Side};
 use rounds::{Identity, Options};
 use settings::Settings;
 use sockets::Place;
 use std::alloc::Global;
 use std::cell::RefCell;
-use std::io::{self, Write};
+use std::io::{self, ErrorKind, Write};
 
 /// The digest of the settings that a box in memory reports.
 const DIGEST: u64 = 7;
@@ -151,15 +151,16 @@ impl<G: AnyGateway> TestBox<G> {
     fn run_on(&mut self, case: &mut Case) {
         let run = endless_in(case);
         let lines = RefCell::new(Vec::new(case.alloc));
-        self.go_on(run, &lines);
+        case.keep(self.go_on(run, &lines));
         self.wire.show(case);
         case.text(lines.into_inner().as_slice());
     }
 
     /// Runs the rounds, and keeps the lines of the log.
-    pub(crate) fn go_on(&mut self, run: Run, lines: &RefCell<Vec<u8>>) {
-        self.run_with(run, 0, open(lines));
+    pub(crate) fn go_on(&mut self, run: Run, lines: &RefCell<Vec<u8>>) -> Result<(), NoMemory> {
+        let gone = self.run_with(run, 0, open(lines));
         self.wire.outages.clear();
+        gone
     }
 
     fn run_to_end(&mut self, case: &mut Case) {
@@ -182,12 +183,14 @@ impl<G: AnyGateway> TestBox<G> {
         output: &mut O,
     ) -> io::Result<()> {
         self.manager.begin();
-        self.run_with(run, failing, lines);
+        if self.run_with(run, failing, lines).is_err() {
+            return Err(io::Error::from(ErrorKind::OutOfMemory));
+        }
         output.write_all(b"end\n")?;
         output.flush()
     }
 
-    fn run_with(&mut self, run: Run, failing: u64, lines: Lines<'_>) {
+    fn run_with(&mut self, run: Run, failing: u64, lines: Lines<'_>) -> Result<(), NoMemory> {
         let options = Options {
             identity: self.identity,
             rounds: run.rounds,
@@ -203,7 +206,7 @@ impl<G: AnyGateway> TestBox<G> {
             lines,
             run.orders,
             &options,
-        );
+        )
     }
 }
 

@@ -7,11 +7,14 @@ use crate::printing::print_step;
 use cases_words::Case;
 use gateway::{Event, Hashers, Out, Outcome, Reason};
 use nat_types::GatewayId;
+use packet_rules::Networks;
+use sendings::pieces_of;
 use settings::Settings;
 
 /// A gateway, and the last datagram that came to it. They are dropped by `end`.
 pub(crate) struct TestGateway<G> {
     id: GatewayId,
+    networks: Networks,
     gateway: G,
     last: Vec<u8>,
     out: Out,
@@ -27,6 +30,7 @@ impl<G: AnyGateway> TestGateway<G> {
         match G::begun(case.alloc, settings, Hashers::fixed(), id, boot, found) {
             Some(gateway) => Some(TestGateway {
                 id,
+                networks: Networks::of_gateway(settings, id),
                 gateway,
                 last: Vec::new(case.alloc),
                 out: Out::new(case.alloc),
@@ -42,6 +46,7 @@ impl<G: AnyGateway> TestGateway<G> {
     pub(crate) fn end(self) {
         let TestGateway {
             id: _,
+            networks: _,
             gateway,
             last,
             out,
@@ -81,7 +86,18 @@ impl<G: AnyGateway> TestGateway<G> {
     /// Takes one step, and prints its outcome and output.
     fn step(&mut self, event: Event<'_>, case: &mut Case) {
         let outcome = self.gateway.step(event, &mut self.out, case);
-        print_step(outcome, &self.out, case);
+        print_step(outcome, self.sent(case), &self.out, case);
+    }
+
+    /// Returns how many frames went out in the last step: one that is cut goes out in several.
+    fn sent(&self, case: &mut Case) -> usize {
+        match pieces_of(case.alloc, &self.networks, &self.out) {
+            Ok(pieces) => pieces.len(),
+            Err(_) => {
+                case.fault();
+                0
+            }
+        }
     }
 
     fn frame(&mut self, case: &mut Case) {
@@ -106,7 +122,7 @@ impl<G: AnyGateway> TestGateway<G> {
     fn again(&mut self, case: &mut Case) {
         let event = Event::Datagram(self.last.as_slice());
         let outcome = self.gateway.step(event, &mut self.out, case);
-        print_step(outcome, &self.out, case);
+        print_step(outcome, self.sent(case), &self.out, case);
     }
 
     /// Lets a datagram come cut at every length below its own, and prints how many of these are dropped with reason 16

@@ -6,8 +6,8 @@ use addresses::{Ip, Port, Protocol};
 use cases_words::{Actor, Case};
 use nat_types::{GatewayId, Key, Note, NoteKind, Pair, Side};
 use reports::{
-    ApartReport, Counters, GatewayReport, PairCounts, PeerReport, PortCounts, Report, SideReport,
-    Sides, WaitingCounts,
+    ApartReport, Counters, FragmentReport, Fragments, GatewayReport, PairCounts, PeerReport,
+    PortCounts, Report, SideReport, Sides, WaitingCounts,
 };
 use vrrp_states::State;
 
@@ -38,6 +38,7 @@ pub(crate) fn blank() -> Report {
                 pair: 0,
                 next_hop: 0,
             },
+            fragments: Fragments::new(),
         },
         sides: Sides {
             inside: side,
@@ -158,6 +159,7 @@ fn count(counters: &mut Counters, case: &mut Case) {
 /// - `peer BOOT serves|idle`, `heard CENTISECONDS`: how long ago
 /// - `pairs PROTOCOL STATE COUNT`: adds so many entries
 /// - `ports OWNED ICMP TCP UDP`, `waiting PAIR HOP`
+/// - `fragments SIDE INCOMPLETE TAKEN WHOLE LATE CROWDED_OUT CONTRADICTED CUT`
 fn set_gateway(state: &mut GatewayReport, case: &mut Case) {
     case.back();
     match case.word() {
@@ -175,7 +177,27 @@ fn set_gateway(state: &mut GatewayReport, case: &mut Case) {
             state.waiting.pair = case.number();
             state.waiting.next_hop = case.number();
         }
+        "fragments" => set_fragments(&mut state.fragments, case),
         _ => case.fault(),
+    }
+}
+
+fn set_fragments(fragments: &mut Fragments, case: &mut Case) {
+    match case.side() {
+        Side::Inside => fragments.inside = fragments_of(case),
+        Side::Outside => fragments.outside = fragments_of(case),
+    }
+}
+
+fn fragments_of(case: &mut Case) -> FragmentReport {
+    FragmentReport {
+        incomplete: case.number(),
+        taken: case.number(),
+        whole: case.number(),
+        late: case.number(),
+        crowded_out: case.number(),
+        contradicted: case.number(),
+        cut: case.number(),
     }
 }
 

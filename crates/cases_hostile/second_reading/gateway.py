@@ -1,7 +1,8 @@
 """One gateway: the packet path, packets that wait, ARP, VRRP, ticks, the link. A step answers an outcome and tells
 frames, datagrams and notes. It asks no neighbour and answers no Echo beyond what the settings without `[icmp]`
-have."""
+have. Where the settings say so it puts datagrams together of their fragments."""
 
+import fragments
 import router
 import wire
 from core import Core
@@ -25,6 +26,7 @@ class Side:
         self.router = router.Router(own["priority"], own["interval"], own["preempt"], self.ip)
         self.neighbours = router.Neighbours(settings[name]["neighbours"])
         self.is_up, self.up_since = True, None
+        self.gathering = fragments.Gathering()
 
     def holds(self, address):
         """Whether an address lies in the side's network."""
@@ -59,7 +61,7 @@ class Gateway:
         ranges = [range(first, last + 1) for first, last in settings["ranges"]]
         self.link = Link(number, boot, 6 * ports + 66)
         self.core = Core(number, ranges, settings["host_limit"], is_founder, self.link, self.note)
-        self.waiting = []
+        self.waiting, self.cuts = [], 0
         self.clear()
         if is_founder:
             self.start_routers()
@@ -140,6 +142,8 @@ class Gateway:
             if announces:
                 self.announce(side)
         self.waiting = [kept for kept in self.waiting if self.now - kept.since < 300]
+        for side in self.sides.values():
+            side.gathering.drop_old(self.now)
         self.core.tick(self.now)
         return "done"
 
@@ -158,7 +162,15 @@ class Gateway:
     # Frames of its own
 
     def send(self, side, octets):
-        self.frames.append((side.name, octets))
+        """A frame, in fragments where the side doesn't take it whole."""
+        if not fragments.is_too_long(octets):
+            self.frames.append((side.name, octets))
+            return
+        identification = None
+        if octets[26:30] == self.sides["outside"].virtual:
+            identification = 2 * self.cuts + self.number
+            self.cuts += 1
+        self.frames += [(side.name, piece) for piece in fragments.cut(octets, fragments.MOST, identification)]
 
     def advertise(self, side, priority):
         message = bytes([0x31, side.vrid, priority, 1]) + wire.two(side.router.interval) + b"\0\0" + side.virtual
@@ -177,12 +189,10 @@ class Gateway:
     # The packet path
 
     def take_frame(self, name, frame):
-        return self.take(self.sides[name], frame)
+        return self.take(self.sides[name], frame) if 14 <= len(frame) <= 1514 else 1
 
     def take(self, side, frame):
-        """The verdict of a frame that comes at a side, by the first step that fails."""
-        if not 14 <= len(frame) <= 1514:
-            return 1
+        """The verdict of a frame that comes at a side, or of a whole one, by the first step that fails."""
         if not self.core.synced or self.is_stopped:
             return 12
         target, kind, body = frame[:6], frame[12:14], frame[14:]
@@ -193,13 +203,22 @@ class Gateway:
             return self.take_arp(side, body)
         reason = wire.header_reason(body)
         if reason:
-            return reason
+            return self.take_fragment(side, frame) if reason == 6 else reason
         packet = wire.Packet(body)
         if packet.protocol == 112 and packet.target == router.GROUP:
             return self.take_advert(side, packet)
         if target != side.virtual_mac:
             return 2
         return self.take_packet(side, frame, packet)
+
+    def take_fragment(self, side, frame):
+        """A fragment is held until its datagram is whole, which is taken then."""
+        if not self.settings["pass"] or frame[:6] != side.virtual_mac or frame[23] not in fragments.KINDS:
+            return 6
+        came = side.gathering.take(frame, self.now)
+        if came in (fragments.REFUSED, fragments.HELD):
+            return 6 if came == fragments.REFUSED else "waiting"
+        return self.take(side, came)
 
     def take_arp(self, side, body):
         if len(body) < 28 or body[:6] != bytes.fromhex("000108000604") or body[6:8] not in (b"\0\1", b"\0\2"):

@@ -10,6 +10,7 @@ def read(path):
         text = tomllib.load(file)
     settings = {"ranges": [text["ports"]["zero"], text["ports"]["one"]]}
     settings["host_limit"] = text["ports"].get("host_limit")
+    settings["pass"] = text.get("fragments", {}).get("pass", False)
     for side in ("inside", "outside"):
         settings[side] = dict(text[side], virtual=address(text[side]["virtual"]), neighbours={})
     settings["outside"]["router"] = address(text["outside"]["router"])

@@ -1,4 +1,4 @@
-//! A gateway after some events, which gets a vector again and again, cut and changed.
+//! A gateway after some events, which gets a vector again and again, cut and changed, alone or with another frame beside it.
 
 use crate::gates::{Gate, Seen};
 use crate::tallies::{Run, Tally};
@@ -6,8 +6,11 @@ use crate::telling::{digest_of, write_step};
 use cases_words::Case;
 use gateway::{Event, Out, Outcome};
 use nat_types::{GatewayId, Side};
+use packet_rules::Networks;
+use sendings::pieces_of;
 use settings::Settings;
 use std::alloc::Global;
+use std::io::{self, ErrorKind};
 use std::mem;
 
 /// The place where bytes come in: a side of the gateway, or the link.
@@ -49,6 +52,18 @@ pub(crate) struct Plan {
     pub(crate) anew: usize,
 }
 
+/// What is given to the gateway with each of the bytes of a vector: nothing; or a frame that stays as it is, behind them or
+/// before them, at a gateway that has no fragment.
+#[derive(Drop)]
+pub(crate) enum Fellow {
+    Nothing,
+    Behind(Vec<u8>),
+    Before(Vec<u8>),
+}
+
+/// How long a gateway keeps fragments, in centiseconds.
+const LIFE: u64 = 300;
+
 /// A gateway after its events, and what came of the bytes that it got since. A caller ends it by `end`.
 pub(crate) struct Bench<G> {
     pub(crate) start: Start,
@@ -59,6 +74,17 @@ pub(crate) struct Bench<G> {
     told: Vec<u8>,
     drops: u32,
     changed: u32,
+    /// The gateway's clock.
+    moment: u64,
+}
+
+/// Writes what came of a step at the gateway that was started so.
+fn tell(told: &mut Vec<u8>, outcome: Outcome, start: &Start, out: &Out) -> io::Result<()> {
+    let networks = Networks::of_gateway(&start.settings, start.id);
+    match pieces_of(*told.allocator(), &networks, out) {
+        Ok(pieces) => write_step(told, outcome, pieces.as_slice(), out),
+        Err(_) => Err(io::Error::from(ErrorKind::OutOfMemory)),
+    }
 }
 
 impl<G: Gate> Bench<G> {
@@ -71,6 +97,7 @@ impl<G: Gate> Bench<G> {
             told: Vec::new(alloc),
             drops: 0,
             changed: 0,
+            moment: 0,
         }
     }
 
@@ -83,6 +110,7 @@ impl<G: Gate> Bench<G> {
             told,
             drops: _,
             changed: _,
+            moment: _,
         } = self;
         drop(start);
         end_if_there(gateway);
@@ -111,6 +139,27 @@ impl<G: Gate> Bench<G> {
             Some(gateway) => {
                 for event in self.start.events.as_slice() {
                     live(gateway, event, &mut self.out, case);
+                    if let Before::Tick(moment) = event {
+                        self.moment = *moment;
+                    }
+                }
+                self.seen = gateway.seen(case);
+            }
+            None => case.fault(),
+        }
+    }
+
+    /// Moves the gateway's clock on until it has given up the fragments that it has, and gives it again what it got before the
+    /// vector.
+    fn rest(&mut self, case: &mut Case) {
+        self.moment = self.moment.saturating_add(LIFE);
+        match self.gateway.as_mut() {
+            Some(gateway) => {
+                live(gateway, &Before::Tick(self.moment), &mut self.out, case);
+                for event in self.start.events.as_slice() {
+                    if let Before::Bytes(_, _) = event {
+                        live(gateway, event, &mut self.out, case);
+                    }
                 }
                 self.seen = gateway.seen(case);
             }
@@ -124,7 +173,7 @@ impl<G: Gate> Bench<G> {
         match self.gateway.as_mut() {
             Some(gateway) => {
                 let outcome = gateway.step(event_of(way, bytes), &mut self.out, case);
-                case.keep(write_step(&mut self.told, outcome, &self.out));
+                case.keep(tell(&mut self.told, outcome, &self.start, &self.out));
                 let is_drop = matches!(&outcome, Outcome::Dropped(_));
                 if is_drop {
                     self.drops = self.drops.saturating_add(1);
@@ -139,15 +188,40 @@ impl<G: Gate> Bench<G> {
         }
     }
 
-    /// Gives the gateway a vector cut at every length, whole, and with every byte changed to every other value, and
-    /// prints the outcomes.
-    pub(crate) fn try_vector(&mut self, plan: Plan, vector: &mut [u8], case: &mut Case) {
+    /// Gives the gateway bytes, and what comes with them, and counts the outcomes.
+    fn hand_in_with(&mut self, fellow: &Fellow, way: Way, bytes: &[u8], case: &mut Case) -> Tally {
+        let mut tally = Tally::new();
+        match fellow {
+            Fellow::Nothing => tally.count(self.hand_in(way, bytes, case)),
+            Fellow::Behind(whole) => {
+                self.rest(case);
+                tally.count(self.hand_in(way, bytes, case));
+                tally.count(self.hand_in(way, whole.as_slice(), case));
+            }
+            Fellow::Before(whole) => {
+                self.rest(case);
+                tally.count(self.hand_in(way, whole.as_slice(), case));
+                tally.count(self.hand_in(way, bytes, case));
+            }
+        }
+        tally
+    }
+
+    /// Gives the gateway a vector cut at every length, whole, and with every byte changed to every other value, each time
+    /// with its fellow where there is one, and prints the outcomes.
+    pub(crate) fn try_vector(
+        &mut self,
+        plan: Plan,
+        fellow: &Fellow,
+        vector: &mut [u8],
+        case: &mut Case,
+    ) {
         self.told.clear();
         self.drops = 0;
         self.changed = 0;
         self.begin(case);
-        self.cut(plan, vector, case);
-        self.change(plan, vector, case);
+        self.cut(plan, fellow, vector, case);
+        self.change(plan, fellow, vector, case);
         case.keep(self.seen.write(&mut self.told));
         case.say("  dropped ", self.drops);
         case.say(", changed behind a drop ", self.changed);
@@ -157,11 +231,10 @@ impl<G: Gate> Bench<G> {
     }
 
     /// Gives the gateway the beginnings of a vector, from no byte to the whole vector.
-    fn cut(&mut self, plan: Plan, vector: &[u8], case: &mut Case) {
+    fn cut(&mut self, plan: Plan, fellow: &Fellow, vector: &[u8], case: &mut Case) {
         let mut run = Run::new("  cut to ");
         for length in 0..=vector.len() {
-            let mut tally = Tally::new();
-            tally.count(self.hand_in(plan.way, &vector[..length], case));
+            let tally = self.hand_in_with(fellow, plan.way, &vector[..length], case);
             run.add(length, tally, case);
         }
         run.tell(case);
@@ -169,27 +242,34 @@ impl<G: Gate> Bench<G> {
 
     /// Gives the gateway a vector with each byte changed, from the last byte to the first, so that each boot that the
     /// gateway hears is greater than those before.
-    fn change(&mut self, plan: Plan, vector: &mut [u8], case: &mut Case) {
+    fn change(&mut self, plan: Plan, fellow: &Fellow, vector: &mut [u8], case: &mut Case) {
         let mut run = Run::new("  byte ");
         for behind in 1..=vector.len() {
             let at = vector.len().saturating_sub(behind);
             if plan.anew <= at {
                 self.begin(case);
             }
-            let tally = self.change_at(plan.way, vector, at, case);
+            let tally = self.change_at(fellow, plan.way, vector, at, case);
             run.add(at, tally, case);
         }
         run.tell(case);
     }
 
     /// Gives the gateway a vector with one byte changed to each other value, rising, and restores the byte.
-    fn change_at(&mut self, way: Way, vector: &mut [u8], at: usize, case: &mut Case) -> Tally {
+    fn change_at(
+        &mut self,
+        fellow: &Fellow,
+        way: Way,
+        vector: &mut [u8],
+        at: usize,
+        case: &mut Case,
+    ) -> Tally {
         let mut tally = Tally::new();
         let byte = vector.get(at).copied().unwrap_or(0);
         for value in 0..=255u8 {
             if value != byte {
                 set(vector, at, value);
-                tally.count(self.hand_in(way, vector, case));
+                tally.add(&self.hand_in_with(fellow, way, vector, case));
             }
         }
         set(vector, at, byte);

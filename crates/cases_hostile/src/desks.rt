@@ -1,6 +1,6 @@
 //! The gateway that the lines of the vectors set up, and the events that happen to it.
 
-use crate::benches::{Before, Bench, Plan, Start, Way};
+use crate::benches::{Before, Bench, Fellow, Plan, Start, Way};
 use crate::gates::Gate;
 use anyhow::Result;
 use cases_words::{Actor, Case};
@@ -42,7 +42,9 @@ impl<G: Gate> Actor for Desk<G> {
     /// - `tick MOMENT`, `frame SIDE HEX`, `datagram HEX`: adds an event that happens to the gateway before a vector
     ///   comes
     /// - `vector NAME SIDE HEX`, `vector NAME link HEX`: gives one gateway a frame or a datagram, cut, whole and
-    ///   changed; with `anew BYTE` at its end, a new gateway is begun for each changed byte from this one on
+    ///   changed; with `anew BYTE` at its end, a new gateway is begun for each changed byte from this one on; with
+    ///   `then HEX` or `after HEX` each time another frame comes behind it, or before it, at a gateway that has no
+    ///   fragment
     fn act(&mut self, case: &mut Case) {
         match case.word() {
             "gateway" => self.start(case),
@@ -92,19 +94,25 @@ fn try_vector<G: Gate>(bench: &mut Bench<G>, case: &mut Case) {
     case.echo("\n");
     let way = way_of(case);
     let mut vector = case.bytes();
-    let anew = anew_in(case);
-    bench.try_vector(Plan { way, anew }, vector.as_mut_slice(), case);
+    let (anew, fellow) = rest_of(case);
+    bench.try_vector(Plan { way, anew }, &fellow, vector.as_mut_slice(), case);
 }
 
-/// Reads the first byte from which on a new gateway is begun for each byte. Without a word there is no such byte.
-fn anew_in(case: &mut Case) -> usize {
+/// Reads what stands behind a vector: the first byte from which on a new gateway is begun for each byte, or the frame that
+/// comes with the vector. Without a word there is neither.
+fn rest_of(case: &mut Case) -> (usize, Fellow) {
     if case.left() == 0 {
-        return usize::MAX;
+        return (usize::MAX, Fellow::Nothing);
     }
-    if case.word() != "anew" {
-        case.fault();
+    match case.word() {
+        "anew" => (case.count(), Fellow::Nothing),
+        "then" => (usize::MAX, Fellow::Behind(case.bytes())),
+        "after" => (usize::MAX, Fellow::Before(case.bytes())),
+        _ => {
+            case.fault();
+            (usize::MAX, Fellow::Nothing)
+        }
     }
-    case.count()
 }
 
 /// Reads a side, or the link.

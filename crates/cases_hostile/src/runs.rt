@@ -7,11 +7,12 @@ use faults::{Fault, TextFile};
 use frame_sim::{AuditFault, Step, World, audit};
 use gateway::Outcome;
 use nat_types::{GatewayId, NoMemory, WorldEvent};
+use sendings::pieces_of;
 use settings::Settings;
-use simulation::{Job, read_job};
+use simulation::{Job, gateway_of, read_job};
 use std::alloc::Global;
 use std::fs;
-use std::io::{self, Write};
+use std::io::{self, ErrorKind, Write};
 
 #[derive(Drop)]
 pub(crate) struct Scripts {
@@ -67,6 +68,20 @@ fn run(settings: &Settings, events: &[WorldEvent], case: &mut Case) {
     }
 }
 
+/// Writes what came of an event at a gateway of a world.
+fn tell(
+    told: &mut Vec<u8>,
+    outcome: Outcome,
+    world: &World<'_>,
+    id: GatewayId,
+    step: &Step,
+) -> io::Result<()> {
+    match pieces_of(*told.allocator(), &world.networks(id), &step.out) {
+        Ok(pieces) => write_step(told, outcome, pieces.as_slice(), &step.out),
+        Err(_) => Err(io::Error::from(ErrorKind::OutOfMemory)),
+    }
+}
+
 /// The outcomes of a script's events so far.
 #[derive(Drop)]
 struct Watch {
@@ -92,8 +107,8 @@ impl Watch {
         for event in events.chunks(1) {
             match step(world, event) {
                 Ok(steps) => {
-                    for step in steps.as_slice() {
-                        case.keep(self.take(step));
+                    for (event, step) in event.iter().zip(steps.as_slice()) {
+                        case.keep(self.take(world, event, step));
                     }
                 }
                 Err(_) => case.fault(),
@@ -102,13 +117,13 @@ impl Watch {
         }
     }
 
-    fn take(&mut self, step: &Step) -> io::Result<()> {
+    fn take(&mut self, world: &World<'_>, event: &WorldEvent, step: &Step) -> io::Result<()> {
         match step.answer {
             Ok(outcome) => {
                 if outcome == Outcome::Sent {
                     self.sent = self.sent.saturating_add(1);
                 }
-                write_step(&mut self.told, outcome, &step.out)
+                tell(&mut self.told, outcome, world, gateway_of(event), step)
             }
             Err(fault) => {
                 self.refused = self.refused.saturating_add(1);

@@ -31,6 +31,13 @@ impl Tally {
         }
     }
 
+    /// Adds the counts of another tally.
+    pub(crate) fn add(&mut self, other: &Tally) {
+        for place in 0..KINDS {
+            self.0[place] = self.0[place].saturating_add(other.0[place]);
+        }
+    }
+
     fn tell(&self, case: &mut Case) {
         for (place, times) in self.0.iter().enumerate() {
             if *times != 0 {

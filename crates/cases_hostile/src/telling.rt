@@ -2,6 +2,7 @@
 
 use gateway::{Out, Outcome};
 use nat_types::{Note, Pair};
+use sendings::Piece;
 use sha2::{Digest, Sha256};
 use std::fmt::Display;
 use std::io::{self, Write};
@@ -17,10 +18,15 @@ pub(crate) fn digest_of(bytes: &[u8]) -> u64 {
 }
 
 /// Writes an outcome by its word, and then a line for each thing that was output, where frames and datagrams have their
-/// bytes at the end.
-pub(crate) fn write_step(told: &mut Vec<u8>, outcome: Outcome, out: &Out) -> io::Result<()> {
+/// bytes at the end. `pieces`: the frames as they go out.
+pub(crate) fn write_step(
+    told: &mut Vec<u8>,
+    outcome: Outcome,
+    pieces: &[Piece],
+    out: &Out,
+) -> io::Result<()> {
     write_outcome(told, outcome)?;
-    write_frames(told, out)?;
+    write_frames(told, pieces)?;
     write_datagrams(told, out)?;
     write_notes(told, out.notes())
 }
@@ -39,10 +45,10 @@ pub(crate) fn write_refusal<D: Display + Drop>(told: &mut Vec<u8>, fault: D) -> 
     writeln!(told, "refused {fault}")
 }
 
-fn write_frames(told: &mut Vec<u8>, out: &Out) -> io::Result<()> {
-    for frame in out.frames() {
-        writeln!(told, "{} {}", frame.side, frame.bytes.len())?;
-        told.write_all(frame.bytes)?;
+fn write_frames(told: &mut Vec<u8>, pieces: &[Piece]) -> io::Result<()> {
+    for piece in pieces {
+        writeln!(told, "{} {}", piece.side(), piece.bytes().len())?;
+        told.write_all(piece.bytes())?;
     }
     Ok(())
 }

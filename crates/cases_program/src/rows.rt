@@ -52,8 +52,8 @@ fn sample(rt: &HostRuntime, case: &mut Case) -> String {
 
 /// Runs a script's file:
 ///
-/// - `script NAME` runs the file NAME.script, and audits its trace; `with NAME` does so with the settings of NAME.toml, and
-///   `alone NAME` with those of alone.toml
+/// - `script NAME` runs the file NAME.script, and audits its trace; `with NAME` does so with the settings of NAME.toml,
+///   `alone NAME` with those of alone.toml, and `pieces NAME` with those of pieces.toml
 /// - `each NAME` runs NAME.script event by event, and audits the trace after each; it prints how many there were, or the
 ///   first one after which the audit fails; `each-with NAME` and `each-alone NAME` do so with those settings
 /// - `fault NAME` runs a file that isn't read as a script
@@ -66,12 +66,13 @@ fn scripted(rt: &HostRuntime, case: &mut Case) {
     let settings = match verb.as_str() {
         "with" | "each-with" => name.as_str(),
         "alone" | "each-alone" => "alone",
+        "pieces" => "pieces",
         _ => "rows",
     };
     let read = text_at(rt, settings, "toml");
     let settings = case.or_empty(read);
     match verb.as_str() {
-        "script" | "with" | "alone" => {
+        "script" | "with" | "alone" | "pieces" => {
             simulated(rt, settings.as_str(), script.as_str(), case);
             audits::audited(settings.as_str(), script.as_str(), false, case);
         }

@@ -8,10 +8,13 @@ mod both_sides;
 mod calls;
 mod datagrams;
 mod errors;
+mod gathered;
 mod neighbours;
 mod own;
 mod packets;
+mod parts;
 mod passing;
+mod pieces;
 mod queries;
 mod routers;
 mod rules;
@@ -20,6 +23,7 @@ mod saying;
 use anyhow::Result;
 use calls::Calls;
 use cases_words::{Actor, Case, play};
+use gathered::Gathered;
 use routers::Routers;
 use rules::Rules;
 
@@ -52,6 +56,7 @@ fn try_all(rt: &HostRuntime, case: &mut Case) -> Result<()> {
     for file in FILES {
         try_file(rt, file, Calls, case)?;
     }
+    try_file(rt, "fragments.cases", Gathered::new(rt.alloc()), case)?;
     try_file(rt, "rules.cases", Rules::new(rt.alloc())?, case)?;
     try_file(rt, "routers.cases", Routers::new(), case)
 }

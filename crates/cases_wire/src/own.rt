@@ -1,7 +1,7 @@
 //! Echos to the box, and the packets that the box itself sends.
 use crate::calls::or_refuse;
 use cases_words::Case;
-use icmp::AskView;
+use icmp::{AskView, Cutting};
 use ipv4::Ipv4View;
 
 /// Returns the Echo to the box that a packet carries. Where it carries none, prints why and returns
@@ -27,22 +27,27 @@ pub(crate) fn ask(case: &mut Case) {
     }
 }
 
-/// Prints the packet that answers an Echo.
-pub(crate) fn reply(case: &mut Case) {
+/// Prints the packet that answers an Echo, which may be cut (`is_cuttable`) with the identification of the next word.
+pub(crate) fn reply(case: &mut Case, is_cuttable: bool) {
     let bytes = case.bytes();
+    let cutting = if is_cuttable {
+        Cutting::Allowed(case.short())
+    } else {
+        Cutting::Forbidden
+    };
     if let Some(ask) = asked(case, bytes.as_slice()) {
-        reply_to(case, &ask);
+        reply_to(case, &ask, cutting);
     }
 }
 
-fn reply_to(case: &mut Case, ask: &AskView<'_>) {
+fn reply_to(case: &mut Case, ask: &AskView<'_>, cutting: Cutting) {
     if ask.bytes.len() > 1480 {
         return case.refused("no room for the reply");
     }
     let (from, to) = (case.hex_ip(), case.hex_ip());
     match Vec::with_capacity(case.alloc, 1500) {
         Ok(mut out) => {
-            icmp::append_reply(&mut out, ask, from, to);
+            icmp::append_reply(&mut out, ask, cutting, from, to);
             case.hex("", out.as_slice());
         }
         Err(_) => case.fault(),

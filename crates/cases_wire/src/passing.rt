@@ -65,7 +65,7 @@ pub fn tell_reading(case: &mut Case, reading: Result<Reading, Reason>) {
 /// Returns what a frame is read as. The function has no clause, so that its callers have less to
 /// prove.
 fn read_at(interfaces: &Interfaces, side: Side, up: bool, bytes: &[u8]) -> Result<Reading, Reason> {
-    interfaces.at(side).read_frame(side, up, bytes)
+    interfaces.at(side).read_whole(side, up, bytes)
 }
 
 pub fn read(interfaces: &Interfaces, case: &mut Case) {
@@ -77,23 +77,10 @@ pub fn read(interfaces: &Interfaces, case: &mut Case) {
 
 pub fn read_padded(interfaces: &Interfaces, case: &mut Case) {
     let side = case.side();
-    let length = case.number().min(2000) as usize;
-    let mut bytes = case.bytes();
-    case.keep(bytes.resize(length, 0));
-    tell_reading(case, read_at(interfaces, side, true, bytes.as_slice()));
-}
-
-/// Returns what a frame at hand is read as. The function has no clause either.
-fn whole_at(interfaces: &Interfaces, side: Side, bytes: &[u8]) -> Result<Reading, Reason> {
-    interfaces.at(side).read_whole(side, true, bytes)
-}
-
-pub fn read_whole(interfaces: &Interfaces, case: &mut Case) {
-    let side = case.side();
     let length = case.number().min(70_000) as usize;
     let mut bytes = case.bytes();
     case.keep(bytes.resize(length, 0));
-    tell_reading(case, whole_at(interfaces, side, bytes.as_slice()));
+    tell_reading(case, read_at(interfaces, side, true, bytes.as_slice()));
 }
 
 pub fn hear_advert(interfaces: &mut Interfaces, case: &mut Case) {
@@ -101,7 +88,7 @@ pub fn hear_advert(interfaces: &mut Interfaces, case: &mut Case) {
     let station = interfaces.at_mut(side);
     let bytes = case.bytes();
     let now = moment(case);
-    match station.read_frame(side, true, bytes.as_slice()) {
+    match station.read_whole(side, true, bytes.as_slice()) {
         Ok(Reading::Advert(advert, from)) => {
             let action = station.heard(&advert, from, now);
             tell_sent(case, "sends [", station, action);
@@ -128,7 +115,7 @@ pub fn hear_arp(interfaces: &mut Interfaces, case: &mut Case) {
     let station = interfaces.at_mut(side);
     let bytes = case.bytes();
     let now = moment(case);
-    match station.read_frame(side, true, bytes.as_slice()) {
+    match station.read_whole(side, true, bytes.as_slice()) {
         Ok(Reading::Arp(packet)) => {
             case.say("learnt ", station.learn(&packet, now));
             case.hex_made(", sends [", answer_to(case.alloc, station, &packet));
@@ -187,7 +174,7 @@ pub fn send(interfaces: &Interfaces, case: &mut Case) {
     let bytes = case.bytes();
     let mac = case.mac();
     let networks = &interfaces.networks;
-    let packet = match interfaces.at(side).read_frame(side, true, bytes.as_slice()) {
+    let packet = match interfaces.at(side).read_whole(side, true, bytes.as_slice()) {
         Ok(Reading::Packet(packet)) => packet,
         reading => return tell_reading(case, reading),
     };

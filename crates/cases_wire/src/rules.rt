@@ -74,7 +74,6 @@ impl Actor for Rules {
 ///
 /// - `read SIDE up|down HEX`: what a frame is read as, or why it is dropped
 /// - `padded SIDE LENGTH HEX`: the same of a frame with zeros after it up to a length
-/// - `whole SIDE LENGTH HEX`: the same of a frame at hand, which may be longer than one that comes in
 /// - `advert SIDE HEX NOW`: what an interface sends when it receives this frame
 /// - `arp SIDE HEX NOW`: whether the sender of this frame is learnt, and the answer
 /// - `mac SIDE ADDRESS NOW`: a neighbour's Ethernet address
@@ -87,7 +86,6 @@ fn answer_packets(interfaces: &mut Interfaces, case: &mut Case) {
     match case.word() {
         "read" => passing::read(interfaces, case),
         "padded" => passing::read_padded(interfaces, case),
-        "whole" => passing::read_whole(interfaces, case),
         "advert" => passing::hear_advert(interfaces, case),
         "arp" => passing::hear_arp(interfaces, case),
         "mac" => passing::find_mac(interfaces, case),

@@ -34,7 +34,7 @@ pub fn reply(interfaces: &Interfaces, case: &mut Case) {
     let bytes = case.bytes();
     let mac = case.mac();
     let networks = &interfaces.networks;
-    match interfaces.at(side).read_frame(side, true, bytes.as_slice()) {
+    match interfaces.at(side).read_whole(side, true, bytes.as_slice()) {
         Ok(Reading::Asked(asked)) if may_answer(networks, side, asked.source) => {
             case.say("to ", next_hop_back(networks, side, asked.source));
             match Vec::with_capacity(case.alloc, bytes.len()) {
@@ -87,7 +87,7 @@ pub fn complain(interfaces: &Interfaces, case: &mut Case) {
     let networks = &interfaces.networks;
     let frame = bytes.as_slice();
     let long = Reason::TooLong;
-    match interfaces.at(side).read_frame(side, true, frame) {
+    match interfaces.at(side).read_whole(side, true, frame) {
         Ok(Reading::Packet(packet)) => {
             let flow = packet.flow;
             let way = direction_taken(networks, side, flow.protocol, flow.source, flow.destination);

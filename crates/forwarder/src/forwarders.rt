@@ -1,12 +1,12 @@
 //! The part of a gateway that handles packets, and what it shows.
-ghost use Rattle.std.specs.Prelude.{◌≡◌, ◌≢◌, ◌≤◌, IfErr, IfOk, OnOk, length};
+ghost use Rattle.std.specs.Prelude.{◌≡◌, ◌≢◌, IfErr, IfOk};
 ghost use Rattle.packet_rules.specs.Asked.{IsWhole};
 ghost use Rattle.packet_rules.specs.declared.reasons.Reason.TheVariants.{TooLong, TtlOver};
 ghost use Rattle.packet_rules.specs.Steps.{Carries};
 ghost use Rattle.spec_step.specs.GivingWay.{turn_of};
-ghost use Rattle.spec_step.specs.Shown.{has_side_out, is_apart, is_running, is_up, is_whole, serves};
+ghost use Rattle.spec_step.specs.Shown.{has_side_out, is_running, is_up, is_whole, serves};
 ghost use Rattle.spec_step.specs.Shown.{station_on};
-ghost use Rattle.spec_step.specs.Verdict.{arrival_on, reading_on};
+ghost use Rattle.spec_step.specs.Verdict.{reading_on};
 ghost use Rattle.forwarder.specs.Forwarder.{shown_of};
 
 use bind_core::Core;
@@ -14,7 +14,7 @@ use interfaces::Interface;
 use link::Link;
 use nat_types::Side;
 use packet_rules::{Networks, Reading, Reason};
-use spec_step::Turn;
+use spec_step::{Turn, never_too_long};
 use waiting::WaitingPackets;
 
 /// A gateway: its two networks, clock and interfaces, its side of the binding protocol, its end of
@@ -60,14 +60,6 @@ impl Forwarder {
         self.is_up() && !self.away
     }
 
-    /// Whether the gateway goes on without the other one: it is synced and not lone, and the other
-    /// one hasn't answered for the time that the settings say.
-    pub fn is_apart(&self) -> bool
-        ensures { result ≡ is_apart (shown_of self.now) }
-    {
-        self.core.is_apart(&self.link, self.moment)
-    }
-
     /// Whether both sides are whole.
     fn is_whole(&self) -> bool
         ensures { result ≡ is_whole (shown_of self.now) }
@@ -107,26 +99,16 @@ impl Forwarder {
         }
     }
 
-    /// Reads a frame that came in on a side, or returns the reason of the first step that refuses
-    /// it.
+    /// Reads a whole frame of a side, of up to 65,549 bytes, or returns the reason of the first step
+    /// that refuses it.
     #[inline(always)]
-    pub fn read_frame(&self, side: Side, bytes: &[u8]) -> Result<Reading, Reason>
-        ensures reading { result ≡ arrival_on (shown_of self.now) side bytes.now }
-        ensures short { OnOk result (length bytes.now ≤ 1514) }
-        ensures carries { IfOk result (Carries side bytes.now) }
-        ensures over { IfErr result (λ reason. reason ≡ TtlOver → IsWhole bytes.now) }
-        ensures fits { IfErr result (λ reason. reason ≢ TooLong) }
-    {
-        self.station(side).read_frame(side, self.is_up(), bytes)
-    }
-
-    /// Reads a frame that is at hand, of up to 65,549 bytes, as `read_frame` does one that comes in.
-    pub(crate) fn read_whole(&self, side: Side, bytes: &[u8]) -> Result<Reading, Reason>
+    pub fn read_whole(&self, side: Side, bytes: &[u8]) -> Result<Reading, Reason>
         ensures reading { result ≡ reading_on (shown_of self.now) side bytes.now }
         ensures carries { IfOk result (Carries side bytes.now) }
         ensures over { IfErr result (λ reason. reason ≡ TtlOver → IsWhole bytes.now) }
         ensures fits { IfErr result (λ reason. reason ≢ TooLong) }
     {
+        never_too_long();
         self.station(side).read_whole(side, self.is_up(), bytes)
     }
 }

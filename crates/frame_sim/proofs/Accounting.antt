@@ -14,7 +14,8 @@ use Rattle.output.specs.Output.{Output}
 use Rattle.spec_step.specs.Founding.{begun}
 use Rattle.spec_step.specs.Rests.{AccountsOn, Rests}
 use Rattle.spec_step.specs.Shown.{Shown, id_of, scene}
-use Rattle.frame_sim.specs.World.{Half, World, founding_of, gateway_at, half, settings_of, with_half}
+use Rattle.spec_gateway.specs.State.{GatewayState, beginning}
+use Rattle.frame_sim.specs.World.{Half, World, founding_of, gateway_at, half, settings_of, shown_at, with_half}
 use Rattle.frame_sim.specs.Events.{noting, since, stepped}
 use Rattle.frame_sim.specs.Scene.{AccountsAt, IsAccounted, IsHalf}
 use Rattle.frame_sim.proofs.Laws.{BegunAccounts, FoundedAccounts, OthersBoot, OthersCrash, OthersStep}
@@ -29,7 +30,7 @@ apart One a b x y = ap (λ (k : GatewayId). same k b) x ∙ ap (same Zero) y
 
 -- both ledgers account for a trace, where the one of the gateway with the event does and the
 -- other's does
-accounts-are : (w : World) (i : GatewayId) (h : Half) (trace : List Note) → AccountsAt h.gateway trace → AccountsAt (gateway_at w (other i)) trace
+accounts-are : (w : World) (i : GatewayId) (h : Half) (trace : List Note) → AccountsAt (shown_at h.gateway) trace → AccountsAt (gateway_at w (other i)) trace
     → (j : GatewayId) → AccountsAt (gateway_at (with_half w i h trace) j) trace
 accounts-are w Zero h trace mine theirs Zero = mine
 accounts-are w Zero h trace mine theirs One = theirs
@@ -43,22 +44,22 @@ beside : (i : GatewayId) (ports : PortRanges) (boot : ℕ) (pushed : List Record
 beside i ports boot pushed trace trace2 None is keeps accounts = tt
 beside i ports boot pushed trace trace2 (Some g) is keeps accounts = keeps g (apart i (id_of g) i is.id refl) accounts
 
-pub step-accounted : OthersStep → (w : World) (pushed : GatewayId → List Record) (i : GatewayId) (g new : Shown) (told told2 : Output) → Rests (scene g told) (scene new told2)
-    → ((j : GatewayId) → IsHalf w.settings.ports j (half w j).boot (half w j).gateway (pushed j)) → id_of g ≡ i → gateway_at w i ≡ Some g → IsAccounted w → IsAccounted (stepped w i new told told2)
+pub step-accounted : OthersStep → (w : World) (pushed : GatewayId → List Record) (i : GatewayId) (g : Shown) (new : GatewayState) (told told2 : Output) → Rests (scene g told) (scene new.shown told2)
+    → ((j : GatewayId) → IsHalf w.settings.ports j (half w j).boot (gateway_at w j) (pushed j)) → id_of g ≡ i → gateway_at w i ≡ Some g → IsAccounted w → IsAccounted (stepped w i new told told2)
 step-accounted others w pushed i g new told told2 x halves id up was =
     let trace2 = w.trace ++ since told.notes told2.notes in
     let so : reverse trace2 ≡ reverse x.notes ++ reverse w.trace = ap (λ (xs : List Note). reverse (w.trace ++ xs)) (since-is told.notes x.notes told2.notes x.notes_are) ∙ reverse-append w.trace x.notes in
     let mine : AccountsOn g (reverse w.trace) = subst (λ (o : Option Shown). AccountsAt o w.trace) up (was.accounts i) in
-    let now : AccountsOn new (reverse trace2) = subst (AccountsOn new) (sym so) (x.accounts (reverse w.trace) mine) in
+    let now : AccountsOn new.shown (reverse trace2) = subst (AccountsOn new.shown) (sym so) (x.accounts (reverse w.trace) mine) in
     let keeps : (o : Shown) → same (id_of o) i ≡ false → AccountsOn o (reverse w.trace) → AccountsOn o (reverse trace2) =
-    λ o apart theirs. subst (AccountsOn o) (sym so) (others (scene g told) (scene new told2) o (reverse w.trace) x (ap (same (id_of o)) id ∙ apart) mine theirs) in
+    λ o apart theirs. subst (AccountsOn o) (sym so) (others (scene g told) (scene new.shown told2) o (reverse w.trace) x (ap (same (id_of o)) id ∙ apart) mine theirs) in
     record {
       idle = now.idle;
       accounts = accounts-are w i (record (half w i) { gateway = Some new; sent = (half w i).sent ++ since told.datagrams told2.datagrams }) trace2 now
           (beside i w.settings.ports (half w (other i)).boot (pushed (other i)) w.trace trace2 (gateway_at w (other i)) (halves (other i)) keeps (was.accounts (other i)));
     }
 
-pub crash-accounted : OthersCrash → (w : World) (pushed : GatewayId → List Record) (i : GatewayId) (moment : ℕ) → ((j : GatewayId) → IsHalf w.settings.ports j (half w j).boot (half w j).gateway (pushed j))
+pub crash-accounted : OthersCrash → (w : World) (pushed : GatewayId → List Record) (i : GatewayId) (moment : ℕ) → ((j : GatewayId) → IsHalf w.settings.ports j (half w j).boot (gateway_at w j) (pushed j))
     → IsAccounted w → IsAccounted (with_half w i (record (half w i) { gateway = None }) (w.trace ++ noting i moment Crashed ∷ []))
 crash-accounted others w pushed i moment halves was =
     let n = noting i moment Crashed in
@@ -71,8 +72,8 @@ crash-accounted others w pushed i moment halves was =
           (beside i w.settings.ports (half w (other i)).boot (pushed (other i)) w.trace trace2 (gateway_at w (other i)) (halves (other i)) keeps (was.accounts (other i)));
     }
 
-pub boot-accounted : OthersBoot → BegunAccounts → (w : World) (pushed : GatewayId → List Record) (i : GatewayId) (number : ℕ) → ((j : GatewayId) → IsHalf w.settings.ports j (half w j).boot (half w j).gateway (pushed j))
-    → IsAccounted w → IsAccounted (with_half w i (record (half w i) { gateway = Some (begun (settings_of w i) i number); boot = number }) (w.trace ++ noting i 0 (Booted number) ∷ []))
+pub boot-accounted : OthersBoot → BegunAccounts → (w : World) (pushed : GatewayId → List Record) (i : GatewayId) (number : ℕ) → ((j : GatewayId) → IsHalf w.settings.ports j (half w j).boot (gateway_at w j) (pushed j))
+    → IsAccounted w → IsAccounted (with_half w i (record (half w i) { gateway = Some (beginning (begun (settings_of w i) i number)); boot = number }) (w.trace ++ noting i 0 (Booted number) ∷ []))
 boot-accounted others begins w pushed i number halves was =
     let n = noting i 0 (Booted number) in
     let trace2 = w.trace ++ n ∷ [] in
@@ -81,7 +82,7 @@ boot-accounted others begins w pushed i number halves was =
     λ o apart theirs. subst (AccountsOn o) (one-more w.trace n) (others o i 0 number (reverse w.trace) apart theirs) in
     record {
       idle = subst past.Idle (one-more w.trace n) (tt, was.idle);
-      accounts = accounts-are w i (record (half w i) { gateway = Some new; boot = number }) trace2 (subst (AccountsOn new) (one-more w.trace n) (begins (settings_of w i) i number 0 (reverse w.trace) was.idle))
+      accounts = accounts-are w i (record (half w i) { gateway = Some (beginning new); boot = number }) trace2 (subst (AccountsOn new) (one-more w.trace n) (begins (settings_of w i) i number 0 (reverse w.trace) was.idle))
           (beside i w.settings.ports (half w (other i)).boot (pushed (other i)) w.trace trace2 (gateway_at w (other i)) (halves (other i)) keeps (was.accounts (other i)));
     }
 
@@ -91,3 +92,10 @@ founding-accounted founds settings settings_one = record { idle = tt; accounts =
     accounts : (i : GatewayId) → AccountsAt (gateway_at (founding_of settings settings_one) i) []
     accounts Zero = founds settings 1
     accounts One = tt
+
+-- where nothing but a gateway's fragments changes
+pub still-accounted : (w : World) (i : GatewayId) (g : Option GatewayState) → shown_at g ≡ gateway_at w i → IsAccounted w → IsAccounted (with_half w i (record (half w i) { gateway = g }) w.trace)
+still-accounted w i g same was = record {
+  idle = was.idle;
+  accounts = accounts-are w i (record (half w i) { gateway = g }) w.trace (subst (λ (o : Option Shown). AccountsAt o w.trace) (sym same) (was.accounts i)) (was.accounts (other i));
+}

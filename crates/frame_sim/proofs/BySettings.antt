@@ -12,7 +12,8 @@ use Rattle.output.specs.Output.{Output}
 use Rattle.spec_step.specs.Founding.{begun, founded}
 use Rattle.spec_step.specs.Rests.{Rests}
 use Rattle.spec_step.specs.Shown.{Shown, scene}
-use Rattle.frame_sim.specs.World.{Half, NeverAlone, World, founding_of, gateway_at, half, settings_of, with_half}
+use Rattle.spec_gateway.specs.State.{GatewayState, beginning}
+use Rattle.frame_sim.specs.World.{Half, NeverAlone, World, founding_of, gateway_at, half, settings_of, shown_at, with_half}
 use Rattle.frame_sim.specs.Events.{noting, since, stepped}
 use Rattle.frame_sim.specs.Scene.{AloneAfter, IsBySettings}
 use Rattle.frame_sim.proofs.Mails.{since-is}
@@ -33,20 +34,20 @@ never-at w Zero never = never.zero
 never-at w One never = never.one
 
 -- both gateways go by their settings, where the one of the event does and the other did
-alone-are : (w : World) (i : GatewayId) (h : Half) (trace : List Note) → AloneAfter (settings_of w i).alone h.gateway → ((j : GatewayId) → AloneAfter (settings_of w j).alone (gateway_at w j))
+alone-are : (w : World) (i : GatewayId) (h : Half) (trace : List Note) → AloneAfter (settings_of w i).alone (shown_at h.gateway) → ((j : GatewayId) → AloneAfter (settings_of w j).alone (gateway_at w j))
     → (j : GatewayId) → AloneAfter (settings_of w j).alone (gateway_at (with_half w i h trace) j)
 alone-are w Zero h trace mine all Zero = mine
 alone-are w Zero h trace mine all One = all One
 alone-are w One h trace mine all Zero = all Zero
 alone-are w One h trace mine all One = mine
 
-by-settings-still : (w : World) (i : GatewayId) (h : Half) (trace : List Note) → AloneAfter (settings_of w i).alone h.gateway → (NeverAlone w → IsPlain (reverse trace)) → IsBySettings w → IsBySettings (with_half w i h trace)
+by-settings-still : (w : World) (i : GatewayId) (h : Half) (trace : List Note) → AloneAfter (settings_of w i).alone (shown_at h.gateway) → (NeverAlone w → IsPlain (reverse trace)) → IsBySettings w → IsBySettings (with_half w i h trace)
 by-settings-still w i h trace mine plain was = record {
   alone = alone-are w i h trace mine was.alone;
   plain = λ never. plain (record { zero = never.zero; one = never.one });
 }
 
-pub step-by-settings : (w : World) (i : GatewayId) (g new : Shown) (told told2 : Output) → Rests (scene g told) (scene new told2) → gateway_at w i ≡ Some g → IsBySettings w → IsBySettings (stepped w i new told told2)
+pub step-by-settings : (w : World) (i : GatewayId) (g : Shown) (new : GatewayState) (told told2 : Output) → Rests (scene g told) (scene new.shown told2) → gateway_at w i ≡ Some g → IsBySettings w → IsBySettings (stepped w i new told told2)
 step-by-settings w i g new told told2 x up was =
     let trace2 = w.trace ++ since told.notes told2.notes in
     let so : reverse trace2 ≡ reverse x.notes ++ reverse w.trace = ap (λ (xs : List Note). reverse (w.trace ++ xs)) (since-is told.notes x.notes told2.notes x.notes_are) ∙ reverse-append w.trace x.notes in
@@ -68,10 +69,10 @@ founded-alone : (settings : Settings) → (founded settings 1).ledger.book.alone
 unfolding founded begun
 founded-alone settings = refl
 
-pub boot-by-settings : (w : World) (i : GatewayId) (number : ℕ) → IsBySettings w → IsBySettings (with_half w i (record (half w i) { gateway = Some (begun (settings_of w i) i number); boot = number }) (w.trace ++ noting i 0 (Booted number) ∷ []))
+pub boot-by-settings : (w : World) (i : GatewayId) (number : ℕ) → IsBySettings w → IsBySettings (with_half w i (record (half w i) { gateway = Some (beginning (begun (settings_of w i) i number)); boot = number }) (w.trace ++ noting i 0 (Booted number) ∷ []))
 boot-by-settings w i number was =
     let n = noting i 0 (Booted number) in
-    by-settings-still w i (record (half w i) { gateway = Some (begun (settings_of w i) i number); boot = number }) (w.trace ++ n ∷ []) (begun-alone (settings_of w i) i number)
+    by-settings-still w i (record (half w i) { gateway = Some (beginning (begun (settings_of w i) i number)); boot = number }) (w.trace ++ n ∷ []) (begun-alone (settings_of w i) i number)
     (λ never. subst IsPlain (one-more w.trace n) (tt, was.plain never)) was
 
 pub founding-by-settings : (settings settings_one : Settings) → IsBySettings (founding_of settings settings_one)
@@ -80,3 +81,8 @@ founding-by-settings settings settings_one = record { alone = alone; plain = λ 
     alone : (i : GatewayId) → AloneAfter (settings_of (founding_of settings settings_one) i).alone (gateway_at (founding_of settings settings_one) i)
     alone Zero = founded-alone settings
     alone One = tt
+
+-- where nothing but a gateway's fragments changes
+pub still-by-settings : (w : World) (i : GatewayId) (g : Option GatewayState) → shown_at g ≡ gateway_at w i → IsBySettings w → IsBySettings (with_half w i (record (half w i) { gateway = g }) w.trace)
+still-by-settings w i g same was =
+    by-settings-still w i (record (half w i) { gateway = g }) w.trace (subst (λ (o : Option Shown). AloneAfter (settings_of w i).alone o) (sym same) (was.alone i)) was.plain was

@@ -40,14 +40,14 @@ down-of (Some g) boot h down = absurd (cc)
 pub hands-word : (w : World) (i : GatewayId) (n : ℕ) → may_be_told w i n ≡ true → IsHanded w i (given.PeerOff n)
 hands-word w i n may =
     let o = half w (other i) in
-    let one = and_parts (is_up (gateway_at w i)) (not (is_up o.gateway) && (nat_lt 0 n && (o.boot == n))) may in
-    let two = and_parts (not (is_up o.gateway)) (nat_lt 0 n && (o.boot == n)) one.1 in
+    let one = and_parts (is_up (gateway_at w i)) (not (is_up (gateway_at w (other i))) && (nat_lt 0 n && (o.boot == n))) may in
+    let two = and_parts (not (is_up (gateway_at w (other i)))) (nat_lt 0 n && (o.boot == n)) one.1 in
     let three = and_parts (nat_lt 0 n) (o.boot == n) two.1 in
     let boot : o.boot ≡ n = eqb-true o.boot n three.1 in
     record {
       letters = λ l h. absurd h;
       words = λ h m is. elim is [
-        | inl same ↦ (let down = down-of o.gateway o.boot h (not-true (is_up o.gateway) two.0) in (down.0, same ∙ sym boot ∙ sym down.1))
+        | inl same ↦ (let down = down-of (gateway_at w (other i)) o.boot h (not-true (is_up (gateway_at w (other i))) two.0) in (down.0, same ∙ sym boot ∙ sym down.1))
         | inr none ↦ absurd none
       ];
     }

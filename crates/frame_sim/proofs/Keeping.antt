@@ -124,12 +124,12 @@ abbrev MachineHolds : World → (GatewayId → List Record) → GatewayId → Pa
 MachineHolds w pushed = machine_world.TableHolds (machine_world.tables_of (scene_of w pushed))
 
 holds-so : (w : World) (pushed : GatewayId → List Record) (i : GatewayId) (p : Pair) → MachineHolds w pushed i p → Holds w i p
-holds-so w pushed Zero p h = at-held w.zero.gateway w.zero.boot (pushed Zero) p h
-holds-so w pushed One p h = at-held w.one.gateway w.one.boot (pushed One) p h
+holds-so w pushed Zero p h = at-held (gateway_at w Zero) w.zero.boot (pushed Zero) p h
+holds-so w pushed One p h = at-held (gateway_at w One) w.one.boot (pushed One) p h
 
-so-holds : (w : World) (pushed : GatewayId → List Record) (i : GatewayId) (p : Pair) → HasKeys w.zero.gateway → HasKeys w.one.gateway → Holds w i p → MachineHolds w pushed i p
-so-holds w pushed Zero p zero one h = at-listed w.zero.gateway w.zero.boot (pushed Zero) p zero h
-so-holds w pushed One p zero one h = at-listed w.one.gateway w.one.boot (pushed One) p one h
+so-holds : (w : World) (pushed : GatewayId → List Record) (i : GatewayId) (p : Pair) → HasKeys (gateway_at w Zero) → HasKeys (gateway_at w One) → Holds w i p → MachineHolds w pushed i p
+so-holds w pushed Zero p zero one h = at-listed (gateway_at w Zero) w.zero.boot (pushed Zero) p zero h
+so-holds w pushed One p zero one h = at-listed (gateway_at w One) w.one.boot (pushed One) p one h
 
 pub holds-kept : (w : World) (pushed : GatewayId → List Record) (t : List Note) → Kept (MachineHolds w pushed) t → Kept (Holds w) t
 holds-kept w pushed t kept p opened i synced =
@@ -139,7 +139,7 @@ holds-kept w pushed t kept p opened i synced =
     ]
 
 -- no gateway's table has three pairs of an endpoint
-pub holds-two : (w : World) (pushed : GatewayId → List Record) (t : List Note) → HasKeys w.zero.gateway → HasKeys w.one.gateway → AtMostTwo (MachineHolds w pushed) t → AtMostTwo (Holds w) t
+pub holds-two : (w : World) (pushed : GatewayId → List Record) (t : List Note) → HasKeys (gateway_at w Zero) → HasKeys (gateway_at w One) → AtMostTwo (MachineHolds w pushed) t → AtMostTwo (Holds w) t
 holds-two w pushed t zero one most i synced p q s hp hq hs =
     most i synced p q s (so-holds w pushed i p zero one hp) (so-holds w pushed i q zero one hq) (so-holds w pushed i s zero one hs)
 
@@ -147,15 +147,15 @@ holds-two w pushed t zero one most i synced p q s hp hq hs =
 holds-plain : (w : World) (pushed : GatewayId → List Record) (t : List Note) → plain.Kept (MachineHolds w pushed) t → plain.Kept (Holds w) t
 holds-plain w pushed t kept p opened i synced = holds-so w pushed i p (kept p opened i synced)
 
-pub translates-on : (w : World) (pushed : GatewayId → List Record) (t : List Note) → HasKeys w.zero.gateway → HasKeys w.one.gateway → GoesOn (machine_world.TableTranslates (machine_world.tables_of (scene_of w pushed))) t → GoesOn (Translates w) t
+pub translates-on : (w : World) (pushed : GatewayId → List Record) (t : List Note) → HasKeys (gateway_at w Zero) → HasKeys (gateway_at w One) → GoesOn (machine_world.TableTranslates (machine_world.tables_of (scene_of w pushed))) t → GoesOn (Translates w) t
 translates-on w pushed t zero one goes i synced p = at i (goes i synced p)
   where
     over : {A B C : Type 0} → (A ↔ B) → (B ↔ C) → (A ↔ C)
     over f g = (λ a. g.0 (f.0 a), λ c. f.1 (g.1 c))
 
     at : {A : Type 0} (j : GatewayId) → (A ↔ machine_world.TableTranslates (machine_world.tables_of (scene_of w pushed)) j p) → (A ↔ Translates w j p)
-    at Zero h = over h (at-translated w.zero.gateway w.zero.boot (pushed Zero) p zero)
-    at One h = over h (at-translated w.one.gateway w.one.boot (pushed One) p one)
+    at Zero h = over h (at-translated (gateway_at w Zero) w.zero.boot (pushed Zero) p zero)
+    at One h = over h (at-translated (gateway_at w One) w.one.boot (pushed One) p one)
 
 -- a box is synced exactly where its gateway is
 pub shows-synced : (w : World) (pushed : GatewayId → List Record) → ((i : GatewayId) → (box_in (scene_of w pushed) i).synced ≡ is_synced i (reverse w.trace)) → ShowsSynced w
@@ -192,7 +192,7 @@ PlainKeeps = (r : Ranges) (s : machine_world.Scene) (trace : List Note) → mach
 pub sound-promise : (P : List Note → Type 0) → Promises P → (w : World) → IsSound w → P w.trace
 sound-promise P law w sound = law (ranges_of w.settings.ports) (scene_of w sound.pushed) w.trace sound.scene refl
 
-pub sound-two : Twos → (w : World) → HasKeys w.zero.gateway → HasKeys w.one.gateway → IsSound w → AtMostTwo (Holds w) w.trace
+pub sound-two : Twos → (w : World) → HasKeys (gateway_at w Zero) → HasKeys (gateway_at w One) → IsSound w → AtMostTwo (Holds w) w.trace
 sound-two law w zero one sound = holds-two w sound.pushed w.trace zero one (law (ranges_of w.settings.ports) (scene_of w sound.pushed) w.trace sound.scene refl)
 
 pub sound-plain : PlainFits → PlainKeeps → (w : World) → IsSound w → GoesOn (Translates w) w.trace → plain.IsPlain (reverse w.trace) → IsKeptTogether w
@@ -209,7 +209,7 @@ sound-kept law w sound = holds-kept w sound.pushed w.trace (law (ranges_of w.set
 pub sound-shared : Keeps → (w : World) → IsSound w → IsShared w
 sound-shared law w sound none p used i synced = elim (sound-kept law w sound p used i synced) [ inl a ↦ a | inr a ↦ absurd (none a.0 p a.2) ]
 
-pub sound-goes : Goes → (w : World) → HasKeys w.zero.gateway → HasKeys w.one.gateway → IsSound w → GoesOn (Translates w) w.trace
+pub sound-goes : Goes → (w : World) → HasKeys (gateway_at w Zero) → HasKeys (gateway_at w One) → IsSound w → GoesOn (Translates w) w.trace
 sound-goes law w zero one sound = translates-on w sound.pushed w.trace zero one (law (ranges_of w.settings.ports) (scene_of w sound.pushed) w.trace sound.scene refl)
 
 pub sound-says : Says → (w : World) → IsSound w → ShowsSynced w

@@ -1,5 +1,5 @@
 -- The laws of the crates below on which the proofs of a world rest.
-use Rattle.std.proofs.Common.{◌≡◌, ℕ, ◌&&◌, false, Option, List, [], ◌∷◌, ◌++◌, reverse, Ok}
+use Rattle.std.proofs.Common.{◌≡◌, ◌≤◌, ◌+◌, length, ℕ, ◌&&◌, false, Option, List, [], ◌∷◌, ◌++◌, reverse, Ok}
 use Rattle.nat_types.specs.Same.{other, same}
 use Rattle.nat_types.specs.declared.gateways.GatewayId.{GatewayId}
 use Rattle.nat_types.specs.declared.gateways.GatewayId.TheVariants.{Zero}
@@ -24,14 +24,28 @@ use Rattle.spec_binding.specs.Machine.{box_at, ranges_of}
 use Rattle.spec_step.specs.declared.events.Event.{Event}
 use Rattle.spec_step.specs.Machine.{Goes, HasBytes, HasPushed, IsLoneRightly, KeepsBytes, letters_in, words_in}
 use Rattle.spec_step.specs.Founding.{begun, founded}
-use Rattle.spec_step.specs.Rests.{AccountsOn, Rests}
+use Rattle.spec_step.specs.Rests.{AccountsOn, Rests, most_notes}
 use Rattle.spec_step.specs.Shown.{GatewayAndOutput, Shown, id_of}
 use Rattle.spec_step.specs.Steps.{IsStepOn}
+use Rattle.spec_gateway.specs.State.{GatewayState, KeepsParts, beginning}
+use Rattle.spec_gateway.specs.Steps.{IsGatewayStep}
+use Rattle.output.specs.Output.{Output}
 
 -- a step of a gateway is a step of the machine
 abbrev pub StepsGo : Type 0
 StepsGo = (s : GatewayAndOutput) (event : Event) (s2 : GatewayAndOutput) (h : List Record) → IsStepOn s event s2 → HasBytes event
     → IsBook s.shown.ledger.book → IsLoneRightly s.shown → KeepsBytes s.shown → HasPushed s.shown h → Goes (letters_in event) (words_in event) s s2 h
+
+-- a step makes no more notes than `most_notes`
+abbrev pub StepsNote : Type 0
+StepsNote = (s : GatewayAndOutput) (event : Event) (s2 : GatewayAndOutput) → IsStepOn s event s2 → HasBytes event → length s2.told.notes ≤ length s.told.notes + most_notes s.shown
+
+-- the fragments of a gateway are bytes as it begins, and stay so
+abbrev pub PartsBegin : Type 0
+PartsBegin = (g : Shown) → KeepsParts (beginning g)
+
+abbrev pub PartsStay : Type 0
+PartsStay = (s : GatewayState) (told : Output) (event : Event) (s2 : GatewayState) (told2 : Output) → IsGatewayStep s told event s2 told2 → HasBytes event → KeepsParts s → KeepsParts s2
 
 -- a datagram's spelling is read as that datagram
 abbrev pub AreRead : Type 0

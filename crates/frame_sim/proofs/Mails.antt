@@ -2,7 +2,7 @@
 use Rattle.std.proofs.Common.{◌≡◌, inl, inr, ℕ, zero, suc, ◌-◌, ◌==◌, cond, Bool, true, false, List, [], ◌∷◌, ◌++◌, map, reverse, Option, Some, None, Result, refl, sym, ap, subst, ◌∙◌, drop, length}
 use Rattle.std.specs.List.{AllByRecursion, flat_map}
 use Rattle.std.specs.Prelude.{slice_get}
-use Rattle.std.proofs.lemmas.List.{drop_at, reverse-append}
+use Rattle.std.proofs.lemmas.List.{append-nil, drop_at, reverse-append}
 use Rattle.std.proofs.lemmas.List.Concat.{flat_map-append}
 use Rattle.link.specs.declared.datagrams.Datagram.{Datagram}
 use Rattle.link.specs.Grammar.{IsWellFormed, spelling}
@@ -22,6 +22,10 @@ letters_read bytes = letter_in (reading bytes)
 -- what a list has after its beginning is what was appended
 pub since-is : {A : Type 0} (old more new : List A) → new ≡ old ++ more → since old new ≡ more
 since-is old more new is = ap (drop (length old)) is ∙ drop_at old more (length old) refl
+
+-- nothing is appended where nothing was
+pub none-since : {A : Type 0} (xs old new : List A) → new ≡ old → xs ++ since old new ≡ xs
+none-since xs old new is = ap (λ ys. xs ++ ys) (since-is old [] new (is ∙ sym (append-nil old))) ∙ append-nil xs
 
 -- ---- sent
 

@@ -63,8 +63,8 @@ Owners = (r : Ranges) (s : machine.Scene) → machine.IsWorld r s → machine.Ha
 
 sound-apart : Owners → (w : World) → IsSound w → (p : Port) → Contains (owned_by (gateway_at w Zero)) p → Contains (owned_by (gateway_at w One)) p → ⊥
 sound-apart law w sound p zero one =
-    let a = owned-so w.zero.gateway w.zero.boot (sound.pushed Zero) p zero in
-    let b = owned-so w.one.gateway w.one.boot (sound.pushed One) p one in
+    let a = owned-so (gateway_at w Zero) w.zero.boot (sound.pushed Zero) p zero in
+    let b = owned-so (gateway_at w One) w.one.boot (sound.pushed One) p one in
     (law (ranges_of w.settings.ports) (scene_of w sound.pushed) sound.scene).apart a.0 b.0 p.0 a.1 b.1
 
 -- ---- each port has an owner
@@ -114,16 +114,16 @@ whole-so ports these (Some a) (Some b) m n h k x y law sa sb even p is =
 
 sound-within : Owners → (w : World) → IsSound w → (i : GatewayId) → (p : Port) → Contains (owned_by (gateway_at w i)) p → IsTrue (is_to_own w.settings.ports p)
 sound-within law w sound Zero p is =
-    let a = owned-so w.zero.gateway w.zero.boot (sound.pushed Zero) p is in
+    let a = owned-so (gateway_at w Zero) w.zero.boot (sound.pushed Zero) p is in
     (law (ranges_of w.settings.ports) (scene_of w sound.pushed) sound.scene).within Zero a.0 p.0 a.1
 sound-within law w sound One p is =
-    let a = owned-so w.one.gateway w.one.boot (sound.pushed One) p is in
+    let a = owned-so (gateway_at w One) w.one.boot (sound.pushed One) p is in
     (law (ranges_of w.settings.ports) (scene_of w sound.pushed) sound.scene).within One a.0 p.0 a.1
 
 pub sound-owned : Owners → (w : World) → IsSound w → IsOwned w
 sound-owned law w sound = record {
   apart = sound-apart law w sound;
-  whole = whole-so w.settings.ports (λ p. in_either (bounds_of w.settings.ports.zero) (bounds_of w.settings.ports.one) p) w.zero.gateway w.one.gateway w.zero.boot w.one.boot (sound.pushed Zero) (sound.pushed One)
+  whole = whole-so w.settings.ports (λ p. in_either (bounds_of w.settings.ports.zero) (bounds_of w.settings.ports.one) p) (gateway_at w Zero) (gateway_at w One) w.zero.boot w.one.boot (sound.pushed Zero) (sound.pushed One)
       (sound.halves Zero) (sound.halves One) (law (ranges_of w.settings.ports) (scene_of w sound.pushed) sound.scene).whole;
   within = sound-within law w sound;
 }

@@ -1,20 +1,27 @@
 -- The datagram of a step: at most one, and at most 2,214 bytes long.
-use Rattle.std.proofs.Common.{◌≡◌, ◌≤◌, ℕ, zero, suc, List, [], ◌∷◌, length, map, drop, Option, Some, None, refl, sym, ap, subst, ◌∙◌, arith}
+use Rattle.std.proofs.Common.{◌≡◌, ◌≤◌, ◌+◌, ℕ, zero, suc, inl, inr, List, [], ◌∷◌, length, map, drop, Option, Some, None, refl, sym, ap, subst, ◌∙◌, arith}
 use Rattle.std.specs.List.{AllByRecursion}
 use Rattle.std.specs.Prelude.{slice_get}
-use Rattle.std.proofs.lemmas.List.{length-append}
+use Rattle.std.proofs.lemmas.List.{append-nil, length-append}
+use Rattle.nat_types.specs.declared.notes.Note.{Note}
+use Rattle.nat_types.specs.declared.records.Record.{Record}
 use Rattle.link.specs.declared.datagrams.Datagram.{Datagram}
 use Rattle.link.specs.Grammar.{IsWellFormed, spelling}
 use Rattle.link.specs.Link.{IsLink}
 use Rattle.output.specs.Output.{Output}
 use Rattle.spec_step.specs.declared.events.Event.{Event}
-use Rattle.spec_step.specs.Machine.{HasBytes}
+use Rattle.spec_binding.specs.Books.{IsBook}
+use Rattle.spec_step.specs.Machine.{HasBytes, HasPushed, IsLoneRightly, KeepsBytes}
+use Rattle.spec_step.specs.Rests.{most_notes}
 use Rattle.spec_step.specs.Shown.{Shown, scene, serves}
 use Rattle.spec_step.specs.Steps.{IsStepOn}
+use Rattle.spec_gateway.specs.State.{GatewayState, KeepsParts}
+use Rattle.spec_gateway.specs.Steps.{IsGatewayStep}
 use Rattle.gateway.specs.Gateway.{IsGateway}
 use Rattle.frame_sim.specs.Events.{since}
 use Rattle.frame_sim.specs.Halves.{IsShort}
-use Rattle.frame_sim.proofs.Laws.{StepsGo}
+use Rattle.frame_sim.proofs.Inner.{InnerSteps, IsInner}
+use Rattle.frame_sim.proofs.Laws.{StepsGo, StepsNote}
 use Rattle.frame_sim.proofs.Mails.{are-formed, since-is}
 use Rattle.frame_sim.proofs.Short.{Few, short}
 
@@ -23,19 +30,52 @@ all-short most [] few are = tt
 all-short most (d ∷ []) few are = short most d are.0
 all-short most (d ∷ e ∷ ds) few are = absurd (omega (arith, few))
 
--- the datagrams that a step sends
-pub record Sends (told told2 : Output) : Type 0 where
+-- what a step sends to the other gateway, and how many notes it makes
+pub record Sends (g : Shown) (told told2 : Output) : Type 0 where
   pub few : IsShort (since told.datagrams told2.datagrams)
   pub longer : length told.datagrams ≤ length told2.datagrams
+  pub noted : length told.notes ≤ length told2.notes
+  pub few_notes : length told2.notes ≤ length told.notes + most_notes g
 
-pub sends : StepsGo → Few → (g new : Shown) (event : Event) (told told2 : Output) → IsStepOn (scene g told) event (scene new told2) → HasBytes event → IsGateway g → IsLink new.link → Sends told told2
-sends go most g new event told told2 step bytes is link =
-    let goes = go (scene g told) event (scene new told2) is.history step bytes is.book is.lone is.bytes is.pushed in
+step-sends : StepsGo → StepsNote → Few → (g new : Shown) (event : Event) (told told2 : Output) → IsStepOn (scene g told) event (scene new told2) → HasBytes event → IsBook g.ledger.book → IsLoneRightly g → KeepsBytes g
+    → (h : List Record) → HasPushed g h → IsLink new.link → Sends g told told2
+step-sends go note most g new event told told2 step bytes book lone kept h pushed link =
+    let goes = go (scene g told) event (scene new told2) h step bytes book lone kept pushed in
     let more = since-is told.datagrams (map spelling goes.sent) told2.datagrams goes.datagrams_are in
     record {
       few = subst IsShort (sym more) (all-short most goes.sent goes.few (are-formed new.link (serves new) goes.sent link goes.own));
       longer = omega (arith, length-append told.datagrams (map spelling goes.sent), ap length goes.datagrams_are);
+      noted = omega (arith, length-append told.notes goes.notes, ap length goes.notes_are);
+      few_notes = note (scene g told) event (scene new told2) step bytes;
     }
+
+-- nothing is told
+none-told : (g : Shown) (told : Output) → Sends g told told
+none-told g told = record {
+  few = subst IsShort (sym (since-is told.datagrams [] told.datagrams (sym (append-nil told.datagrams)))) tt;
+  longer = omega arith;
+  noted = omega arith;
+  few_notes = omega arith;
+}
+
+-- the same notes and datagrams
+so-sends : (g : Shown) (told whole told2 : Output) → told2.notes ≡ whole.notes → told2.datagrams ≡ whole.datagrams → Sends g told whole → Sends g told told2
+so-sends g told whole told2 notes datagrams s = record {
+  few = subst (λ (ds : List (List ℕ)). IsShort (since told.datagrams ds)) (sym datagrams) s.few;
+  longer = subst (λ (ds : List (List ℕ)). length told.datagrams ≤ length ds) (sym datagrams) s.longer;
+  noted = subst (λ (ns : List Note). length told.notes ≤ length ns) (sym notes) s.noted;
+  few_notes = subst (λ (ns : List Note). length ns ≤ length told.notes + most_notes g) (sym notes) s.few_notes;
+}
+
+pub sends : StepsGo → StepsNote → InnerSteps → Few → (g new : GatewayState) (event : Event) (told told2 : Output) → IsGatewayStep g told event new told2 → HasBytes event → KeepsParts g → IsGateway g → IsLink new.shown.link
+    → Sends g.shown told told2
+sends go note inner most g new event told told2 step bytes parts is link = by (inner g told event new told2 step bytes parts)
+  where
+    by : IsInner g told event new told2 → Sends g.shown told told2
+    by (inl x) =
+        so-sends g.shown told x.whole told2 x.notes x.datagrams
+        (step-sends go note most g.shown new.shown x.inner told x.whole x.step x.bytes is.shown.book is.shown.lone is.shown.bytes is.shown.history is.shown.pushed link)
+    by (inr x) = so-sends g.shown told told told2 x.notes x.datagrams (none-told g.shown told)
 
 -- the value at place `n` of a list is the first after the first `n` values
 nth-first : (xs : List (List ℕ)) (n : ℕ) → slice_get xs n ≡ slice_get (drop n xs) 0

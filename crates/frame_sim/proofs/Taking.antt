@@ -1,28 +1,33 @@
 -- An event that one of the two gateways takes leads from a sound world to a sound world.
-use Rattle.std.proofs.Common.{◌≡◌, ℕ, Option, Some, None, Result, Ok, Err, List, ◌++◌, refl, sym, ap, subst, ◌∙◌}
+use Rattle.std.proofs.Common.{◌≡◌, ℕ, inl, inr, Option, Some, None, Result, Ok, Err, List, ◌++◌, refl, sym, ap, subst, ◌∙◌}
 use Rattle.std.specs.Prelude.{IfOk, IfErr, OnErr, is_some}
 use Rattle.nat_types.specs.Same.{other}
 use Rattle.nat_types.specs.declared.gateways.GatewayId.{GatewayId}
 use Rattle.nat_types.specs.declared.gateways.GatewayId.TheVariants.{Zero, One}
 use Rattle.nat_types.specs.declared.notes.Note.{Note}
+use Rattle.link.specs.Link.{IsLink}
 use Rattle.output.specs.Output.{Output}
 use Rattle.spec_step.specs.declared.events.Event.{Event}
 use Rattle.spec_step.specs.declared.events.Event.TheVariants as given
 use Rattle.spec_step.specs.declared.events.Outcome.{Outcome}
 use Rattle.spec_step.specs.Shown.{Shown}
-use Rattle.frame_sim.specs.World.{Half, World, gateway_at, half, with_half}
-use Rattle.frame_sim.specs.Events.{Comes, TakesAt, kth, since, unless}
+use Rattle.spec_gateway.specs.State.{GatewayState, KeepsParts}
+use Rattle.frame_sim.specs.World.{Half, World, gateway_at, half, shown_at, state_at, with_half}
+use Rattle.gateway.specs.Gateway.{IsGateway}
+use Rattle.frame_sim.specs.Events.{Comes, TakesAt, kth, since, stepped, unless}
 use Rattle.nat_types.specs.declared.events.WorldEvent.TheVariants.{Deliver}
 use Rattle.frame_sim.specs.declared.events.WorldFault.{WorldFault}
 use Rattle.frame_sim.specs.declared.events.WorldFault.TheVariants.{NoMemory, NoSuchDatagram}
 use Rattle.frame_sim.specs.Runs.{Answers, fault_of}
 use Rattle.frame_sim.specs.Halves.{Receives, StepsAt}
 use Rattle.frame_sim.specs.Lacks.{IsUnreceived}
-use Rattle.frame_sim.specs.Scene.{IsHanded, IsSound}
-use Rattle.frame_sim.proofs.Laws.{AreRead, OthersStep, StepsAccount, StepsAnywhere, StepsGo, StepsKeep}
+use Rattle.frame_sim.specs.Scene.{IsHanded, IsSound, KeepsPartsAt}
+use Rattle.frame_sim.proofs.Laws.{AreRead, OthersStep, PartsStay, StepsAccount, StepsAnywhere, StepsGo, StepsKeep}
 use Rattle.frame_sim.proofs.Handing.{hands-datagram}
 use Rattle.frame_sim.proofs.Lending.{datagram-lent}
-use Rattle.frame_sim.proofs.Stepping.{step-sound}
+use Rattle.frame_sim.proofs.Inner.{InnerSteps, IsInner, inner-handed}
+use Rattle.frame_sim.proofs.Mails.{none-since}
+use Rattle.frame_sim.proofs.Stepping.{step-sound, still-sound}
 
 -- a world with an equal half and an equal trace is sound
 pub sound-so : (w : World) (i : GatewayId) (h h2 : Half) (trace trace2 : List Note) → h2 ≡ h → trace2 ≡ trace → IsSound (with_half w i h trace) → IsSound (with_half w i h2 trace2)
@@ -33,23 +38,51 @@ same-world : (w : World) (i : GatewayId) → IsSound w → IsSound (with_half w 
 same-world w Zero sound = sound
 same-world w One sound = sound
 
-module _ (go : StepsGo) (read : AreRead) (keep : StepsKeep) (anywhere : StepsAnywhere) (account : StepsAccount) (others : OthersStep) where
-  steps-sound : (w : World) (i : GatewayId) (g : Option Shown) (event : Event) (told : Output) (o : Outcome) (told2 : Output) (h2 : Half) (trace2 : List Note) → IsSound w → IsHanded w i event → gateway_at w i ≡ g
+-- with the same notes and datagrams
+so-told : (w : World) (i : GatewayId) (new : GatewayState) (told whole told2 : Output) → told2.notes ≡ whole.notes → told2.datagrams ≡ whole.datagrams → IsSound (stepped w i new told whole)
+    → IsSound (stepped w i new told told2)
+so-told w i new told whole told2 notes datagrams sound =
+    let at : List Note → List (List ℕ) → World = λ ns ds. with_half w i (record (half w i) { gateway = Some new; sent = (half w i).sent ++ since told.datagrams ds }) (w.trace ++ since told.notes ns) in
+    subst (λ (ds : List (List ℕ)). IsSound (at told2.notes ds)) (sym datagrams) (subst (λ (ns : List Note). IsSound (at ns whole.datagrams)) (sym notes) sound)
+
+-- without more notes and datagrams
+so-still : (w : World) (i : GatewayId) (new : GatewayState) (told told2 : Output) → told2.notes ≡ told.notes → told2.datagrams ≡ told.datagrams → IsSound (with_half w i (record (half w i) { gateway = Some new }) w.trace)
+    → IsSound (stepped w i new told told2)
+so-still w i new told told2 notes datagrams sound =
+    let at : List Note → List (List ℕ) → World = λ ns ds. with_half w i (record (half w i) { gateway = Some new; sent = ds }) ns in
+    let ns = none-since w.trace told.notes told2.notes notes in
+    let ds = none-since (half w i).sent told.datagrams told2.datagrams datagrams in
+    subst (λ (xs : List (List ℕ)). IsSound (at (w.trace ++ since told.notes told2.notes) xs)) (sym ds) (subst (λ (xs : List Note). IsSound (at xs (half w i).sent)) (sym ns) sound)
+
+-- a step of a gateway leads from a sound world to a sound one
+module _ (go : StepsGo) (read : AreRead) (keep : StepsKeep) (anywhere : StepsAnywhere) (account : StepsAccount) (others : OthersStep) (inner : InnerSteps) (stays : PartsStay) where
+  inner-sound : (w : World) (i : GatewayId) (g new : GatewayState) (event : Event) (told told2 : Output) → IsSound w → state_at w i ≡ Some g → IsGateway g → KeepsParts new → IsLink new.shown.link → IsHanded w i event
+      → IsInner g told event new told2 → IsSound (stepped w i new told told2)
+  inner-sound w i g new event told told2 sound up was parts link handed (inl x) =
+      let up2 : gateway_at w i ≡ Some g.shown = ap shown_at up in
+      let there = step-sound go read keep anywhere account others w i g.shown new x.inner told x.whole sound up2 x.step x.bytes was.shown.book was.shown.lone was.shown.bytes parts link (inner-handed w i event x.inner x.letters x.words handed) in
+      so-told w i new told x.whole told2 x.notes x.datagrams there
+  inner-sound w i g new event told told2 sound up was parts link handed (inr x) =
+      let same : shown_at (Some new) ≡ gateway_at w i = ap (λ (s : Shown). let o : Option Shown = Some s in o) x.shown ∙ sym (ap shown_at up) in
+      so-still w i new told told2 x.notes x.datagrams (still-sound w i (Some new) sound same parts)
+
+  steps-sound : (w : World) (i : GatewayId) (g : Option GatewayState) (event : Event) (told : Output) (o : Outcome) (told2 : Output) (h2 : Half) (trace2 : List Note) → IsSound w → IsHanded w i event → state_at w i ≡ g
       → StepsAt (half w i) g w.trace event told o told2 h2 trace2 → IsSound (with_half w i h2 trace2)
   steps-sound w i None event told o told2 h2 trace2 sound handed up s = sound-so w i (half w i) h2 w.trace trace2 s.2 s.3 (same-world w i sound)
   steps-sound w i (Some g) event told o told2 h2 trace2 sound handed up s =
+      let parts : KeepsParts g = subst KeepsPartsAt up (sound.parts i) in
       sound-so w i _ h2 (w.trace ++ since told.notes told2.notes) trace2 s.half_is s.trace_is
-      (step-sound go read keep anywhere account others w i g s.new event told told2 sound up s.step s.bytes s.was.book s.was.lone s.was.bytes s.link handed)
+      (inner-sound w i g s.new event told told2 sound up s.was (stays g told event s.new told2 s.step s.bytes parts) s.link handed (inner g told event s.new told2 s.step s.bytes parts))
 
   pub hand-sound : {E : Type 0} (w : World) (i : GatewayId) (result : Result Outcome E) (event : Event) (told told2 : Output) (h2 : Half) (trace2 : List Note) → IsSound w → IsHanded w i event
-      → IfOk result (λ o. StepsAt (half w i) (gateway_at w i) w.trace event told o told2 h2 trace2) → OnErr result (h2 ≡ half w i) → OnErr result (trace2 ≡ w.trace) → IsSound (with_half w i h2 trace2)
-  hand-sound w i (Ok o) event told told2 h2 trace2 sound handed ok same noted = steps-sound w i (gateway_at w i) event told o told2 h2 trace2 sound handed refl ok
+      → IfOk result (λ o. StepsAt (half w i) (state_at w i) w.trace event told o told2 h2 trace2) → OnErr result (h2 ≡ half w i) → OnErr result (trace2 ≡ w.trace) → IsSound (with_half w i h2 trace2)
+  hand-sound w i (Ok o) event told told2 h2 trace2 sound handed ok same noted = steps-sound w i (state_at w i) event told o told2 h2 trace2 sound handed refl ok
   hand-sound w i (Err e) event told told2 h2 trace2 sound handed ok same noted = sound-so w i (half w i) h2 w.trace trace2 same noted (same-world w i sound)
 
   pub receive-sound : {E : Type 0} (w : World) (i : GatewayId) (result : Result Outcome E) (number : ℕ) (told told2 : Output) (h2 : Half) (trace2 : List Note) → IsSound w
       → IfOk result (λ o. Receives (half w i) (half w (other i)) number w.trace told o told2 h2 trace2) → OnErr result (h2 ≡ half w i) → OnErr result (trace2 ≡ w.trace) → IsSound (with_half w i h2 trace2)
   receive-sound w i (Ok o) number told told2 h2 trace2 sound ok same noted =
-      steps-sound w i (gateway_at w i) (given.Datagram ok.bytes) told o told2 h2 trace2 sound (hands-datagram w i number ok.bytes ok.was_sent) refl ok.steps
+      steps-sound w i (state_at w i) (given.Datagram ok.bytes) told o told2 h2 trace2 sound (hands-datagram w i number ok.bytes ok.was_sent) refl ok.steps
   receive-sound w i (Err e) number told told2 h2 trace2 sound ok same noted = sound-so w i (half w i) h2 w.trace trace2 same noted (same-world w i sound)
 
 unmoved : (w : World) (i : GatewayId) (h2 : Half) (trace2 : List Note) → h2 ≡ half w i → trace2 ≡ w.trace → with_half w i h2 trace2 ≡ w
@@ -59,7 +92,7 @@ unmoved w i h2 trace2 same noted = ap (λ (h : Half). with_half w i h trace2) sa
     same-so w Zero = refl
     same-so w One = refl
 
-takes-so : (w : World) (i : GatewayId) (g : Option Shown) (event : Event) (told : Output) (o : Outcome) (told2 : Output) (h2 : Half) (trace2 : List Note) → StepsAt (half w i) g w.trace event told o told2 h2 trace2
+takes-so : (w : World) (i : GatewayId) (g : Option GatewayState) (event : Event) (told : Output) (o : Outcome) (told2 : Output) (h2 : Half) (trace2 : List Note) → StepsAt (half w i) g w.trace event told o told2 h2 trace2
     → TakesAt w i g event told o told2 (with_half w i h2 trace2)
 takes-so w i None event told o told2 h2 trace2 s = (s.0, s.1, unmoved w i h2 trace2 s.2 s.3)
 takes-so w i (Some g) event told o told2 h2 trace2 s = record {
@@ -74,8 +107,8 @@ takes-so w i (Some g) event told o told2 h2 trace2 s = record {
 }
 
 pub hand-takes : {E : Type 0} (w : World) (i : GatewayId) (result : Result Outcome E) (event : Event) (told told2 : Output) (h2 : Half) (trace2 : List Note)
-    → IfOk result (λ o. StepsAt (half w i) (gateway_at w i) w.trace event told o told2 h2 trace2) → IfOk result (λ o. TakesAt w i (gateway_at w i) event told o told2 (with_half w i h2 trace2))
-hand-takes w i (Ok o) event told told2 h2 trace2 s = takes-so w i (gateway_at w i) event told o told2 h2 trace2 s
+    → IfOk result (λ o. StepsAt (half w i) (state_at w i) w.trace event told o told2 h2 trace2) → IfOk result (λ o. TakesAt w i (state_at w i) event told o told2 (with_half w i h2 trace2))
+hand-takes w i (Ok o) event told told2 h2 trace2 s = takes-so w i (state_at w i) event told o told2 h2 trace2 s
 hand-takes w i (Err e) event told told2 h2 trace2 s = tt
 
 -- the answer to a datagram that the other sent, or to a number without one, is as Answers says
@@ -85,7 +118,7 @@ pub receive-answers : (w : World) (i : GatewayId) (result : Result Outcome World
     → IfErr result (λ fault. fault ≡ NoMemory → IsUnreceived (half w i) (half w (other i)) number)
     → OnErr result (h2 ≡ half w i) → OnErr result (trace2 ≡ w.trace) → OnErr result (told2 ≡ told) → Answers w (Deliver i number) told result told2 (with_half w i h2 trace2)
 receive-answers w i (Ok o) number told told2 h2 trace2 s fault short same noted untold =
-    let taken = takes-so w i (gateway_at w i) (given.Datagram s.bytes) told o told2 h2 trace2 s.steps in
-    let comes : Comes w i (Some s.bytes.now) told o told2 (with_half w i h2 trace2) = datagram-lent w i (gateway_at w i) s.bytes told o told2 (with_half w i h2 trace2) taken in
+    let taken = takes-so w i (state_at w i) (given.Datagram s.bytes) told o told2 h2 trace2 s.steps in
+    let comes : Comes w i (Some s.bytes.now) told o told2 (with_half w i h2 trace2) = datagram-lent w i (state_at w i) s.bytes told o told2 (with_half w i h2 trace2) taken in
     (ap (λ (m : Option (List ℕ)). unless (is_some m) NoSuchDatagram) s.was_sent, subst (λ (m : Option (List ℕ)). Comes w i m told o told2 (with_half w i h2 trace2)) (sym s.was_sent) comes)
 receive-answers w i (Err e) number told told2 h2 trace2 s fault short same noted untold = (fault, short, untold, unmoved w i h2 trace2 same noted)

@@ -18,13 +18,14 @@ use Rattle.spec_pair.specs.World.{Can, IsWorld, Scene, after_event, seen_by}
 use Rattle.spec_step.specs.Founding.{begun, bounds_of, founded, link_places}
 use Rattle.spec_step.specs.Machine.{box_of}
 use Rattle.spec_step.specs.Shown.{Shown}
-use Rattle.frame_sim.specs.World.{HaveSameRanges, World, founding_of, gateway_at, half, is_up, settings_of, synced_at, with_half}
+use Rattle.spec_gateway.specs.State.{beginning}
+use Rattle.frame_sim.specs.World.{HaveSameRanges, World, founding_of, gateway_at, half, is_up, settings_of, state_at, synced_at, with_half}
 use Rattle.frame_sim.specs.Events.{may_boot, may_crash, noting}
-use Rattle.frame_sim.specs.Scene.{IsHalf, IsSound, IsThat, box_at, ranges_of, scene_of}
-use Rattle.frame_sim.proofs.Laws.{Begins, BegunAccounts, BoxBooted, BoxFounded, FoundedAccounts, GoesTo, OthersBoot, OthersCrash}
+use Rattle.frame_sim.specs.Scene.{IsHalf, IsSound, IsThat, KeepsPartsAt, box_at, ranges_of, scene_of}
+use Rattle.frame_sim.proofs.Laws.{Begins, BegunAccounts, BoxBooted, BoxFounded, FoundedAccounts, GoesTo, OthersBoot, OthersCrash, PartsBegin}
 use Rattle.frame_sim.proofs.Accounting.{boot-accounted, crash-accounted, founding-accounted}
 use Rattle.frame_sim.proofs.BySettings.{boot-by-settings, crash-by-settings, founding-by-settings}
-use Rattle.frame_sim.proofs.Stepping.{halves-are, with_pushed}
+use Rattle.frame_sim.proofs.Stepping.{halves-are, parts-are, with_pushed}
 
 -- ---- what a box shows of a gateway that may be down
 
@@ -65,20 +66,20 @@ crash-parts w i may =
 can-crash : (w : World) (pushed : GatewayId → List Record) (i : GatewayId) → may_crash w i ≡ true → Can (ranges_of w.settings.ports) i (seen_by i (scene_of w pushed)) act.Crash
 can-crash w pushed Zero may =
     let parts = crash-parts w Zero may in
-    (up-of w.zero.gateway w.zero.boot (pushed Zero) ∙ parts.0, (λ l h. absurd h), λ s. synced-of w.one.gateway w.one.boot (pushed One) ∙ parts.1 (sym (synced-of w.zero.gateway w.zero.boot (pushed Zero)) ∙ s))
+    (up-of (gateway_at w Zero) w.zero.boot (pushed Zero) ∙ parts.0, (λ l h. absurd h), λ s. synced-of (gateway_at w One) w.one.boot (pushed One) ∙ parts.1 (sym (synced-of (gateway_at w Zero) w.zero.boot (pushed Zero)) ∙ s))
 can-crash w pushed One may =
     let parts = crash-parts w One may in
-    (up-of w.one.gateway w.one.boot (pushed One) ∙ parts.0, (λ l h. absurd h), λ s. synced-of w.zero.gateway w.zero.boot (pushed Zero) ∙ parts.1 (sym (synced-of w.one.gateway w.one.boot (pushed One)) ∙ s))
+    (up-of (gateway_at w One) w.one.boot (pushed One) ∙ parts.0, (λ l h. absurd h), λ s. synced-of (gateway_at w Zero) w.zero.boot (pushed Zero) ∙ parts.1 (sym (synced-of (gateway_at w One) w.one.boot (pushed One)) ∙ s))
 
-crashed-is : (w : World) (pushed : GatewayId → List Record) (i : GatewayId) (moment : ℕ) → ((j : GatewayId) → IsHalf w.settings.ports j (half w j).boot (half w j).gateway (pushed j))
+crashed-is : (w : World) (pushed : GatewayId → List Record) (i : GatewayId) (moment : ℕ) → ((j : GatewayId) → IsHalf w.settings.ports j (half w j).boot (gateway_at w j) (pushed j))
     → after_event (ranges_of w.settings.ports) (scene_of w pushed) (crash i moment) ≡ scene_of (crashed_world w i moment) (with_pushed pushed i [])
 crashed-is w pushed Zero moment all =
     let s = scene_of w pushed in
-    ap (λ (b : ℕ). let x : Scene = record s { mine = bare false b; trace = noting Zero moment Crashed ∷ reverse w.trace } in x) (boot-of w.settings.ports Zero w.zero.gateway w.zero.boot (pushed Zero) (all Zero))
+    ap (λ (b : ℕ). let x : Scene = record s { mine = bare false b; trace = noting Zero moment Crashed ∷ reverse w.trace } in x) (boot-of w.settings.ports Zero (gateway_at w Zero) w.zero.boot (pushed Zero) (all Zero))
     ∙ ap (λ (t : List Note). let x : Scene = record s { mine = bare false w.zero.boot; trace = t } in x) (one-more w.trace (noting Zero moment Crashed))
 crashed-is w pushed One moment all =
     let s = scene_of w pushed in
-    ap (λ (b : ℕ). let x : Scene = record s { theirs = bare false b; trace = noting One moment Crashed ∷ reverse w.trace } in x) (boot-of w.settings.ports One w.one.gateway w.one.boot (pushed One) (all One))
+    ap (λ (b : ℕ). let x : Scene = record s { theirs = bare false b; trace = noting One moment Crashed ∷ reverse w.trace } in x) (boot-of w.settings.ports One (gateway_at w One) w.one.boot (pushed One) (all One))
     ∙ ap (λ (t : List Note). let x : Scene = record s { theirs = bare false w.one.boot; trace = t } in x) (one-more w.trace (noting One moment Crashed))
 
 pub crash-sound : GoesTo → OthersCrash → (w : World) (i : GatewayId) (moment : ℕ) → IsSound w → may_crash w i ≡ true → IsSound (crashed_world w i moment)
@@ -92,6 +93,7 @@ crash-sound goes others w i moment sound may =
           (goes r (scene_of w sound.pushed) (crash i moment) sound.scene (can-crash w sound.pushed i may));
       accounted = crash-accounted others w sound.pushed i moment sound.halves sound.accounted;
       by_settings = crash-by-settings w i moment sound.by_settings;
+      parts = parts-are w i (record (half w i) { gateway = None }) (w.trace ++ noting i moment Crashed ∷ []) tt sound.parts;
     }
 
 -- ---- a boot
@@ -100,18 +102,18 @@ abbrev boot : GatewayId → ℕ → machine.MachineEvent
 boot i n = record { by = i; moment = 0; act = act.Boot n }
 
 abbrev pub booted_world : World → GatewayId → ℕ → World
-booted_world w i n = with_half w i (record (half w i) { gateway = Some (begun (settings_of w i) i n); boot = n }) (w.trace ++ noting i 0 (Booted n) ∷ [])
+booted_world w i n = with_half w i (record (half w i) { gateway = Some (beginning (begun (settings_of w i) i n)); boot = n }) (w.trace ++ noting i 0 (Booted n) ∷ [])
 
-can-boot : (w : World) (pushed : GatewayId → List Record) (i : GatewayId) (n : ℕ) → ((j : GatewayId) → IsHalf w.settings.ports j (half w j).boot (half w j).gateway (pushed j))
+can-boot : (w : World) (pushed : GatewayId → List Record) (i : GatewayId) (n : ℕ) → ((j : GatewayId) → IsHalf w.settings.ports j (half w j).boot (gateway_at w j) (pushed j))
     → may_boot w i n ≡ true → Can (ranges_of w.settings.ports) i (seen_by i (scene_of w pushed)) (act.Boot n)
 can-boot w pushed Zero n all may =
-    let parts = and_parts (not (is_up w.zero.gateway)) (nat_lt w.zero.boot n) may in
-    let less = subst (λ b. b < n) (sym (boot-of w.settings.ports Zero w.zero.gateway w.zero.boot (pushed Zero) (all Zero))) (ltb-true w.zero.boot n parts.1) in
-    ((up-of w.zero.gateway w.zero.boot (pushed Zero) ∙ not-true (is_up w.zero.gateway) parts.0, less), (λ l h. absurd h), tt)
+    let parts = and_parts (not (is_up (gateway_at w Zero))) (nat_lt w.zero.boot n) may in
+    let less = subst (λ b. b < n) (sym (boot-of w.settings.ports Zero (gateway_at w Zero) w.zero.boot (pushed Zero) (all Zero))) (ltb-true w.zero.boot n parts.1) in
+    ((up-of (gateway_at w Zero) w.zero.boot (pushed Zero) ∙ not-true (is_up (gateway_at w Zero)) parts.0, less), (λ l h. absurd h), tt)
 can-boot w pushed One n all may =
-    let parts = and_parts (not (is_up w.one.gateway)) (nat_lt w.one.boot n) may in
-    let less = subst (λ b. b < n) (sym (boot-of w.settings.ports One w.one.gateway w.one.boot (pushed One) (all One))) (ltb-true w.one.boot n parts.1) in
-    ((up-of w.one.gateway w.one.boot (pushed One) ∙ not-true (is_up w.one.gateway) parts.0, less), (λ l h. absurd h), tt)
+    let parts = and_parts (not (is_up (gateway_at w One))) (nat_lt w.one.boot n) may in
+    let less = subst (λ b. b < n) (sym (boot-of w.settings.ports One (gateway_at w One) w.one.boot (pushed One) (all One))) (ltb-true w.one.boot n parts.1) in
+    ((up-of (gateway_at w One) w.one.boot (pushed One) ∙ not-true (is_up (gateway_at w One)) parts.0, less), (λ l h. absurd h), tt)
 
 begun-box : BoxBooted → (settings : Settings) (i : GatewayId) (n : ℕ) → booted n ≡ box_of (begun settings i n) []
 unfolding begun
@@ -139,17 +141,18 @@ booted-is law w pushed One n =
     ap (λ (b : Box). let x : Scene = record s { theirs = b; trace = noting One 0 (Booted n) ∷ reverse w.trace } in x) (begun-box law w.settings_one One n)
     ∙ ap (λ (t : List Note). let x : Scene = record s { theirs = box_of (begun w.settings_one One n) []; trace = t } in x) (one-more w.trace (noting One 0 (Booted n)))
 
-pub boot-sound : GoesTo → BoxBooted → OthersBoot → BegunAccounts → (w : World) (i : GatewayId) (n : ℕ) → IsSound w → may_boot w i n ≡ true → IsSound (booted_world w i n)
-boot-sound goes law others begins w i n sound may =
+pub boot-sound : GoesTo → BoxBooted → OthersBoot → BegunAccounts → PartsBegin → (w : World) (i : GatewayId) (n : ℕ) → IsSound w → may_boot w i n ≡ true → IsSound (booted_world w i n)
+boot-sound goes law others begins bytes w i n sound may =
     let r = ranges_of w.settings.ports in
     record {
       ranges = record { zero = sound.ranges.zero; one = sound.ranges.one };
       pushed = with_pushed sound.pushed i [];
-      halves = halves-are w sound.pushed i (record (half w i) { gateway = Some (begun (settings_of w i) i n); boot = n }) [] (w.trace ++ noting i 0 (Booted n) ∷ []) sound.halves (begun-at w i n sound.ranges);
+      halves = halves-are w sound.pushed i (record (half w i) { gateway = Some (beginning (begun (settings_of w i) i n)); boot = n }) [] (w.trace ++ noting i 0 (Booted n) ∷ []) sound.halves (begun-at w i n sound.ranges);
       scene = subst (IsWorld r) (booted-is law w sound.pushed i n)
           (goes r (scene_of w sound.pushed) (boot i n) sound.scene (can-boot w sound.pushed i n sound.halves may));
       accounted = boot-accounted others begins w sound.pushed i n sound.halves sound.accounted;
       by_settings = boot-by-settings w i n sound.by_settings;
+      parts = parts-are w i (record (half w i) { gateway = Some (beginning (begun (settings_of w i) i n)); boot = n }) (w.trace ++ noting i 0 (Booted n) ∷ []) (bytes (begun (settings_of w i) i n)) sound.parts;
     }
 
 -- ---- the founding
@@ -164,19 +167,24 @@ founded-that : (settings : Settings) → IsThat settings.ports Zero 1 (founded s
 unfolding founded begun
 founded-that settings = record { id = refl; zero = refl; one = refl; boot = refl; pushed = record { counted = omega arith; coming = refl; behind = refl } }
 
-pub founding-sound : Begins → BoxFounded → FoundedAccounts → (settings settings_one : Settings) → AreBounds (bounds_of settings.ports.zero) → HaveSameRanges settings settings_one → IsSound (founding_of settings settings_one)
-founding-sound begins law founds settings settings_one are same = record {
+pub founding-sound : Begins → BoxFounded → FoundedAccounts → PartsBegin → (settings settings_one : Settings) → AreBounds (bounds_of settings.ports.zero) → HaveSameRanges settings settings_one → IsSound (founding_of settings settings_one)
+founding-sound begins law founds bytes settings settings_one are same = record {
   ranges = same;
   pushed = λ i. [];
   halves = halves;
   scene = subst (IsWorld (ranges_of settings.ports)) (founded-box law settings settings_one are) (begins (ranges_of settings.ports));
   accounted = founding-accounted founds settings settings_one;
   by_settings = founding-by-settings settings settings_one;
+  parts = parts;
 }
   where
-    halves : (i : GatewayId) → IsHalf settings.ports i (half (founding_of settings settings_one) i).boot (half (founding_of settings settings_one) i).gateway []
+    halves : (i : GatewayId) → IsHalf settings.ports i (half (founding_of settings settings_one) i).boot (gateway_at (founding_of settings settings_one) i) []
     halves Zero = founded-that settings
     halves One = tt
+
+    parts : (i : GatewayId) → KeepsPartsAt (state_at (founding_of settings settings_one) i)
+    parts Zero = bytes (founded settings 1)
+    parts One = tt
 
 pub founded-zero : (settings : Settings) → (founded settings 1).ledger.book.zero ≡ bounds_of settings.ports.zero
 unfolding founded begun

@@ -1,6 +1,5 @@
 -- The events of a world: which are refused, and what the others do.
 use Rattle.std.specs.Prelude.{◌≡◌, ℕ, ◌-◌, ◌==◌, ◌&&◌, ◌||◌, Bool, not, nat_lt, Option, Some, None, List, [], ◌∷◌, ◌++◌, drop, length, slice_get, is_some, if◌then◌else◌}
-use Rattle.std.specs.Borrow.{Bor}
 use Rattle.nat_types.specs.Same.{other}
 use Rattle.nat_types.specs.declared.gateways.GatewayId.{GatewayId}
 use Rattle.nat_types.specs.declared.notes.NoteKind.{NoteKind}
@@ -13,15 +12,16 @@ use Rattle.spec_step.specs.declared.events.Outcome.{Outcome}
 use Rattle.spec_step.specs.declared.events.Outcome.TheVariants.{Done}
 use Rattle.spec_step.specs.Founding.{begun}
 use Rattle.spec_step.specs.Machine.{HasBytes}
-use Rattle.spec_step.specs.Shown.{Shown, scene}
+use Rattle.spec_step.specs.Shown.{scene}
+use Rattle.spec_step.specs.Truly.{IsSetUp, Tells}
+use Rattle.spec_gateway.specs.State.{GatewayState, beginning}
+use Rattle.spec_gateway.specs.Steps.{IsGatewayStep, hand_at, lent, outcome_of}
 use Rattle.gateway.specs.Gateway.{IsGateway}
-use Rattle.spec_step.specs.Steps.{IsStepOn, outcome_on}
-use Rattle.spec_step.specs.Truly.{IsSetUp, Tells, hand_of}
 use Rattle.nat_types.specs.declared.events.WorldEvent.{WorldEvent}
 use Rattle.nat_types.specs.declared.events.WorldEvent.TheVariants.{Frame, Tick, Stop, Deliver, Crash, Boot, PeerOff, Side as Cable}
 use Rattle.frame_sim.specs.declared.events.WorldFault.{WorldFault}
 use Rattle.frame_sim.specs.declared.events.WorldFault.TheVariants.{PremiseBroken, NoSuchDatagram}
-use Rattle.frame_sim.specs.World.{Half, World, gateway_at, half, is_up, moment_of, settings_of, synced_at, with_half}
+use Rattle.frame_sim.specs.World.{Half, World, gateway_at, half, is_up, moment_of, settings_of, state_at, synced_at, with_half}
 
 -- ---- which events are refused
 
@@ -40,7 +40,7 @@ may_boot w i n = not (is_up (gateway_at w i)) && nat_lt (half w i).boot n
 abbrev pub may_be_told : World → GatewayId → ℕ → Bool
 may_be_told w i n =
     let h = half w (other i) in
-    is_up (gateway_at w i) && (not (is_up h.gateway) && (nat_lt 0 n && (h.boot == n)))
+    is_up (gateway_at w i) && (not (is_up (gateway_at w (other i))) && (nat_lt 0 n && (h.boot == n)))
 
 -- the value at place `k` of a list, counted from 1
 abbrev pub kth : {A : Type 0} → ℕ → List A → Option A
@@ -72,7 +72,7 @@ abbrev pub since : {A : Type 0} → List A → List A → List A
 since old new = drop (length old) new
 
 -- the world after a gateway's step: its notes are appended to the trace, its datagrams to those that it sent
-abbrev pub stepped : World → GatewayId → Shown → Output → Output → World
+abbrev pub stepped : World → GatewayId → GatewayState → Output → Output → World
 stepped w i new told told2 =
     let h = half w i in
     with_half w i (record h {
@@ -81,30 +81,26 @@ stepped w i new told told2 =
     }) (w.trace ++ since told.notes told2.notes)
 
 -- a gateway that is up takes a step, in which it tells truly
-pub record Takes (w : World) (i : GatewayId) (g : Shown) (event : Event) (told : Output) (outcome : Outcome) (told2 : Output) (w2 : World) : Type 0 where
-  pub new : Shown
-  pub step : IsStepOn (scene g told) event (scene new told2)
-  pub truly : Tells (hand_of event) (scene g told) (scene new told2)
+pub record Takes (w : World) (i : GatewayId) (g : GatewayState) (event : Event) (told : Output) (outcome : Outcome) (told2 : Output) (w2 : World) : Type 0 where
+  pub new : GatewayState
+  pub step : IsGatewayStep g told event new told2
+  pub truly : Tells (hand_at g event) (scene g.shown told) (scene new.shown step.whole)
   pub bytes : HasBytes event
   pub was : IsGateway g
-  pub set_up : IsSetUp g
-  pub answer : outcome ≡ outcome_on g event
+  pub set_up : IsSetUp g.shown
+  pub answer : outcome ≡ outcome_of g event
   pub world : w2 ≡ stepped w i new told told2
 
 -- what an event does at a gateway: one that is down takes nothing, and the outcome is Done
-abbrev pub TakesAt : World → GatewayId → Option Shown → Event → Output → Outcome → Output → World → Type 0
+abbrev pub TakesAt : World → GatewayId → Option GatewayState → Event → Output → Outcome → Output → World → Type 0
 TakesAt w i None event told outcome told2 w2 = (outcome ≡ Done) × (told2 ≡ told) × (w2 ≡ w)
 TakesAt w i (Some g) event told outcome told2 w2 = Takes w i g event told outcome told2 w2
-
--- these bytes, as borrowed ones
-abbrev pub lent : List ℕ → Bor (List ℕ)
-lent bytes = record { ref_ptr = (0, 0); now = bytes }
 
 -- a datagram comes to a gateway
 abbrev pub Comes : World → GatewayId → Option (List ℕ) → Output → Outcome → Output → World → Type 0
 Comes w i None told outcome told2 w2 = ⊥
 Comes w i (Some bytes) told outcome told2 w2 =
-    TakesAt w i (gateway_at w i) (given.Datagram (lent bytes)) told outcome told2 w2
+    TakesAt w i (state_at w i) (given.Datagram (lent bytes)) told outcome told2 w2
 
 -- a crash or a boot: the gateway is down or up afterwards, which is noted
 abbrev pub Turns : World → GatewayId → Half → Note → Output → Outcome → Output → World → Type 0
@@ -117,13 +113,13 @@ noting i moment what = record { by = i; at = moment; what = what }
 
 -- what an event that isn't refused does to the world and the output
 abbrev pub Does : World → WorldEvent → Output → Outcome → Output → World → Type 0
-Does w (Frame i side bytes) = TakesAt w i (gateway_at w i) (given.Frame side (lent bytes.items))
-Does w (Tick i moment) = TakesAt w i (gateway_at w i) (given.Tick moment)
-Does w (Stop i) = TakesAt w i (gateway_at w i) given.Stop
+Does w (Frame i side bytes) = TakesAt w i (state_at w i) (given.Frame side (lent bytes.items))
+Does w (Tick i moment) = TakesAt w i (state_at w i) (given.Tick moment)
+Does w (Stop i) = TakesAt w i (state_at w i) given.Stop
 Does w (Deliver i k) = Comes w i (datagram_for w i k)
 Does w (Crash i) = let h = half w i in
-    Turns w i (record h { gateway = None }) (noting i (moment_of h.gateway) Crashed)
+    Turns w i (record h { gateway = None }) (noting i (moment_of (gateway_at w i)) Crashed)
 Does w (Boot i n) = let h = half w i in
-    Turns w i (record h { gateway = Some (begun (settings_of w i) i n); boot = n }) (noting i 0 (Booted n))
-Does w (PeerOff i n) = TakesAt w i (gateway_at w i) (given.PeerOff n)
-Does w (Cable i side up) = TakesAt w i (gateway_at w i) (given.Side side up)
+    Turns w i (record h { gateway = Some (beginning (begun (settings_of w i) i n)); boot = n }) (noting i 0 (Booted n))
+Does w (PeerOff i n) = TakesAt w i (state_at w i) (given.PeerOff n)
+Does w (Cable i side up) = TakesAt w i (state_at w i) (given.Side side up)

@@ -9,9 +9,10 @@ use Rattle.spec_step.specs.declared.events.Event.TheVariants.{Datagram}
 use Rattle.spec_step.specs.declared.events.Outcome.{Outcome}
 use Rattle.spec_step.specs.declared.events.Outcome.TheVariants.{Done}
 use Rattle.spec_step.specs.Machine.{HasBytes}
-use Rattle.spec_step.specs.Shown.{Shown, scene}
-use Rattle.spec_step.specs.Steps.{IsStepOn, outcome_on}
-use Rattle.spec_step.specs.Truly.{IsSetUp, Tells, hand_of}
+use Rattle.spec_step.specs.Shown.{scene}
+use Rattle.spec_step.specs.Truly.{IsSetUp, Tells}
+use Rattle.spec_gateway.specs.State.{GatewayState}
+use Rattle.spec_gateway.specs.Steps.{IsGatewayStep, hand_at, outcome_of}
 use Rattle.gateway.specs.Gateway.{IsGateway}
 use Rattle.frame_sim.specs.World.{Half}
 use Rattle.frame_sim.specs.Events.{kth, since}
@@ -26,17 +27,22 @@ IsShort [] = Unit {0}
 IsShort (bytes ∷ []) = length bytes ≤ 2214
 IsShort (bytes ∷ more ∷ rest) = ⊥
 
+-- a gateway takes a step, in which it tells truly
+pub record TellsTruly (g : GatewayState) (told : Output) (event : Event) (new : GatewayState) (told2 : Output) : Type 0 where
+  pub step : IsGatewayStep g told event new told2
+  pub truly : Tells (hand_at g event) (scene g.shown told) (scene new.shown step.whole)
+
 -- a gateway that is up takes a step; its notes are appended to the trace, and its datagram to those
 -- that it sent
-pub record Steps (h : Half) (g : Shown) (trace : List Note) (event : Event) (told : Output) (outcome : Outcome) (told2 : Output) (h2 : Half) (trace2 : List Note) : Type 0 where
-  pub new : Shown
-  pub step : IsStepOn (scene g told) event (scene new told2)
-  pub truly : Tells (hand_of event) (scene g told) (scene new told2)
+pub record Steps (h : Half) (g : GatewayState) (trace : List Note) (event : Event) (told : Output) (outcome : Outcome) (told2 : Output) (h2 : Half) (trace2 : List Note) : Type 0 where
+  pub new : GatewayState
+  pub step : IsGatewayStep g told event new told2
+  pub truly : Tells (hand_at g event) (scene g.shown told) (scene new.shown step.whole)
   pub bytes : HasBytes event
   pub was : IsGateway g
-  pub set_up : IsSetUp g
-  pub link : IsLink new.link
-  pub answer : outcome ≡ outcome_on g event
+  pub set_up : IsSetUp g.shown
+  pub link : IsLink new.shown.link
+  pub answer : outcome ≡ outcome_of g event
   pub half_is : h2 ≡ record h {
     gateway = Some new;
     sent = h.sent ++ since told.datagrams told2.datagrams;
@@ -44,7 +50,7 @@ pub record Steps (h : Half) (g : Shown) (trace : List Note) (event : Event) (tol
   pub trace_is : trace2 ≡ trace ++ since told.notes told2.notes
 
 -- what an event does at a half: a gateway that is down takes nothing, and the outcome is Done
-abbrev pub StepsAt : Half → Option Shown → List Note → Event → Output → Outcome → Output → Half → List Note → Type 0
+abbrev pub StepsAt : Half → Option GatewayState → List Note → Event → Output → Outcome → Output → Half → List Note → Type 0
 StepsAt h None trace event told outcome told2 h2 trace2 =
     (outcome ≡ Done) × (told2 ≡ told) × (h2 ≡ h) × (trace2 ≡ trace)
 StepsAt h (Some g) trace event told outcome told2 h2 trace2 =

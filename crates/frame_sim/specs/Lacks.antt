@@ -18,8 +18,9 @@ use Rattle.spec_step.specs.declared.events.Event.{Event}
 use Rattle.spec_step.specs.declared.events.Event.TheVariants as given
 use Rattle.spec_step.specs.Rests.{most_notes}
 use Rattle.spec_step.specs.Shown.{Shown}
+use Rattle.spec_gateway.specs.State.{GatewayState}
 use Rattle.gateway.specs.Lacks.{LacksGateway, LacksMemory}
-use Rattle.frame_sim.specs.World.{Half, World, gateway_at, half, moment_of, settings_of}
+use Rattle.frame_sim.specs.World.{Half, World, gateway_at, half, moment_of, settings_of, state_at}
 use Rattle.frame_sim.specs.Events.{kth, noting}
 
 -- There was no memory for what a gateway may send and note in a step: for the longest datagram (2,214 bytes), for its
@@ -29,7 +30,7 @@ WasUnready g = Unit {0} × (WasRefused 2214 ⊎ (WasRefused 1 ⊎ WasRefused (mo
 
 -- The gateway was to take this event, and an allocation was refused that its step needs, on an output page without the
 -- space for it.
-unfoldable pub WasUnstepped : Shown → Event → Type 0
+unfoldable pub WasUnstepped : GatewayState → Event → Type 0
 WasUnstepped g event = Unit {0} × ((page : Paged) × LacksMemory g page event)
 
 -- no gateway could begin with these settings, in the life of this number
@@ -72,9 +73,9 @@ IsUnnoted note = WasUntraced note ⊎ WasUntold note
 
 -- a gateway took no step for this event, because of WasUnready or WasUnstepped; one that is down takes none, and no
 -- memory
-abbrev pub IsUnstepped : Option Shown → Event → Type 0
+abbrev pub IsUnstepped : Option GatewayState → Event → Type 0
 IsUnstepped None event = ⊥
-IsUnstepped (Some g) event = WasUnready g ⊎ WasUnstepped g event
+IsUnstepped (Some g) event = WasUnready g.shown ⊎ WasUnstepped g event
 
 -- a gateway took no step for the datagram of this number among those that the other sent
 abbrev pub IsUnreceived : Half → Half → ℕ → Type 0
@@ -83,14 +84,14 @@ IsUnreceived h from number = (bytes : Bor (List ℕ)) × ((kth number from.sent 
 -- The memory that an event lacked, so that it wasn't applied: memory for the step of the gateway to which it happens;
 -- for a crash, a place for its note; for a boot, the gateway or a place for its note.
 abbrev pub Lacks : World → WorldEvent → Type 0
-Lacks w (Frame i side bytes) = (lent : Bor (List ℕ)) × ((lent.now ≡ bytes.items) × IsUnstepped (gateway_at w i) (given.Frame side lent))
-Lacks w (Tick i moment) = IsUnstepped (gateway_at w i) (given.Tick moment)
-Lacks w (Stop i) = IsUnstepped (gateway_at w i) given.Stop
+Lacks w (Frame i side bytes) = (lent : Bor (List ℕ)) × ((lent.now ≡ bytes.items) × IsUnstepped (state_at w i) (given.Frame side lent))
+Lacks w (Tick i moment) = IsUnstepped (state_at w i) (given.Tick moment)
+Lacks w (Stop i) = IsUnstepped (state_at w i) given.Stop
 Lacks w (Deliver i k) = IsUnreceived (half w i) (half w (other i)) k
 Lacks w (Crash i) = IsUnnoted (noting i (moment_of (gateway_at w i)) Crashed)
 Lacks w (Boot i n) = WasUnbegun (settings_of w i) i n ⊎ IsUnnoted (noting i 0 (Booted n))
-Lacks w (PeerOff i n) = IsUnstepped (gateway_at w i) (given.PeerOff n)
-Lacks w (Cable i side up) = IsUnstepped (gateway_at w i) (given.Side side up)
+Lacks w (PeerOff i n) = IsUnstepped (state_at w i) (given.PeerOff n)
+Lacks w (Cable i side up) = IsUnstepped (state_at w i) (given.Side side up)
 
 -- ---- of what a gateway holds; of one that is down there is none to list
 

@@ -20,7 +20,8 @@ use Rattle.spec_step.specs.declared.events.Event.{Event}
 use Rattle.spec_step.specs.Machine.{HasPushed, box_of, letter_in, letters_in, words_in}
 use Rattle.spec_step.specs.Rests.{AccountsOn}
 use Rattle.spec_step.specs.Shown.{Shown, id_of}
-use Rattle.frame_sim.specs.World.{HaveSameRanges, NeverAlone, World, gateway_at, half, settings_of}
+use Rattle.spec_gateway.specs.State.{GatewayState, KeepsParts}
+use Rattle.frame_sim.specs.World.{HaveSameRanges, NeverAlone, World, gateway_at, half, settings_of, state_at}
 
 -- the two ranges: gateway 0 is founded with range zero, and ports move
 abbrev pub ranges_of : PortRanges → Ranges
@@ -41,8 +42,8 @@ mail_of sent = reverse (flat_map (λ bytes. letter_in (reading bytes)) sent)
 -- the scene of a world, where the two gateways pushed these records
 abbrev pub scene_of : World → (GatewayId → List Record) → Scene
 scene_of w pushed = record {
-  mine = box_at w.zero.gateway w.zero.boot (pushed Zero);
-  theirs = box_at w.one.gateway w.one.boot (pushed One);
+  mine = box_at (gateway_at w Zero) w.zero.boot (pushed Zero);
+  theirs = box_at (gateway_at w One) w.one.boot (pushed One);
   my_mail = mail_of w.zero.sent;
   their_mail = mail_of w.one.sent;
   trace = reverse w.trace;
@@ -76,24 +77,30 @@ abbrev pub AloneAfter : ℕ → Option Shown → Type 0
 AloneAfter alone None = Unit {0}
 AloneAfter alone (Some g) = g.ledger.book.alone ≡ alone
 
+-- the fragments of a gateway that is up are bytes
+abbrev pub KeepsPartsAt : Option GatewayState → Type 0
+KeepsPartsAt None = Unit {0}
+KeepsPartsAt (Some s) = KeepsParts s
+
 -- each gateway goes by its settings, so that no note is Alone where these never make a pair alone
 pub record IsBySettings (w : World) : Type 0 where
   pub alone : (i : GatewayId) → AloneAfter (settings_of w i).alone (gateway_at w i)
   pub plain : NeverAlone w → IsPlain (reverse w.trace)
 
--- The world is sound: for some lists of pushed records its scene can come about, the trace is accounted for, and both
--- gateways go by their settings, which have the same ranges.
+-- The world is sound: for some lists of pushed records its scene can come about, the trace is accounted for, both
+-- gateways go by their settings, which have the same ranges, and their fragments are bytes.
 pub record IsSound (w : World) : Type 0 where
   pub ranges : HaveSameRanges w.settings w.settings_one
   pub pushed : GatewayId → List Record
   pub halves : (i : GatewayId) →
-      IsHalf w.settings.ports i (half w i).boot (half w i).gateway (pushed i)
+      IsHalf w.settings.ports i (half w i).boot (gateway_at w i) (pushed i)
   pub scene : IsWorld (ranges_of w.settings.ports) (scene_of w pushed)
   pub accounted : IsAccounted w
   pub by_settings : IsBySettings w
+  pub parts : (i : GatewayId) → KeepsPartsAt (state_at w i)
 
 -- gateway i may be given the event: its datagram was sent by the other, and its operator's word about the other is true
 pub record IsHanded (w : World) (i : GatewayId) (event : Event) : Type 0 where
   pub letters : WasSent (letters_in event) (mail_of (half w (other i)).sent)
   pub words : (h : List Record) →
-      let o = half w (other i) in IsOff (words_in event) (box_at o.gateway o.boot h)
+      IsOff (words_in event) (box_at (gateway_at w (other i)) (half w (other i)).boot h)

@@ -18,13 +18,16 @@ use Rattle.link.specs.Link.{pushed_count}
 use Rattle.spec_trace.specs.Plain as plain
 use Rattle.spec_trace.specs.Trace.{Fits, IsOpen, IsPrivate, IsSynced, WasAlone}
 use Rattle.spec_binding.specs.Books.{is_synced}
+use Rattle.packet_rules.specs.Networks.{networks_of}
+use Rattle.packet_rules.specs.declared.networks.Networks.{Networks}
 use Rattle.spec_step.specs.Founding.{bounds_of, founded}
 use Rattle.spec_step.specs.Shown.{Shown}
+use Rattle.spec_gateway.specs.State.{GatewayState, beginning}
 
 -- One of the two gateways: the gateway where it is up, the number of its last boot (0 where it never booted), and all
 -- datagrams that it ever sent, the oldest first.
 pub record Half : Type 0 where
-  pub gateway : Option Shown
+  pub gateway : Option GatewayState
   pub boot : ℕ
   pub sent : List (List ℕ)
 
@@ -44,9 +47,22 @@ half w i = of_gateway w.zero w.one i
 abbrev pub settings_of : World → GatewayId → Settings
 settings_of w i = of_gateway w.settings w.settings_one i
 
--- the gateway of this number, where it is up
+-- the networks of a gateway, by its settings
+abbrev pub networks_at : World → GatewayId → Networks
+networks_at w i = networks_of (settings_of w i) i
+
+-- the gateway of this number with its fragments, where it is up
+abbrev pub state_at : World → GatewayId → Option GatewayState
+state_at w i = (half w i).gateway
+
+-- what a gateway shows, where it is up
+abbrev pub shown_at : Option GatewayState → Option Shown
+shown_at None = None
+shown_at (Some s) = Some s.shown
+
+-- what the gateway of this number shows, where it is up
 abbrev pub gateway_at : World → GatewayId → Option Shown
-gateway_at w i = (half w i).gateway
+gateway_at w i = shown_at (state_at w i)
 
 -- the world with another half for a gateway, and with these notes
 abbrev pub with_half : World → GatewayId → Half → List Note → World
@@ -64,7 +80,7 @@ abbrev pub founding_of : Settings → Settings → World
 founding_of settings settings_one = record {
   settings = settings;
   settings_one = settings_one;
-  zero = record { gateway = Some (founded settings 1); boot = 1; sent = [] };
+  zero = record { gateway = Some (beginning (founded settings 1)); boot = 1; sent = [] };
   one = record { gateway = None; boot = 0; sent = [] };
   trace = [];
 }

@@ -5,14 +5,15 @@ ghost use Rattle.link.specs.Link.{IsLink};
 ghost use Rattle.spec_binding.specs.Books.{is_synced};
 ghost use Rattle.spec_step.specs.Machine.{HasBytes};
 ghost use Rattle.spec_step.specs.Rests.{most_notes};
-ghost use Rattle.spec_step.specs.Shown.{scene};
-ghost use Rattle.spec_step.specs.Steps.{IsStepOn, outcome_on};
-ghost use Rattle.spec_step.specs.Truly.{IsSetUp, Tells, hand_of};
+ghost use Rattle.spec_step.specs.Truly.{IsSetUp};
+ghost use Rattle.spec_gateway.specs.Steps.{IsGatewayStep, outcome_of};
 ghost use Rattle.gateway.specs.Gateway.{IsGateway};
-ghost use Rattle.frame_sim.specs.World.{is_up, moment_of, owned_by, pairs_of, synced_at};
+ghost use Rattle.frame_sim.specs.World.{is_up, moment_of, owned_by, pairs_of, shown_at, synced_at};
 ghost use Rattle.frame_sim.specs.declared.events.WorldFault.TheVariants as faults;
 ghost use Rattle.frame_sim.specs.Events.{kth, since, unless};
-ghost use Rattle.frame_sim.specs.Halves.{IsShort, Receives, StepsAt, items_of};
+ghost use Rattle.frame_sim.specs.Halves.{IsShort, Receives, StepsAt, TellsTruly, items_of};
+ghost use Rattle.frame_sim.specs.Scene.{KeepsPartsAt};
+ghost use Rattle.spec_gateway.specs.State.{KeepsParts};
 ghost use Rattle.frame_sim.specs.Lacks.{IsUnowned, IsUnpaired, IsUnreceived, IsUnstepped, IsUntranslated, WasUnowned, WasUnpaired, WasUnready, WasUnstepped, WasUntranslated};
 ghost use Rattle.frame_sim.specs.Runs.{fault_of};
 ghost use Rattle.frame_sim.specs.World.{HasKeys};
@@ -23,7 +24,8 @@ use gateway::{Event, Gateway, Out, Outcome};
 use link::limits_law;
 use memory::{reserve, with_room};
 use nat_types::{NoMemory, Note, Pair};
-use spec_step::{steps_go, steps_note, steps_tell};
+use spec_gateway::{gateway_tells, inner_steps};
+use spec_step::{steps_go, steps_note};
 use std::alloc::Global;
 use std::marker::Model;
 
@@ -108,10 +110,10 @@ fn room_for_step(
     ensures room { IfOk result (λ letter. vec_len letter + 2214 ≤ vec_capacity letter) }
     ensures place { OnOk result (vec_len sent.new < vec_capacity sent.new) }
     ensures notes { OnOk result
-        (vec_len trace.new + most_notes gateway.now ≤ vec_capacity trace.new) }
+        (vec_len trace.new + most_notes gateway.now.shown ≤ vec_capacity trace.new) }
     ensures sent { sent.new.items ≡ sent.old.items }
     ensures trace { trace.new.items ≡ trace.old.items }
-    ensures unready { OnErr result (WasUnready gateway.now) }
+    ensures unready { OnErr result (WasUnready gateway.now.shown) }
 {
     let letter = with_room(alloc, LONGEST_DATAGRAM)?;
     reserve(sent, 1)?;
@@ -123,9 +125,9 @@ fn room_for_step(
 /// `WasUnstepped`.
 #[tactic(auto, unfolding(crate::specs::Lacks::WasUnstepped))]
 fn step_gateway(gateway: &mut Gateway, event: Event<'_>, out: &mut Out) -> Result<Outcome, NoMemory>
-    ensures outcome { IfOk result (λ o. o ≡ outcome_on gateway.old event.entry) }
-    ensures step { OnOk result (IsStepOn (scene gateway.old out.old) event.entry
-        (scene gateway.new out.new)) }
+    ensures outcome { IfOk result (λ o. o ≡ outcome_of gateway.old event.entry) }
+    ensures step { OnOk result (IsGatewayStep gateway.old out.old event.entry
+        gateway.new out.new) }
     ensures bytes { HasBytes event.entry }
     ensures err { OnErr result (gateway.new ≡ gateway.old) }
     ensures untold { OnErr result (out.new ≡ out.old) }
@@ -143,15 +145,14 @@ fn step_up(
     event: Event<'_>,
     out: &mut Out,
 ) -> Result<Outcome, NoMemory>
-    ensures outcome { IfOk result (λ o. o ≡ outcome_on gateway.old event.entry) }
-    ensures step { OnOk result (IsStepOn (scene gateway.old out.old) event.entry
-        (scene gateway.new out.new)) }
-    ensures truly { OnOk result (Tells (hand_of event.entry) (scene gateway.old out.old)
-        (scene gateway.new out.new)) }
+    requires parts { KeepsParts gateway.old }
+    ensures outcome { IfOk result (λ o. o ≡ outcome_of gateway.old event.entry) }
+    ensures steps { OnOk result (TellsTruly gateway.old out.old event.entry
+        gateway.new out.new) }
     ensures bytes { OnOk result (HasBytes event.entry) }
     ensures was { IsGateway gateway.old }
-    ensures set_up { IsSetUp gateway.old }
-    ensures link { OnOk result (IsLink gateway.new.link) }
+    ensures set_up { IsSetUp gateway.old.shown }
+    ensures link { OnOk result (IsLink gateway.new.shown.link) }
     ensures sent { OnOk result (items_of sent.new.items
         ≡ items_of sent.old.items ++ since out.old.datagrams out.new.datagrams) }
     ensures trace { OnOk result (trace.new.items
@@ -160,11 +161,13 @@ fn step_up(
     ensures unsent { OnErr result (items_of sent.new.items ≡ items_of sent.old.items) }
     ensures unnoted { OnErr result (trace.new.items ≡ trace.old.items) }
     ensures untold { OnErr result (out.new ≡ out.old) }
-    ensures short { OnErr result (WasUnready gateway.old ⊎ WasUnstepped gateway.old event.entry) }
+    ensures short { OnErr result
+        (WasUnready gateway.old.shown ⊎ WasUnstepped gateway.old event.entry) }
 {
     steps_go();
-    steps_tell();
     steps_note();
+    inner_steps();
+    gateway_tells();
     limits_law();
     gateway.recall();
     let letter = room_for_step(alloc, gateway, sent, trace)?;
@@ -180,8 +183,8 @@ fn step_up(
 /// Returns the pairs of a gateway's table. NoMemory from this call, and from no other, is named `WasUnpaired`.
 #[tactic(auto, unfolding(crate::specs::Lacks::WasUnpaired))]
 fn told_pairs(gateway: &Gateway) -> Result<Vec<Pair>, NoMemory>
-    ensures pairs { IfOk result (λ v. v.items ≡ pairs_of is_pair (Some gateway.now)) }
-    ensures unpaired { OnErr result (WasUnpaired gateway.now) }
+    ensures pairs { IfOk result (λ v. v.items ≡ pairs_of is_pair (Some gateway.now.shown)) }
+    ensures unpaired { OnErr result (WasUnpaired gateway.now.shown) }
 {
     gateway.pairs()
 }
@@ -190,8 +193,8 @@ fn told_pairs(gateway: &Gateway) -> Result<Vec<Pair>, NoMemory>
 /// `WasUntranslated`.
 #[tactic(auto, unfolding(crate::specs::Lacks::WasUntranslated))]
 fn told_translating(gateway: &Gateway) -> Result<Vec<Pair>, NoMemory>
-    ensures pairs { IfOk result (λ v. v.items ≡ pairs_of translates (Some gateway.now)) }
-    ensures untranslated { OnErr result (WasUntranslated gateway.now) }
+    ensures pairs { IfOk result (λ v. v.items ≡ pairs_of translates (Some gateway.now.shown)) }
+    ensures untranslated { OnErr result (WasUntranslated gateway.now.shown) }
 {
     gateway.translating()
 }
@@ -199,9 +202,9 @@ fn told_translating(gateway: &Gateway) -> Result<Vec<Pair>, NoMemory>
 /// Returns the ports that a gateway owns. NoMemory from this call, and from no other, is named `WasUnowned`.
 #[tactic(auto, unfolding(crate::specs::Lacks::WasUnowned))]
 fn told_ports(gateway: &Gateway) -> Result<Vec<Port>, NoMemory>
-    ensures ports { IfOk result (λ v. v.items ≡ owned_by (Some gateway.now)) }
-    ensures none { is_synced gateway.now.ledger.book.stage ≡ false → IsOk result }
-    ensures unowned { OnErr result (WasUnowned gateway.now) }
+    ensures ports { IfOk result (λ v. v.items ≡ owned_by (Some gateway.now.shown)) }
+    ensures none { is_synced gateway.now.shown.ledger.book.stage ≡ false → IsOk result }
+    ensures unowned { OnErr result (WasUnowned gateway.now.shown) }
 {
     gateway.owned()
 }
@@ -227,6 +230,7 @@ impl Half {
         event: Event<'_>,
         out: &mut Out,
     ) -> Result<Outcome, NoMemory>
+        requires parts { KeepsPartsAt self.old.gateway }
         ensures steps { IfOk result (λ o. StepsAt self.old self.old.gateway trace.old.items
             event.entry out.old o out.new self.new trace.new.items) }
         ensures err { OnErr result (self.new ≡ self.old) }
@@ -280,6 +284,7 @@ impl Half {
         trace: &mut Vec<Note>,
         out: &mut Out,
     ) -> Result<Outcome, WorldFault>
+        requires parts { KeepsPartsAt self.old.gateway }
         ensures steps { IfOk result (λ o. Receives self.old other.now number trace.old.items
             out.old o out.new self.new trace.new.items) }
         ensures fault { IfErr result (λ fault. fault
@@ -311,7 +316,7 @@ impl Half {
 
     /// Reminds the prover that the entries of a table have distinct keys. The call does nothing when it runs.
     pub(crate) fn recall(&self)
-        ensures { HasKeys self.now.gateway }
+        ensures { HasKeys (shown_at self.now.gateway) }
     {
         if let Some(gateway) = &self.gateway {
             gateway.recall();
@@ -320,8 +325,8 @@ impl Half {
 
     /// Returns the pairs of the gateway's table, or none while it is down.
     pub(crate) fn pairs(&self, alloc: Global) -> Result<Vec<Pair>, NoMemory>
-        ensures pairs { IfOk result (λ v. v.items ≡ pairs_of is_pair self.now.gateway) }
-        ensures unlisted { OnErr result (IsUnpaired self.now.gateway) }
+        ensures pairs { IfOk result (λ v. v.items ≡ pairs_of is_pair (shown_at self.now.gateway)) }
+        ensures unlisted { OnErr result (IsUnpaired (shown_at self.now.gateway)) }
     {
         match &self.gateway {
             Some(gateway) => told_pairs(gateway),
@@ -331,8 +336,9 @@ impl Half {
 
     /// Returns the pairs with which the gateway translates, or none while it is down.
     pub(crate) fn translating(&self, alloc: Global) -> Result<Vec<Pair>, NoMemory>
-        ensures pairs { IfOk result (λ v. v.items ≡ pairs_of translates self.now.gateway) }
-        ensures unlisted { OnErr result (IsUntranslated self.now.gateway) }
+        ensures pairs { IfOk result
+            (λ v. v.items ≡ pairs_of translates (shown_at self.now.gateway)) }
+        ensures unlisted { OnErr result (IsUntranslated (shown_at self.now.gateway)) }
     {
         match &self.gateway {
             Some(gateway) => told_translating(gateway),
@@ -342,8 +348,8 @@ impl Half {
 
     /// Returns the ports that the gateway owns, or none where it isn't synced.
     pub(crate) fn owned(&self, alloc: Global) -> Result<Vec<Port>, NoMemory>
-        ensures ports { IfOk result (λ v. v.items ≡ owned_by self.now.gateway) }
-        ensures unlisted { OnErr result (IsUnowned self.now.gateway) }
+        ensures ports { IfOk result (λ v. v.items ≡ owned_by (shown_at self.now.gateway)) }
+        ensures unlisted { OnErr result (IsUnowned (shown_at self.now.gateway)) }
     {
         match &self.gateway {
             Some(gateway) => told_ports(gateway),
@@ -353,7 +359,7 @@ impl Half {
 
     /// Whether the gateway is up and its table loaded.
     pub(crate) fn synced(&self) -> bool
-        ensures { result ≡ synced_at self.now.gateway }
+        ensures { result ≡ synced_at (shown_at self.now.gateway) }
     {
         match &self.gateway {
             Some(gateway) => gateway.synced(),
@@ -363,7 +369,7 @@ impl Half {
 
     /// Returns the time of the gateway's clock in centiseconds, or 0 while it is down.
     pub(crate) fn moment(&self) -> u64
-        ensures { result ≡ moment_of self.now.gateway }
+        ensures { result ≡ moment_of (shown_at self.now.gateway) }
     {
         match &self.gateway {
             Some(gateway) => gateway.moment(),
@@ -373,7 +379,7 @@ impl Half {
 
     /// Whether the gateway is up.
     pub(crate) fn up(&self) -> bool
-        ensures { result ≡ is_up self.now.gateway }
+        ensures { result ≡ is_up (shown_at self.now.gateway) }
     {
         self.gateway.is_some()
     }

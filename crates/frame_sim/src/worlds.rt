@@ -7,13 +7,14 @@ ghost use Rattle.spec_trace.specs.Trace.{AtMostTwo, GoesOn, Idle, Kept, OneEndpo
 ghost use Rattle.output.specs.Output.{with_note};
 ghost use Rattle.nat_types.specs.declared.gateways.GatewayId.TheVariants.{Zero};
 ghost use Rattle.spec_step.specs.Founding.{begun, founded};
+ghost use Rattle.spec_gateway.specs.State.{beginning};
 ghost use Rattle.nat_types.specs.declared.events.WorldEvent.TheVariants as events;
 ghost use Rattle.frame_sim.specs.declared.events.WorldFault.TheVariants as faults;
 ghost use Rattle.frame_sim.specs.Events.{TakesAt, datagram_for, may_be_told, may_boot, may_crash};
 ghost use Rattle.frame_sim.specs.Lacks.{IsUnnoted, IsUnowned, IsUnpaired, IsUnstepped, IsUntranslated, WasUnbegun, WasUnrun, WasUntold, WasUntraced};
 ghost use Rattle.frame_sim.specs.Runs.{Answers, AreSteps, Gives, WasTaken, fault_of};
 ghost use Rattle.frame_sim.specs.Scene.{IsHanded};
-ghost use Rattle.frame_sim.specs.World.{HaveSameRanges, Holds, IsKeptTogether, IsOwned, IsShared, NeverAlone, ShowsSynced, Translates, founding, founding_of, gateway_at, half, is_up, owned_by, pairs_of, settings_of, synced_at};
+ghost use Rattle.frame_sim.specs.World.{HaveSameRanges, Holds, IsKeptTogether, IsOwned, IsShared, NeverAlone, ShowsSynced, Translates, founding, founding_of, gateway_at, half, is_up, networks_at, owned_by, pairs_of, settings_of, state_at, synced_at};
 
 use crate::halves::Half;
 use crate::{Step, WorldEvent, WorldFault};
@@ -23,8 +24,10 @@ use link::one_spelling;
 use memory::{reserve, with_room};
 use nat_types::{GatewayId, NoMemory, Note, NoteKind, Pair};
 use output::Room;
+use packet_rules::Networks;
 use settings::Settings;
 use spec_binding::books_begin;
+use spec_gateway::{inner_steps, parts_stay_bytes};
 use spec_pair::laws::{
     a_step_keeps, begins, goes_to, promises, promises_in_order, promises_without_alone,
     steps_anywhere,
@@ -139,8 +142,8 @@ fn begin(
 ) -> Result<Gateway, NoMemory>
     requires boot { 0 < boot }
     requires found { IsTrue found → id ≡ Zero }
-    ensures begins { IfOk result (λ g. g
-        ≡ (if found then founded settings.now boot else begun settings.now id boot)) }
+    ensures begins { IfOk result (λ g. g ≡ beginning
+        (if found then founded settings.now boot else begun settings.now id boot)) }
     ensures unbegun { OnErr result (WasUnbegun settings.now id boot) }
 {
     Gateway::new(alloc, settings, id, boot, found, Hashers::fixed())
@@ -169,6 +172,7 @@ impl<'a> World<'a> {
         begins();
         books_begin();
         beginnings_account();
+        parts_stay_bytes();
         let gateway = begin(alloc, settings, GatewayId::Zero, 1, true)?;
         gateway.recall();
         Ok(World {
@@ -205,6 +209,13 @@ impl<'a> World<'a> {
             GatewayId::Zero => self.settings,
             GatewayId::One => self.settings_one,
         }
+    }
+
+    /// Returns the networks of a gateway, by its settings. They say how the frames that it sends are cut.
+    pub fn networks(&self, id: GatewayId) -> Networks
+        ensures { result ≡ networks_at self.now id }
+    {
+        Networks::of_gateway(self.settings(id), id)
     }
 
     /// Ends the world, and frees its memory. A caller that drops a world by this call only proves nothing of its parts.
@@ -374,11 +385,11 @@ impl<'a> World<'a> {
     /// Has one of the two gateways take an event in a step.
     fn hand(&mut self, id: GatewayId, event: Event<'_>, out: &mut Out) -> Result<Outcome, NoMemory>
         requires { IsHanded self.old id event }
-        ensures takes { IfOk result (λ o. TakesAt self.old id (gateway_at self.old id) event.entry
+        ensures takes { IfOk result (λ o. TakesAt self.old id (state_at self.old id) event.entry
             out.old o out.new self.new) }
         ensures err { OnErr result (self.new ≡ self.old) }
         ensures untold { OnErr result (out.new ≡ out.old) }
-        ensures short { OnErr result (IsUnstepped (gateway_at self.old id) event.entry) }
+        ensures short { OnErr result (IsUnstepped (state_at self.old id) event.entry) }
     {
         steps_go();
         one_spelling();
@@ -386,6 +397,8 @@ impl<'a> World<'a> {
         steps_anywhere();
         steps_account();
         others_account();
+        inner_steps();
+        parts_stay_bytes();
         match id {
             GatewayId::Zero => self.zero.hand(self.alloc, &mut self.trace, event, out),
             GatewayId::One => self.one.hand(self.alloc, &mut self.trace, event, out),
@@ -402,6 +415,8 @@ impl<'a> World<'a> {
         steps_anywhere();
         steps_account();
         others_account();
+        inner_steps();
+        parts_stay_bytes();
         let trace = &mut self.trace;
         match id {
             GatewayId::Zero => self.zero.receive(self.alloc, &self.one, number, trace, out),
@@ -451,6 +466,7 @@ impl<'a> World<'a> {
         goes_to();
         books_begin();
         beginnings_account();
+        parts_stay_bytes();
         others_account();
         if !self.may_boot(id, number) {
             return Err(WorldFault::PremiseBroken);

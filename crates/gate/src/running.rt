@@ -8,6 +8,7 @@ use captures::{CaptureFile, LiveCapture, Tapped};
 use faults::Fault;
 use gateway::Gateway;
 use journal::Entry;
+use nat_types::NoMemory;
 use platform::Stopwatch;
 use rounds::{Identity, Manager, Options, serve};
 use sockets::Wire;
@@ -27,7 +28,7 @@ use std::rt::{Clock, Env};
 /// The first fault of: the settings, the ways, their descriptors, the service manager, the descriptor to stop on,
 /// loopback ports that are left out, clashing ports, the path of the control socket, the boot file and its lock, the
 /// control socket, the other sockets, the filter of the log, the file of the capture, the random keys, the next boot
-/// number, memory for a gateway, printing the boot number, the head of the capture, printing the end.
+/// number, memory for a gateway, printing the boot number, the head of the capture, memory for a fragment, printing the end.
 pub fn run<
     R: Files<File = File> + Net + Clock + RandomSource + Eprint + Env + Input + AllocGlobal,
     O: Write,
@@ -57,12 +58,12 @@ pub fn run<
         log,
     };
     match capture {
-        None => server.serve_on(&mut gateway, &mut wire),
+        None => server.serve_on(&mut gateway, &mut wire)?,
         Some((path, file)) => {
             let capture = start_capture(rt.alloc(), path, file)?;
             let clock = Stopwatch::from_first_reading(rt);
             let mut tapped = Tapped::new(wire, start.id, clock, capture);
-            server.serve_on(&mut gateway, &mut tapped);
+            server.serve_on(&mut gateway, &mut tapped)?;
             tapped.flush();
             server.log.write_left_out(tapped.left_out());
         }
@@ -85,7 +86,7 @@ struct Server<'a, R> {
 
 impl<R: Clock + Eprint + Input + AllocGlobal> Server<'_, R> {
     /// Runs the rounds of the gateway on a wire, until the box ends.
-    fn serve_on<W: Wire>(&mut self, gateway: &mut Gateway, wire: &mut W) {
+    fn serve_on<W: Wire>(&mut self, gateway: &mut Gateway, wire: &mut W) -> Result<(), NoMemory> {
         let (rt, start) = (self.rt, self.start);
         let options = Options {
             identity: self.identity,
@@ -108,7 +109,7 @@ impl<R: Clock + Eprint + Input + AllocGlobal> Server<'_, R> {
             &mut self.manager,
             &mut self.log,
             &options,
-        );
+        )
     }
 }
 

@@ -1,5 +1,5 @@
 -- Whether a gateway is apart stays as it is within a tick, once the clock has moved; and what a tick does then.
-use Rattle.std.proofs.Common.{◌≡◌, ◌≤◌, ℕ, suc, Bool, true, false, cond, List, [], ◌∷◌, length, Option, Some, None, refl, sym, ap, subst, ◌∙◌, arith}
+use Rattle.std.proofs.Common.{◌≡◌, ◌≤◌, ℕ, suc, Bool, true, false, cond, List, [], ◌∷◌, length, Option, Some, None, refl, sym, ap, ◌∙◌, arith}
 use Rattle.std.specs.List.{filter}
 use Rattle.nat_types.specs.declared.gateways.Side.{Side}
 use Rattle.nat_types.specs.declared.gateways.Side.TheVariants.{Inside, Outside}
@@ -15,14 +15,14 @@ use Rattle.waiting.specs.declared.waits.Ended.TheVariants.{AllPairs}
 use Rattle.waiting.specs.Packets.{HeldPacket}
 use Rattle.spec_binding.specs.declared.changes.Transition.{Transition}
 use Rattle.spec_binding.specs.Books.{Book, is_apart as is_book_apart, is_lone}
-use Rattle.spec_binding.specs.Ledgers.{ledger_after, may_ask, sought_keys}
+use Rattle.spec_binding.specs.Ledgers.{ledger_after, may_ask}
 use Rattle.spec_binding.specs.Rows.{answered, idle_row}
 use Rattle.spec_binding.proofs.Offered.{change-leaves}
 use Rattle.spec_step.specs.declared.events.Event.TheVariants.{Tick}
 use Rattle.spec_step.specs.declared.turns.Turn.{Turn}
 use Rattle.spec_step.specs.declared.turns.Turn.TheVariants.{Leaves, Returns, Stays as Remains}
-use Rattle.spec_step.specs.GivingWay.{GivingWay, TakesTurn, left, returned, turn_of}
-use Rattle.spec_step.specs.Parts.{acted, all_idle_done, all_sought_done, alone_taken, by_row, frames_of, gone_alone, idle_done, idle_taken, old_dropped, peer_told, released}
+use Rattle.spec_step.specs.GivingWay.{GivingWay, TakesTurn, returned, turn_of}
+use Rattle.spec_step.specs.Parts.{acted, all_idle_done, alone_taken, by_row, frames_of, idle_done, idle_taken, old_dropped, released}
 use Rattle.spec_step.specs.Routers.{BothAct, RouterActs}
 use Rattle.spec_step.specs.Shown.{GatewayAndOutput, Shown, is_apart, is_up, scene, with_station}
 use Rattle.spec_step.specs.Steps.{Does, ticked}

@@ -1,6 +1,6 @@
 -- The invariant of a gateway as it begins.
-use Rattle.std.proofs.Common.{◌≡◌, ℕ, Bool, true, false, [], refl, sym, subst, arith}
-use Rattle.std.specs.Prelude.{if◌then◌else◌}
+use Rattle.std.proofs.Common.{◌≡◌, ℕ, Bool, true, false, [], refl, sym, ap, subst, ◌∙◌, arith}
+use Rattle.std.specs.Prelude.{IsTrue, if◌then◌else◌}
 use Rattle.nat_types.specs.declared.gateways.GatewayId.{GatewayId}
 use Rattle.nat_types.specs.declared.gateways.GatewayId.TheVariants.{Zero}
 use Rattle.settings.specs.declared.whole.Settings.{Settings}
@@ -10,10 +10,10 @@ use Rattle.slots.specs.declared.hashers.Hashers.{Hashers}
 use Rattle.spec_step.specs.Founding.{begun, founded, hashing}
 use Rattle.spec_step.specs.Machine.{IsStanding}
 use Rattle.spec_step.specs.Settled.{IsSettled}
-use Rattle.spec_step.specs.Shown.{Shown}
-use Rattle.gateway.specs.Gateway.{IsGateway}
+use Rattle.spec_step.specs.Shown.{Shown, id_of}
+use Rattle.gateway.specs.Gateway.{IsInOrder}
 
-begun-is : (settings : Settings) (id : GatewayId) (boot : ℕ) → IsStanding (begun settings id boot) [] → IsSettled (begun settings id boot) → IsPlaced (networks_of settings id) → IsGateway (begun settings id boot)
+begun-is : (settings : Settings) (id : GatewayId) (boot : ℕ) → IsStanding (begun settings id boot) [] → IsSettled (begun settings id boot) → IsPlaced (networks_of settings id) → IsInOrder (begun settings id boot)
 unfolding begun new_station
 begun-is settings id boot stands settled placed = record {
   book = stands.book;
@@ -27,7 +27,7 @@ begun-is settings id boot stands settled placed = record {
   settled = settled;
 }
 
-founded-is : (settings : Settings) (boot : ℕ) → IsStanding (founded settings boot) [] → IsSettled (founded settings boot) → IsPlaced (networks_of settings Zero) → IsGateway (founded settings boot)
+founded-is : (settings : Settings) (boot : ℕ) → IsStanding (founded settings boot) [] → IsSettled (founded settings boot) → IsPlaced (networks_of settings Zero) → IsInOrder (founded settings boot)
 unfolding founded begun new_station
 founded-is settings boot stands settled placed = record {
   book = stands.book;
@@ -42,7 +42,7 @@ founded-is settings boot stands settled placed = record {
 }
 
 -- the invariant doesn't depend on the hashers
-hashing-is : (hashers : Hashers) (g : Shown) → IsGateway g → IsGateway (hashing hashers g)
+hashing-is : (hashers : Hashers) (g : Shown) → IsInOrder g → IsInOrder (hashing hashers g)
 hashing-is hashers g is = record {
   book = is.book;
   lone = is.lone;
@@ -59,6 +59,20 @@ hashing-is hashers g is = record {
 pub beginning-is : (settings : Settings) (id : GatewayId) (boot : ℕ) (found : Bool) (hashers : Hashers) (g : Shown) → IsStanding (begun settings id boot) [] → IsStanding (founded settings boot) []
     → IsSettled (begun settings id boot) → IsSettled (founded settings boot)
     → IsPlaced (networks_of settings id) → IsPlaced (networks_of settings Zero)
-    → g ≡ hashing hashers (if found then founded settings boot else begun settings id boot) → IsGateway g
-beginning-is settings id boot true hashers g b f x y placed first is = subst IsGateway (sym is) (hashing-is hashers _ (founded-is settings boot f y first))
-beginning-is settings id boot false hashers g b f x y placed first is = subst IsGateway (sym is) (hashing-is hashers _ (begun-is settings id boot b x placed))
+    → g ≡ hashing hashers (if found then founded settings boot else begun settings id boot) → IsInOrder g
+beginning-is settings id boot true hashers g b f x y placed first is = subst IsInOrder (sym is) (hashing-is hashers _ (founded-is settings boot f y first))
+beginning-is settings id boot false hashers g b f x y placed first is = subst IsInOrder (sym is) (hashing-is hashers _ (begun-is settings id boot b x placed))
+
+-- ---- the id of a gateway as it begins
+begun-id : (settings : Settings) (id : GatewayId) (boot : ℕ) → id_of (begun settings id boot) ≡ id
+unfolding begun
+begun-id settings id boot = refl
+
+founded-id : (settings : Settings) (boot : ℕ) → id_of (founded settings boot) ≡ Zero
+unfolding founded begun
+founded-id settings boot = refl
+
+pub id-is : (settings : Settings) (id : GatewayId) (boot : ℕ) (found : Bool) (hashers : Hashers) (g : Shown) → (IsTrue found → id ≡ Zero)
+    → g ≡ hashing hashers (if found then founded settings boot else begun settings id boot) → id ≡ id_of g
+id-is settings id boot true hashers g first is = first refl ∙ sym (founded-id settings boot) ∙ sym (ap id_of is)
+id-is settings id boot false hashers g first is = sym (begun-id settings id boot) ∙ sym (ap id_of is)

@@ -9,12 +9,12 @@ use Rattle.spec_step.specs.declared.events.Event.{Event}
 use Rattle.spec_step.specs.Founding.{bounds_of}
 use Rattle.forwarder.specs.declared.forwarders.Forwarder.{Forwarder}
 use Rattle.forwarder.specs.Forwarder.{shown_of}
-use Rattle.gateway.specs.Lacks.{Lacks, LacksGateway, LacksMemory, LacksParts}
+use Rattle.gateway.specs.Lacks.{Lacks, LacksGateway, LacksParts, LacksStep}
 
 -- what a forwarder lacks is what a gateway with this view and page lacks
-pub lacks-memory : {T E : Type 0} → (r : Result T E) (event : Event) (f : Forwarder) (page : Paged) → Lacks event f page → OnErr r (LacksMemory (shown_of f) page event)
-lacks-memory (Ok x) event f page lacks = tt
-lacks-memory (Err e) event f page lacks = (f, refl, lacks)
+pub lacks-step : {T E : Type 0} → (r : Result T E) (event : Event) (f : Forwarder) (page : Paged) → Lacks event f page → OnErr r (LacksStep (shown_of f) page event)
+lacks-step (Ok x) event f page lacks = tt
+lacks-step (Err e) event f page lacks = (f, refl, lacks)
 
 -- a gateway lacks its parts
 pub lacks-parts : {T E : Type 0} → (r : Result T E) (settings : Settings) → LacksParts settings → OnErr r (LacksGateway settings)

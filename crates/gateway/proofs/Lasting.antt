@@ -37,7 +37,7 @@ use Rattle.spec_step.specs.GivingWay.{TakesTurn, left, returned, turn_of}
 use Rattle.spec_step.specs.Routers.{BothAct, RouterActs}
 use Rattle.spec_step.specs.Shown.{GatewayAndOutput, Shown, id_of, is_apart, is_running, is_up, scene, station_on, with_notes, with_station}
 use Rattle.spec_step.specs.Steps.{Does, FrameDoes, ended_on, stopped, ticked, word_by, word_refusal}
-use Rattle.spec_step.specs.Verdict.{arrival_on}
+use Rattle.spec_step.specs.Verdict.{reading_on}
 use Rattle.gateway.proofs.Staying.{IsAsOn, Stays, answered-capacity, flow-stays, released-stays, row-stays, station-stays, stays-here, stays-then, echo-stays, error-stays, refused-stays}
 
 -- an equal pair of gateway and output
@@ -241,7 +241,7 @@ turn-stays s Returns s2 takes = stays-as s.shown (scene (returned s.shown) s.tol
 turn-stays s Remains s2 takes = stays-as s.shown s s2 takes (stays-here s.shown)
 
 does-stays : (s : GatewayAndOutput) (event : Event) (done : GatewayAndOutput) → Does s event done → Stays (begun_by s event).shown done.shown
-does-stays s (Frame side bytes) done does = frame-stays s side bytes.now (arrival_on s.shown side bytes.now) done does
+does-stays s (Frame side bytes) done does = frame-stays s side bytes.now (reading_on s.shown side bytes.now) done does
 does-stays s (Comes bytes) done does = stays-as s.shown (datagram_taken s bytes.now) done does (read-stays s (reading bytes.now))
 does-stays s (Tick now) done does =
     let turned = does.0 in

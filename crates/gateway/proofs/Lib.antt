@@ -1,9 +1,15 @@
 mod Apart
 mod Beginning
+mod Gathering
 mod Hearing
 mod Lacking
 mod Lasting
+mod Lending
+mod Longs
+mod Numbering
 mod Places
+mod Reading
 mod Staying
+mod Stepping
 mod Taking
 mod Behind

@@ -1,15 +1,29 @@
--- The invariant of a gateway.
-use Rattle.std.specs.Prelude.{◌≡◌, List}
+-- What holds of a gateway between its steps, and its state.
+use Rattle.std.specs.Prelude.{◌≡◌, ◌≤◌, ℕ, ◌+◌, Option, List, ◌++◌}
+use Rattle.nat_types.specs.declared.gateways.Side.{Side}
+use Rattle.nat_types.specs.declared.gateways.Side.TheVariants.{Inside, Outside}
 use Rattle.nat_types.specs.declared.records.Record.{Record}
 use Rattle.spec_binding.specs.Books.{IsBook}
 use Rattle.vrrp_states.specs.Table.{IsMoment}
+use Rattle.output.specs.Output.{Output, Sent}
+use Rattle.packet_rules.specs.declared.networks.Networks.{Networks}
+use Rattle.packet_rules.specs.Networks.{mtu_of}
+use Rattle.fragments.specs.Gathered.{Gathered, IsKept, there_of}
+use Rattle.spec_step.specs.declared.events.Event.{Event}
 use Rattle.spec_step.specs.Founding.{link_places}
 use Rattle.spec_step.specs.Machine.{HasPushed, IsLoneRightly, KeepsBytes}
 use Rattle.spec_step.specs.Settled.{IsSettled}
-use Rattle.spec_step.specs.Shown.{Shown}
+use Rattle.spec_step.specs.Shown.{Shown, id_of}
 use Rattle.spec_step.specs.Truly.{IsHouse}
+use Rattle.spec_gateway.specs.State.{GatewayState}
+use Rattle.spec_gateway.specs.Arrivals.{Arrival, fragment_arrives, is_gathered}
+use Rattle.spec_gateway.specs.Steps.{Takes}
+use Rattle.forwarder.specs.declared.forwarders.Forwarder.{Forwarder}
+use Rattle.forwarder.specs.Forwarder.{shown_of}
+use Rattle.gateway.specs.declared.gathers.Fragments.{Fragments}
 
-pub record IsGateway (g : Shown) : Type 0 where
+-- what holds of what a gateway shows
+pub record IsInOrder (g : Shown) : Type 0 where
   pub book : IsBook g.ledger.book
   pub lone : IsLoneRightly g
   pub bytes : KeepsBytes g
@@ -23,3 +37,39 @@ pub record IsGateway (g : Shown) : Type 0 where
   pub house : IsHouse g.networks g.inside.network g.outside.network
   -- the routers are idle where the gateway isn't up, no datagram is due, and the kept packets are within their limits
   pub settled : IsSettled g
+
+-- what holds of a gateway
+pub record IsGateway (s : GatewayState) : Type 0 where
+  pub shown : IsInOrder s.shown
+  pub kept : IsKept s.gathered
+
+-- the state of a gateway of these parts
+abbrev pub state_of : Forwarder → Fragments → GatewayState
+state_of f fragments = record {
+  shown = shown_of f;
+  gathered = there_of fragments.gathering;
+  numbered = fragments.numbered;
+}
+
+-- a frame of so many bytes fits at both sides
+pub record FitsAtBoth (count : ℕ) (networks : Networks) : Type 0 where
+  pub inside : count ≤ 14 + mtu_of networks Inside
+  pub outside : count ≤ 14 + mtu_of networks Outside
+
+-- a gateway went on: its networks and its id are the same, and what it sent stands behind what was sent before
+pub record GoesOn (g : Shown) (told : Output) (g2 : Shown) (told2 : Output) : Type 0 where
+  pub networks_are : g2.networks ≡ g.networks
+  pub id_is : id_of g2 ≡ id_of g
+  pub sent : List Sent
+  pub sent_are : told2.frames ≡ told.frames ++ sent
+
+-- a step before what it sends is numbered: it takes this event whole, if any, and these fragments are there afterwards
+pub record IsTaken (s : GatewayState) (told : Output) (whole : Option Event) (gathered : Gathered) (s2 : GatewayState) (told2 : Output) : Type 0 where
+  pub takes : Takes s.shown told whole s2.shown told2
+  pub gathered_is : s2.gathered ≡ gathered
+  pub numbered_is : s2.numbered ≡ s.numbered
+  pub goes_on : GoesOn s.shown told s2.shown told2
+
+-- what a frame that is read as a fragment brings
+abbrev pub part_of : GatewayState → Side → List ℕ → Arrival
+part_of s side bytes = fragment_arrives s side bytes (is_gathered s.shown side bytes)

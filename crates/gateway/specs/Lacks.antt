@@ -1,5 +1,5 @@
 -- The memory whose refusal keeps a gateway from beginning, or from taking an event.
-use Rattle.std.specs.Prelude.{◌≡◌, ◌≤◌, ◌⊎◌, ℕ, Bool, true, false, Result, Ok, Err, List, length}
+use Rattle.std.specs.Prelude.{◌≡◌, ◌≤◌, ◌⊎◌, ℕ, Bool, true, false, Option, None, Some, Result, Ok, Err, List, length}
 use Rattle.memory.specs.Memory.{WasRefused}
 use Rattle.nat_types.specs.declared.gateways.Side.{Side}
 use Rattle.nat_types.specs.declared.gateways.Side.TheVariants.{Inside, Outside}
@@ -21,10 +21,14 @@ use Rattle.spec_step.specs.declared.events.Event.TheVariants.{Frame, Datagram, T
 use Rattle.spec_step.specs.declared.events.Outcome.TheVariants.{Waiting}
 use Rattle.spec_step.specs.Founding.{bounds_of, link_places}
 use Rattle.spec_step.specs.Shown.{Shown}
-use Rattle.spec_step.specs.Verdict.{arrival_on, outcome_read}
+use Rattle.spec_step.specs.Verdict.{outcome_read, reading_on}
 use Rattle.forwarder.specs.declared.forwarders.Forwarder.{Forwarder}
 use Rattle.forwarder.specs.Forwarder.{shown_of}
 use Rattle.forwarder.specs.Room.{Needs, and_kept, frames_alone}
+use Rattle.fragments.specs.Memory.{LacksTaking}
+use Rattle.spec_gateway.specs.State.{GatewayState}
+use Rattle.spec_gateway.specs.Arrivals.{gathering_of, is_gathered, is_part}
+use Rattle.spec_gateway.specs.Steps.{whole_event}
 use Rattle.gateway.specs.Rooms.{apart_needs, both_routers, reading_needs, records_need, restart_needs, room_for, tick_needs, waiting_needs}
 use Rattle.gateway.specs.Ticks.{is_apart_at}
 
@@ -78,7 +82,7 @@ dropped_needs reason = frames_alone 0
 -- what a frame lacks, by how it is read: capacity, or the copy of a packet that has to wait
 abbrev pub LacksForFrame : Side → List ℕ → Result Reading Reason → Forwarder → Paged → Type 0
 LacksForFrame side bytes (Ok reading) f page =
-    LacksRoom (reading_needs reading f) f page ⊎ ((outcome_read (shown_of f) side (Ok reading) ≡ Waiting) × WasUncopied (shown_of f) side bytes)
+    LacksRoom (reading_needs reading (length bytes) f) f page ⊎ ((outcome_read (shown_of f) side (Ok reading) ≡ Waiting) × WasUncopied (shown_of f) side bytes)
 LacksForFrame side bytes (Err reason) f page = LacksRoom (dropped_needs reason) f page
 
 -- what a datagram lacks, by whether its header names a greater boot of the other gateway than is known
@@ -93,13 +97,37 @@ LacksForTick false f page = LacksRoom (tick_needs f) f page
 
 -- what an event lacks, by its kind; an event of a side lacks nothing
 abbrev pub Lacks : Event → Forwarder → Paged → Type 0
-Lacks (Frame side bytes) f page = LacksForFrame side bytes.now (arrival_on (shown_of f) side bytes.now) f page
+Lacks (Frame side bytes) f page = LacksForFrame side bytes.now (reading_on (shown_of f) side bytes.now) f page
 Lacks (Datagram bytes) f page = LacksForDatagram (may_restart f.link (header_at bytes.now)) f page
 Lacks (Tick now) f page = LacksForTick (is_apart_at (shown_of f) now) f page
 Lacks Stop f page = LacksRoom both_routers f page
 Lacks (PeerOff boot) f page = WasUnlisted f ⊎ LacksRoom (and_kept (waiting_needs f) f) f page
 Lacks (Cable side up) f page = ⊥
 
--- what an event lacks at a gateway with this view and this page
-abbrev pub LacksMemory : Shown → Paged → Event → Type 0
-LacksMemory g page event = (f : Forwarder) × (shown_of f ≡ g) × Lacks event f page
+-- what a step on whole frames lacks at a gateway with this view and this page
+abbrev pub LacksStep : Shown → Paged → Event → Type 0
+LacksStep g page event = (f : Forwarder) × (shown_of f ≡ g) × Lacks event f page
+
+-- what the event lacks that is taken whole, if one is
+abbrev pub LacksWhole : Shown → Paged → Option Event → Type 0
+LacksWhole g page None = ⊥
+LacksWhole g page (Some event) = LacksStep g page event
+
+-- what a fragment lacks that is gathered: its copy, or the whole frame that is made with it
+pub record LacksPart (s : GatewayState) (side : Side) (bytes : List ℕ) : Type 0 where
+  pub part : is_part (reading_on s.shown side bytes) ≡ true
+  pub gathered : is_gathered s.shown side bytes ≡ true
+  pub refused : LacksTaking bytes (gathering_of s side bytes).made
+
+abbrev pub LacksGathering : GatewayState → Event → Type 0
+LacksGathering s (Frame side bytes) = LacksPart s side bytes.now
+LacksGathering s (Datagram bytes) = ⊥
+LacksGathering s (Tick now) = ⊥
+LacksGathering s Stop = ⊥
+LacksGathering s (PeerOff boot) = ⊥
+LacksGathering s (Cable side up) = ⊥
+
+-- what an event lacks at a gateway in this state with this page: as a fragment, or as the event that is taken whole
+abbrev pub LacksMemory : GatewayState → Paged → Event → Type 0
+LacksMemory s page event =
+    LacksGathering s event ⊎ LacksWhole s.shown page (whole_event s event)

@@ -1,12 +1,12 @@
 -- The capacity that each event needs.
-use Rattle.std.specs.Prelude.{ℕ, ◌+◌, ◌*◌, Bool, true, false, List, length, if◌then◌else◌}
+use Rattle.std.specs.Prelude.{ℕ, ◌≤◌, ◌+◌, ◌*◌, ⊤, Bool, true, false, List, length, if◌then◌else◌}
 use Rattle.nat_types.specs.declared.records.Record.{Record}
 use Rattle.link.specs.declared.datagrams.TheConstants.{RECORDS_IN_A_DATAGRAM}
 use Rattle.link.specs.Link.{needs_answer}
 use Rattle.spec_step.specs.declared.events.Event.{Event}
 use Rattle.spec_step.specs.declared.events.Event.TheVariants.{Frame, Datagram, Tick, Stop, PeerOff, Side}
 use Rattle.output.specs.declared.pages.Room.{Room}
-use Rattle.waiting.specs.Packets.{HeldPacket, octets_in}
+use Rattle.waiting.specs.Packets.{HeldPacket, beyond, octets_in}
 use Rattle.forwarder.specs.declared.forwarders.Forwarder.{Forwarder}
 use Rattle.forwarder.specs.Room.{Needs, all_for_pairs, an_arp_packet, frames_alone, notes_alone}
 use Rattle.packet_rules.specs.declared.readings.Reading.{Reading}
@@ -25,6 +25,24 @@ is_of_side Stop = false
 is_of_side (PeerOff boot) = false
 is_of_side (Side side up) = true
 
+-- whether an event is neither a frame nor a tick: such events don't touch fragments
+abbrev pub is_plain : Event → Bool
+is_plain (Frame side bytes) = false
+is_plain (Datagram bytes) = true
+is_plain (Tick now) = false
+is_plain Stop = true
+is_plain (PeerOff boot) = true
+is_plain (Side side up) = true
+
+-- a frame has at most 14 + 65,535 bytes
+abbrev pub IsShort : Event → Type 0
+IsShort (Frame side bytes) = length bytes.now ≤ 65549
+IsShort (Datagram bytes) = ⊤
+IsShort (Tick now) = ⊤
+IsShort Stop = ⊤
+IsShort (PeerOff boot) = ⊤
+IsShort (Side side up) = ⊤
+
 -- how many datagrams the end of a step may send
 abbrev pub most_datagrams : Event → ℕ
 most_datagrams (Frame side bytes) = 1
@@ -34,14 +52,16 @@ most_datagrams Stop = 1
 most_datagrams (PeerOff boot) = 1
 most_datagrams (Side side up) = 0
 
--- the octets of a frame that was read: an ARP packet may end the wait of a packet, no other frame has any
-abbrev pub reading_octets : Reading → List HeldPacket → ℕ
-reading_octets (Arp p) kept = octets_in kept
-reading_octets reading kept = 0
+-- the octets of a frame of so many bytes that was read: an ARP packet may end the wait of a packet, any other frame has
+-- its own
+abbrev pub reading_octets : Reading → ℕ → List HeldPacket → ℕ
+reading_octets (Arp p) count kept = octets_in kept
+reading_octets reading count kept = beyond count
 
 -- the need of a frame that was read: that of an ARP packet, which is the greatest, with its own octets
-abbrev pub reading_needs : Reading → Forwarder → Needs
-reading_needs reading f = record an_arp_packet { octets = reading_octets reading f.kept }
+abbrev pub reading_needs : Reading → ℕ → Forwarder → Needs
+reading_needs reading count f =
+    record an_arp_packet { octets = reading_octets reading count f.kept }
 
 -- the need of one router for a cue: an advertisement, and where it becomes Active a gratuitous ARP frame
 abbrev pub a_router : Needs

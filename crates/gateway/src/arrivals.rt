@@ -34,8 +34,8 @@ pub(crate) fn take_reading(
 ) -> Result<Outcome, NoMemory>
     requires carries { Carries side bytes.now reading }
     requires moment { IsMoment forwarder.old.moment }
-    requires short { length bytes.now ≤ 1514 }
-    requires room { HasRoomFor (reading_needs reading forwarder.old) forwarder.old page.old }
+    requires room { HasRoomFor (reading_needs reading (length bytes.now) forwarder.old)
+        forwarder.old page.old }
     ensures outcome { IfOk result (λ o. o
         ≡ outcome_read (shown_of forwarder.old) side (Ok reading)) }
     ensures does { OnOk result (FrameDoes (scene_on forwarder.old page.old) side bytes.now

@@ -4,10 +4,13 @@
 
 mod arrivals;
 mod begins;
+mod counts;
 mod datagrams;
 mod ends;
 mod entries;
 mod gateways;
+mod gathers;
+mod numbers;
 mod records;
 mod rooms;
 mod routers;
@@ -17,6 +20,7 @@ mod turns;
 mod words;
 
 pub use bindings::Hashers;
+pub use counts::FragmentCounts;
 pub use gateways::Gateway;
 pub use nat_types::NoMemory;
 pub use output::{Out, OutputBuffer};

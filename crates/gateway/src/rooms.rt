@@ -1,9 +1,9 @@
 //! The memory that a step takes before it begins, by event.
-ghost use Rattle.std.specs.Prelude.{◌≡◌, ◌≤◌, OnErr, OnOk, IfOk, length, vec_capacity, []};
+ghost use Rattle.std.specs.Prelude.{◌≡◌, ◌≤◌, ◌<◌, OnErr, OnOk, IfOk, length, vec_capacity, []};
 ghost use Rattle.link.specs.declared.datagrams.TheConstants.{RECORDS_IN_A_DATAGRAM};
 ghost use Rattle.output.specs.Output.{IsWithin};
 ghost use Rattle.forwarder.specs.Forwarder.{scene_on};
-ghost use Rattle.forwarder.specs.Room.{HasRoomFor, an_arp_packet, and_kept};
+ghost use Rattle.forwarder.specs.Room.{HasRoomFor, an_arp_packet, and_kept, and_octets};
 ghost use Rattle.gateway.specs.Lacks.{LacksRoom, WasUnlisted, WasUnready};
 ghost use Rattle.gateway.specs.Rooms.{apart_needs, reading_needs, records_need, restart_needs};
 ghost use Rattle.gateway.specs.Rooms.{room_for, tick_needs, waiting_needs};
@@ -68,6 +68,9 @@ pub(crate) const END_ROOM: Room = Room {
     datagrams: 1,
     notes: 0,
 };
+
+/// The most bytes of a frame that comes in.
+const LONGEST: usize = 1514;
 
 /// The capacity for a frame that is taken: an answer, and a packet of up to 1,514 bytes.
 const FRAME_ROOM: Room = Room {
@@ -220,20 +223,46 @@ pub(crate) fn make_ready(
     Ok(())
 }
 
-/// Makes a page and a core ready for a frame that was read. Fails where there isn't enough memory;
-/// nothing that contracts see has changed then.
+/// Makes a page and a core ready for a packet of more than 1,514 bytes, which came in fragments.
+/// Fails where there isn't enough memory; nothing that contracts see has changed then.
+#[cold]
+fn make_ready_whole(
+    forwarder: &mut Forwarder,
+    page: &mut OutputBuffer,
+    count: usize,
+) -> Result<(), NoMemory>
+    requires long { 1514 < count }
+    requires short { count ≤ 65549 }
+    ensures scene { scene_on forwarder.new page.new ≡ scene_on forwarder.old page.old }
+    ensures room { OnOk result (HasRoomFor (and_octets an_arp_packet count) forwarder.new
+        page.new) }
+    ensures datagrams { OnOk result (1 ≤ page.new.room.datagrams) }
+    ensures lacks { OnErr result (LacksRoom (and_octets an_arp_packet count) forwarder.old
+        page.old) }
+{
+    let room = Room {
+        octets: count - LONGEST,
+        ..FRAME_ROOM
+    };
+    make_ready(forwarder, page, room, 1)
+}
+
+/// Makes a page and a core ready for a frame of so many bytes that was read. Fails where there isn't
+/// enough memory; nothing that contracts see has changed then.
 #[inline(always)]
 pub(crate) fn make_ready_for(
     forwarder: &mut Forwarder,
     page: &mut OutputBuffer,
     reading: &Reading,
+    count: usize,
 ) -> Result<(), NoMemory>
+    requires { count ≤ 65549 }
     ensures scene { scene_on forwarder.new page.new ≡ scene_on forwarder.old page.old }
-    ensures room { OnOk result (HasRoomFor (reading_needs reading.now forwarder.new)
+    ensures room { OnOk result (HasRoomFor (reading_needs reading.now count forwarder.new)
         forwarder.new page.new) }
     ensures datagrams { OnOk result (1 ≤ page.new.room.datagrams) }
     ensures lacks { OnErr result
-        (LacksRoom (reading_needs reading.now forwarder.old) forwarder.old page.old) }
+        (LacksRoom (reading_needs reading.now count forwarder.old) forwarder.old page.old) }
 {
     match reading {
         Reading::Arp(_) => {
@@ -241,7 +270,11 @@ pub(crate) fn make_ready_for(
             make_ready(forwarder, page, room, 1)
         }
         Reading::Advert(..) | Reading::Packet(_) | Reading::Error(_) | Reading::Asked(_) => {
-            make_ready(forwarder, page, FRAME_ROOM, 1)
+            if count > LONGEST {
+                make_ready_whole(forwarder, page, count)
+            } else {
+                make_ready(forwarder, page, FRAME_ROOM, 1)
+            }
         }
     }
 }

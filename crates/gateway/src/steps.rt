@@ -14,13 +14,14 @@ ghost use Rattle.spec_step.specs.Machine.{AreBytes, HasBytes};
 ghost use Rattle.spec_step.specs.Parts.{datagram_taken};
 ghost use Rattle.spec_step.specs.Steps.{Does, FrameDoes, IsStepOn, ended_on, outcome_heard};
 ghost use Rattle.spec_step.specs.Steps.{outcome_on, outcome_word, word_by, word_refusal};
-ghost use Rattle.spec_step.specs.Verdict.{arrival_on, verdict};
+ghost use Rattle.spec_step.specs.Truly.{IsSetUp};
+ghost use Rattle.spec_step.specs.Verdict.{reading_on, verdict};
 ghost use Rattle.forwarder.specs.Forwarder.{scene_on, shown_of};
 ghost use Rattle.forwarder.specs.Room.{and_kept};
-ghost use Rattle.gateway.specs.Gateway.{IsGateway};
+ghost use Rattle.gateway.specs.Gateway.{GoesOn, IsInOrder};
 ghost use Rattle.gateway.specs.Lacks.{Lacks, LacksForDatagram, LacksForFrame, LacksForTick};
-ghost use Rattle.gateway.specs.Lacks.{LacksMemory, LacksRoom, WasUnlisted};
-ghost use Rattle.gateway.specs.Rooms.{apart_needs, both_routers, is_of_side, most_datagrams};
+ghost use Rattle.gateway.specs.Lacks.{LacksRoom, LacksStep, WasUnlisted};
+ghost use Rattle.gateway.specs.Rooms.{IsShort, apart_needs, both_routers, is_of_side, most_datagrams};
 ghost use Rattle.gateway.specs.Rooms.{records_need, restart_needs, tick_needs, waiting_needs};
 ghost use Rattle.gateway.specs.Ticks.{is_apart_at};
 
@@ -39,7 +40,7 @@ use forwarder::Forwarder;
 use nat_types::Side;
 use output::OutputBuffer;
 use packet_rules::Reason;
-use spec_step::{Event, Outcome, parts_stand, steps_go, steps_keep, steps_settle};
+use spec_step::{Event, Outcome, parts_stand, steps_go, steps_keep, steps_settle, steps_stay};
 use std::alloc::Global;
 
 #[inline(always)]
@@ -50,19 +51,20 @@ fn frame_came(
     side: Side,
     bytes: &[u8],
 ) -> Result<Outcome, NoMemory>
+    requires short { length bytes.now ≤ 65549 }
     requires moment { IsMoment forwarder.old.moment }
     ensures outcome { IfOk result (λ o. o ≡ verdict (shown_of forwarder.old) side bytes.now) }
     ensures does { OnOk result (FrameDoes (scene_on forwarder.old page.old) side bytes.now
-        (arrival_on (shown_of forwarder.old) side bytes.now) (scene_on forwarder.new page.new)) }
+        (reading_on (shown_of forwarder.old) side bytes.now) (scene_on forwarder.new page.new)) }
     ensures datagrams { OnOk result (1 ≤ page.new.room.datagrams) }
     ensures err { OnErr result (scene_on forwarder.new page.new
         ≡ scene_on forwarder.old page.old) }
     ensures lacks { OnErr result (LacksForFrame side bytes.now
-        (arrival_on (shown_of forwarder.old) side bytes.now) forwarder.old page.old) }
+        (reading_on (shown_of forwarder.old) side bytes.now) forwarder.old page.old) }
 {
-    match forwarder.read_frame(side, bytes) {
+    match forwarder.read_whole(side, bytes) {
         Ok(reading) => {
-            make_ready_for(forwarder, page, &reading)?;
+            make_ready_for(forwarder, page, &reading, bytes.len())?;
             take_reading(alloc, forwarder, page, side, bytes, reading)
         }
         Err(Reason::TtlOver) => {
@@ -293,7 +295,8 @@ fn take_event(
     page: &mut OutputBuffer,
     event: Event<'_>,
 ) -> Result<Outcome, NoMemory>
-    requires gateway { IsGateway (shown_of forwarder.old) }
+    requires short { IsShort event }
+    requires gateway { IsInOrder (shown_of forwarder.old) }
     ensures outcome { IfOk result (λ o. o ≡ outcome_on (shown_of forwarder.old) event.entry) }
     ensures does { OnOk result (Does (scene_on forwarder.old page.old) event.entry
         (scene_on forwarder.new page.new)) }
@@ -332,13 +335,24 @@ fn end_event(forwarder: &mut Forwarder, page: &mut OutputBuffer, event: Event<'_
     }
 }
 
+/// Reminds the prover that the hardware addresses have six bytes, and that the interfaces are in
+/// their networks; it does nothing when it runs.
+pub(crate) fn recall_set_up(forwarder: &Forwarder)
+    requires { IsInOrder (shown_of forwarder.now) }
+    ensures { IsSetUp (shown_of forwarder.now) }
+{
+    forwarder.networks.recall();
+    forwarder.inside.recall();
+    forwarder.outside.recall();
+}
+
 /// Reminds the prover that bytes are below 256; it does nothing when it runs.
 fn recall_bytes(bytes: &[u8])
     ensures { AreBytes bytes.now }
 {}
 
 /// Reminds the prover that what comes in is bytes; it does nothing when it runs.
-fn recall_event(event: Event<'_>)
+pub(crate) fn recall_event(event: Event<'_>)
     ensures { HasBytes event.entry }
 {
     match event {
@@ -347,31 +361,36 @@ fn recall_event(event: Event<'_>)
     }
 }
 
-/// Takes one step: handles an event, and appends what is sent and noted to the page. Fails where
-/// there isn't enough memory; nothing has changed then.
+/// Takes one step on whole frames: handles an event, and appends what is sent and noted to the page.
+/// Fails where there isn't enough memory; nothing has changed then.
+#[inline(always)]
 pub(crate) fn step(
     alloc: Global,
     forwarder: &mut Forwarder,
     page: &mut OutputBuffer,
     event: Event<'_>,
 ) -> Result<Outcome, NoMemory>
-    requires gateway { IsGateway (shown_of forwarder.old) }
+    requires short { IsShort event }
+    requires gateway { IsInOrder (shown_of forwarder.old) }
     ensures outcome { IfOk result (λ o. o ≡ outcome_on (shown_of forwarder.old) event.entry) }
     ensures step { OnOk result (IsStepOn (scene_on forwarder.old page.old) event.entry
         (scene_on forwarder.new page.new)) }
-    ensures bytes { HasBytes event.entry }
-    ensures gateway { IsGateway (shown_of forwarder.new) }
+    ensures stays { OnOk result (GoesOn (shown_of forwarder.old) page.old.told
+        (shown_of forwarder.new) page.new.told) }
+    ensures gateway { IsInOrder (shown_of forwarder.new) }
     ensures err { OnErr result (scene_on forwarder.new page.new
         ≡ scene_on forwarder.old page.old) }
     ensures lacks { OnErr result
-        (LacksMemory (shown_of forwarder.old) page.old event.entry) }
+        (LacksStep (shown_of forwarder.old) page.old event.entry) }
     ensures plugged { is_of_side event.entry ≡ true → IsOk result }
 {
     steps_go();
     steps_keep();
     steps_settle();
+    steps_stay();
     parts_stand();
     recall_event(event);
+    recall_set_up(forwarder);
     let outcome = take_event(alloc, forwarder, page, event)?;
     end_event(forwarder, page, event);
     Ok(outcome)

@@ -20,7 +20,7 @@ use spec_step::{idle_at_once, sought_at_once};
 const LAST_MOMENT: u64 = 4_000_000_000_000;
 
 /// Returns the time of a clock after a tick. The clock never runs back.
-fn clock_after(moment: u64, now: u64) -> u64
+pub(crate) fn clock_after(moment: u64, now: u64) -> u64
     ensures { result ≡ clock_after moment now }
 {
     moment.max(now.min(LAST_MOMENT))

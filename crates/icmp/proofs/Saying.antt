@@ -5,9 +5,11 @@ use Rattle.std.proofs.Math.Seq.{take-length}
 use Rattle.sums.specs.Sum.{IsRight}
 use Rattle.ipv4.specs.Header.{header_of, word_at}
 use Rattle.icmp.specs.Ask.{IsAsk}
-use Rattle.icmp.specs.Own.{own_message, own_packet, IsOwnPacket, IsReplyTo, reply_message}
+use Rattle.icmp.specs.Own.{flags_of, identification_of, own_message, own_packet, IsOwnPacket, IsReplyTo, reply_message}
 use Rattle.icmp.specs.Query.{IsQuery, query_of, query_data}
 use Rattle.icmp.specs.declared.kinds.Kind.TheVariants.{Reply}
+use Rattle.icmp.specs.declared.own.Cutting.{Cutting}
+use Rattle.icmp.specs.declared.own.Cutting.TheVariants.{Forbidden, Allowed}
 
 -- a message that is written with its checksum is right
 pub right_message : (kind code first second : ℕ) (bytes : List ℕ) → IsRight (own_message kind code first second bytes)
@@ -24,10 +26,20 @@ second-written x h = omega arith
 number-written : (x : ℕ) → x < 4294967296 → x / 16777216 % 256 * 16777216 + (x / 65536 % 256 * 65536 + (x / 256 % 256 * 256 + (x % 256 * 1 + 0))) ≡ x
 number-written x h = omega arith
 
-pub spelled : (service from to : ℕ) (message : List ℕ) → service < 256 → from < 4294967296 → to < 4294967296 → 20 + length message < 65536
-    → IsOwnPacket service from to message (own_packet service from to message)
-spelled service from to message small from_fits to_fits fits =
-    let packet = own_packet service from to message in
+-- the word of flags and fragment offset that is read
+abbrev word-of : ℕ → ℕ
+word-of x = x / 256 % 256 * 256 + (x % 256 * 1 + 0)
+
+-- a packet of the box is no fragment, and has the flags that are written
+flags-written : (cutting : Cutting) → (word-of (flags_of cutting) ≡ flags_of cutting) × ((word-of (flags_of cutting) / 8192 % 2 ≡ 0) × (word-of (flags_of cutting) % 8192 ≡ 0))
+flags-written Forbidden = (refl, (refl, refl))
+flags-written (Allowed identification) = (refl, (refl, refl))
+
+pub spelled : (cutting : Cutting) (service from to : ℕ) (message : List ℕ) → identification_of cutting < 65536 → service < 256 → from < 4294967296 → to < 4294967296 → 20 + length message < 65536
+    → IsOwnPacket cutting service from to message (own_packet cutting service from to message)
+spelled cutting service from to message numbered small from_fits to_fits fits =
+    let packet = own_packet cutting service from to message in
+    let flags = flags-written cutting in
     let size : length packet ≡ 20 + length message = omega arith in
     let total : (header_of packet).total_length ≡ 20 + length message = word-written (20 + length message) fits in
     let behind : 20 + length message - 20 ≡ length message = omega arith in
@@ -40,14 +52,14 @@ spelled service from to message small from_fits to_fits fits =
         holds_header = omega (arith, total);
         there = omega (arith, total, size);
         sum = sum;
-        last = refl;
-        first = refl;
+        last = flags.1.0;
+        first = flags.1.1;
       };
       header_length = refl;
       type_of_service = refl;
       total_length = total ∙ sym size;
-      identification = refl;
-      flags_word = refl;
+      identification = word-written (identification_of cutting) numbered;
+      flags_word = flags.0;
       ttl = refl;
       protocol = refl;
       source = number-written from from_fits;

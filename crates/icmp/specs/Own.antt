@@ -9,20 +9,33 @@ use Rattle.icmp.specs.Query.{kind_number, query_of, query_data}
 use Rattle.icmp.specs.Quoted.{quoted_flow}
 use Rattle.icmp.specs.declared.errors.TheConstants.{PROTOCOL, TIME_EXCEEDED, UNREACHABLE}
 use Rattle.icmp.specs.declared.kinds.Kind.TheVariants.{Reply}
+use Rattle.icmp.specs.declared.own.Cutting.{Cutting}
+use Rattle.icmp.specs.declared.own.Cutting.TheVariants.{Forbidden, Allowed}
 use Rattle.icmp.specs.declared.own.TheConstants.{DONT_FRAGMENT, TTL, CONTROL, FRAGMENTATION_NEEDED, QUOTED}
 use Rattle.icmp.specs.declared.own.layout.TheConstants.{HEADER}
 
--- a header without options and with this checksum: its identification is 0, and it has the flag Don't Fragment
--- alone (RFC 791, section 3.1)
-abbrev pub header_with : (checksum service total from to : ℕ) → List ℕ
-header_with checksum service total from to =
-    (0x45 ∷ service ∷ []) ++ big_bytes 2 total ++ big_bytes 2 0 ++ big_bytes 2 DONT_FRAGMENT
+-- the identification of a packet of the box: one that is never cut needs none (RFC 6864, section 4.1)
+abbrev pub identification_of : Cutting → ℕ
+identification_of Forbidden = 0
+identification_of (Allowed identification) = identification
+
+-- its flags, with the fragment offset 0: Don't Fragment alone, or none (RFC 791, section 3.1)
+abbrev pub flags_of : Cutting → ℕ
+flags_of Forbidden = DONT_FRAGMENT
+flags_of (Allowed identification) = 0
+
+-- a header without options and with this checksum
+abbrev pub header_with : Cutting → (checksum service total from to : ℕ) → List ℕ
+header_with cutting checksum service total from to =
+    (0x45 ∷ service ∷ []) ++ big_bytes 2 total
+    ++ big_bytes 2 (identification_of cutting) ++ big_bytes 2 (flags_of cutting)
     ++ (TTL ∷ PROTOCOL ∷ []) ++ big_bytes 2 checksum ++ big_bytes 4 from ++ big_bytes 4 to
 
 -- a header without options whose checksum is the complement of its whole sum
-abbrev pub own_header : (service total from to : ℕ) → List ℕ
-own_header service total from to =
-    header_with (checksum_of (header_with 0 service total from to)) service total from to
+abbrev pub own_header : Cutting → (service total from to : ℕ) → List ℕ
+own_header cutting service total from to =
+    header_with cutting (checksum_of (header_with cutting 0 service total from to))
+    service total from to
 
 -- the bytes before a message's data: type, code, checksum and two words
 abbrev pub head_with : (checksum kind code first second : ℕ) → List ℕ
@@ -37,9 +50,9 @@ own_head kind code first second bytes =
 abbrev pub own_message : (kind code first second : ℕ) → List ℕ → List ℕ
 own_message kind code first second bytes = own_head kind code first second bytes ++ bytes
 
-abbrev pub own_packet : (service from to : ℕ) → List ℕ → List ℕ
-own_packet service from to message =
-    own_header service (HEADER + length message) from to ++ message
+abbrev pub own_packet : Cutting → (service from to : ℕ) → List ℕ → List ℕ
+own_packet cutting service from to message =
+    own_header cutting service (HEADER + length message) from to ++ message
 
 -- the Reply to an Echo: identifier, sequence number and data as they came
 abbrev pub reply_message : List ℕ → List ℕ
@@ -47,8 +60,8 @@ reply_message ask =
     own_message (kind_number Reply) 0 (query_of ask).identifier (query_of ask).sequence_number
     (query_data ask)
 
-abbrev pub reply_packet : List ℕ → (from to : ℕ) → List ℕ
-reply_packet ask from to = own_packet 0 from to (reply_message ask)
+abbrev pub reply_packet : Cutting → List ℕ → (from to : ℕ) → List ℕ
+reply_packet cutting ask from to = own_packet cutting 0 from to (reply_message ask)
 
 -- a packet as it came, without padding, cut to what a packet of 576 bytes can hold of it (RFC 1812, section 4.3.2.3)
 abbrev pub quoted : List ℕ → List ℕ
@@ -61,21 +74,23 @@ exceeded_message packet = own_message TIME_EXCEEDED 0 0 0 (quoted packet)
 abbrev pub too_long_message : List ℕ → ℕ → List ℕ
 too_long_message packet mtu = own_message UNREACHABLE FRAGMENTATION_NEEDED 0 mtu (quoted packet)
 
--- errors have the precedence of network control (RFC 1812, section 4.3.2.5)
+-- errors have the precedence of network control (RFC 1812, section 4.3.2.5), and are never cut
 abbrev pub exceeded_packet : List ℕ → (from to : ℕ) → List ℕ
-exceeded_packet packet from to = own_packet CONTROL from to (exceeded_message packet)
+exceeded_packet packet from to = own_packet Forbidden CONTROL from to (exceeded_message packet)
 
 abbrev pub too_long_packet : List ℕ → (mtu from to : ℕ) → List ℕ
-too_long_packet packet mtu from to = own_packet CONTROL from to (too_long_message packet mtu)
+too_long_packet packet mtu from to =
+    own_packet Forbidden CONTROL from to (too_long_message packet mtu)
 
 -- a packet of the box carries this message, and its header has these values
-pub record IsOwnPacket (service from to : ℕ) (message packet : List ℕ) : Type 0 where
+pub record IsOwnPacket (cutting : Cutting) (service from to : ℕ) (message packet : List ℕ)
+    : Type 0 where
   pub right : IsIpv4 packet
   pub header_length : (header_of packet).header_length ≡ 20
   pub type_of_service : (header_of packet).type_of_service ≡ service
   pub total_length : (header_of packet).total_length ≡ length packet
-  pub identification : (header_of packet).identification ≡ 0
-  pub flags_word : (header_of packet).flags_word ≡ 0x4000
+  pub identification : (header_of packet).identification ≡ identification_of cutting
+  pub flags_word : (header_of packet).flags_word ≡ flags_of cutting
   pub ttl : (header_of packet).ttl ≡ 64
   pub protocol : (header_of packet).protocol ≡ 1
   pub source : (header_of packet).source ≡ from

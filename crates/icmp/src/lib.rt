@@ -16,7 +16,8 @@ pub use errors::{ErrorView, ErrorViewMut, PROTOCOL, error_grammar, is_error_mess
 pub use faults::IcmpFault;
 pub use kinds::Kind;
 pub use own::{
-    append_exceeded, append_reply, append_too_long, own_error_law, own_packet_law, reply_law,
+    Cutting, append_exceeded, append_reply, append_too_long, own_error_law, own_packet_law,
+    reply_law,
 };
 pub use packets::{
     ErrorFlow, ErrorPacket, error_packet_grammar, query_flow, query_packet, query_packet_grammar,

@@ -1,5 +1,5 @@
 //! The packets that the box itself sends (RFC 792): Echo Reply, Time Exceeded and Fragmentation Needed, each without
-//! options, with identification 0, Don't Fragment and TTL 64.
+//! options and with TTL 64. Each has the identification 0 and Don't Fragment, but for a Reply that may be cut.
 //!
 //! ```text
 //!  0                                 20     21     22         24           26            28
@@ -22,10 +22,12 @@ ghost use Rattle.std.specs.Prelude.{◌≡◌, ◌≤◌, ◌<◌, ◌+◌, ◌^
 ghost use Rattle.ipv4.specs.Header.{IsIpv4};
 ghost use Rattle.icmp.specs.Ask.{IsAsk};
 ghost use Rattle.icmp.specs.Query.{IsQuery, IsTranslatable, query_of};
-ghost use Rattle.icmp.specs.Own.{head_with, header_with, own_head, own_header, own_packet, quoted};
+ghost use Rattle.icmp.specs.Own.{head_with, header_with, identification_of, flags_of, own_head, own_header, own_packet, quoted};
 ghost use Rattle.icmp.specs.Own.{reply_packet, reply_message, exceeded_packet, exceeded_message, too_long_packet, too_long_message};
 ghost use Rattle.icmp.specs.Own.{IsOwnPacket, IsReplyTo, IsErrorAbout};
 ghost use Rattle.icmp.specs.declared.kinds.Kind.TheVariants.{Reply};
+ghost use Rattle.icmp.specs.declared.own.Cutting.{Cutting as CuttingValue};
+ghost use Rattle.icmp.specs.declared.own.Cutting.TheVariants.{Forbidden};
 ghost use Rattle.icmp.specs.declared.own.TheConstants.{CONTROL, DONT_FRAGMENT, FRAGMENTATION_NEEDED, QUOTED, TTL};
 
 use crate::errors::{TIME_EXCEEDED, UNREACHABLE};
@@ -79,9 +81,40 @@ struct Said {
     second: u16,
 }
 
-/// From where to where a packet goes, and with which type of service.
+/// Whether a packet of the box may be cut into fragments on its way.
+#[derive(Clone, Copy, Debug, PartialEq, Eq)]
+pub enum Cutting {
+    /// Nobody may cut the packet: it has Don't Fragment, and the identification 0.
+    Forbidden,
+    /// Whoever sends the packet on may cut it: it has this identification, and no flag.
+    Allowed(u16),
+}
+
+impl Cutting {
+    fn identification(self) -> u16
+        ensures { result ≡ identification_of self }
+    {
+        match self {
+            Cutting::Forbidden => 0,
+            Cutting::Allowed(identification) => identification,
+        }
+    }
+
+    /// Returns the word of flags and fragment offset.
+    fn flags(self) -> u16
+        ensures { result ≡ flags_of self }
+    {
+        match self {
+            Cutting::Forbidden => DONT_FRAGMENT,
+            Cutting::Allowed(_) => 0,
+        }
+    }
+}
+
+/// From where to where a packet goes, with which type of service, and whether it may be cut.
 #[derive(Clone, Copy)]
 struct Way {
+    cutting: Cutting,
     service: u8,
     from: Ip,
     to: Ip,
@@ -89,7 +122,7 @@ struct Way {
 
 /// Returns the header of a packet of `total` bytes, with its checksum.
 fn summed_header(way: Way, total: u16) -> [u8; layout::HEADER]
-    ensures { result ≡ own_header way.service total way.from.0 way.to.0 }
+    ensures { result ≡ own_header way.cutting way.service total way.from.0 way.to.0 }
 {
     let mut bytes = unsummed_header(way, total);
     let checksum = 65535 - sum(&bytes);
@@ -98,10 +131,11 @@ fn summed_header(way: Way, total: u16) -> [u8; layout::HEADER]
 }
 
 fn unsummed_header(way: Way, total: u16) -> [u8; layout::HEADER]
-    ensures { result ≡ header_with 0 way.service total way.from.0 way.to.0 }
+    ensures { result ≡ header_with way.cutting 0 way.service total way.from.0 way.to.0 }
 {
     let [length, low_length] = total.to_be_bytes();
-    let [flags, low_flags] = DONT_FRAGMENT.to_be_bytes();
+    let [identification, low_identification] = way.cutting.identification().to_be_bytes();
+    let [flags, low_flags] = way.cutting.flags().to_be_bytes();
     let [a, b, c, d] = way.from.0.to_be_bytes();
     let [e, f, g, h] = way.to.0.to_be_bytes();
     [
@@ -109,8 +143,8 @@ fn unsummed_header(way: Way, total: u16) -> [u8; layout::HEADER]
         way.service,
         length,
         low_length,
-        0,
-        0,
+        identification,
+        low_identification,
         flags,
         low_flags,
         TTL,
@@ -153,7 +187,7 @@ fn append(list: &mut Vec<u8>, way: Way, said: Said, carried: &[u8])
     requires room { vec_len list.old + (28 + length carried.now) ≤ vec_capacity list.old }
     requires fits { 28 + length carried.now < 2 ^ 16 }
     ensures items { list.new.items ≡ list.old.items
-        ++ own_packet way.service way.from.0 way.to.0
+        ++ own_packet way.cutting way.service way.from.0 way.to.0
         (own_head said.kind said.code said.first said.second carried.now ++ carried.now) }
     ensures len { vec_len list.new ≡ vec_len list.old + (28 + length carried.now) }
     ensures capacity { vec_capacity list.old ≤ vec_capacity list.new }
@@ -167,11 +201,11 @@ fn append(list: &mut Vec<u8>, way: Way, said: Said, carried: &[u8])
 }
 
 /// Appends the Reply to an Echo, from the address that the Echo was sent to, to a list with capacity for it.
-pub fn append_reply(list: &mut Vec<u8>, ask: &AskView<'_>, from: Ip, to: Ip)
+pub fn append_reply(list: &mut Vec<u8>, ask: &AskView<'_>, cutting: Cutting, from: Ip, to: Ip)
     requires room { vec_len list.old + (20 + length ask.now.bytes.now) ≤ vec_capacity list.old }
     requires fits { 20 + length ask.now.bytes.now < 2 ^ 16 }
     ensures items { list.new.items
-        ≡ list.old.items ++ reply_packet ask.now.bytes.now from.0 to.0 }
+        ≡ list.old.items ++ reply_packet cutting ask.now.bytes.now from.0 to.0 }
     ensures len { vec_len list.new ≡ vec_len list.old + (20 + length ask.now.bytes.now) }
     ensures capacity { vec_capacity list.old ≤ vec_capacity list.new }
 {
@@ -182,6 +216,7 @@ pub fn append_reply(list: &mut Vec<u8>, ask: &AskView<'_>, from: Ip, to: Ip)
         second: ask.sequence_number(),
     };
     let way = Way {
+        cutting,
         service: 0,
         from,
         to,
@@ -224,11 +259,13 @@ pub fn append_too_long(list: &mut Vec<u8>, packet: &Ipv4View<'_>, mtu: u16, from
 }
 
 fn complaining(from: Ip, to: Ip) -> Way
+    ensures cutting { result.cutting ≡ Forbidden }
     ensures service { result.service ≡ 0xc0 }
     ensures from { result.from ≡ from }
     ensures to { result.to ≡ to }
 {
     Way {
+        cutting: Cutting::Forbidden,
         service: CONTROL,
         from,
         to,
@@ -246,9 +283,10 @@ fn quoted<'a>(packet: &Ipv4View<'a>) -> &'a [u8]
 /// A packet that the box writes is an IPv4 packet, and its header has the values of `IsOwnPacket`. The numbers that
 /// the definitions take from the code are the RFCs'.
 pub fn own_packet_law()
-    ensures packet { (service from to : ℕ) (message : List ℕ) → service < 2 ^ 8 → from < 2 ^ 32
-        → to < 2 ^ 32 → 20 + length message < 2 ^ 16
-        → IsOwnPacket service from to message (own_packet service from to message) }
+    ensures packet { (cutting : CuttingValue) (service from to : ℕ) (message : List ℕ)
+        → identification_of cutting < 2 ^ 16 → service < 2 ^ 8 → from < 2 ^ 32 → to < 2 ^ 32
+        → 20 + length message < 2 ^ 16 → IsOwnPacket cutting service from to message
+        (own_packet cutting service from to message) }
     ensures control { CONTROL ≡ 192 }
     ensures dont_fragment { DONT_FRAGMENT ≡ 16384 }
     ensures time_to_live { TTL ≡ 64 }

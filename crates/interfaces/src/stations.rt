@@ -1,5 +1,5 @@
 //! An interface with its state.
-ghost use Rattle.std.specs.Prelude.{◌≡◌, true, ℕ, ◌≤◌, ◌+◌, ◌++◌, IfOk, IfErr, IfSome, OnErr, OnOk, length, vec_len, vec_capacity, if◌then◌else◌};
+ghost use Rattle.std.specs.Prelude.{◌≡◌, true, ℕ, ◌≤◌, ◌+◌, ◌++◌, IfOk, IfErr, IfSome, OnErr, length, vec_len, vec_capacity, if◌then◌else◌};
 ghost use Rattle.arp.specs.Neighbours.{mac_at, asks_at, asked_at};
 ghost use Rattle.arp.specs.declared.packets.TheConstants.{ARP_FRAME};
 ghost use Rattle.vrrp_packet.specs.declared.TheConstants.{ADVERT_FRAME};
@@ -10,7 +10,7 @@ ghost use Rattle.packet_rules.specs.Adverts.{advert_frame};
 ghost use Rattle.packet_rules.specs.Arping.{gratuitous_frame};
 ghost use Rattle.packet_rules.specs.Asked.{IsWhole};
 ghost use Rattle.packet_rules.specs.declared.reasons.Reason.TheVariants.{TtlOver};
-ghost use Rattle.packet_rules.specs.Steps.{arrival_of, reading_of, Carries};
+ghost use Rattle.packet_rules.specs.Steps.{reading_of, Carries};
 ghost use Rattle.interfaces.specs.Cables.{is_in, is_whole, plugged};
 ghost use Rattle.interfaces.specs.Stations.{is_active, is_active_in, is_on, fixed_of, fixed_on, new_station, IsRouterStep, after_arp, with_complaint, with_plug, with_reply, IsWired};
 ghost use Rattle.interfaces.specs.Tallies.{may_complain, may_reply};
@@ -281,20 +281,8 @@ impl Interface {
         self.cache.ask(address, now)
     }
 
-    /// Reads a frame that came in here, on this side of a gateway that is `up` or not. An Err has the reason of the
-    /// first step that refuses the frame.
-    #[inline(always)]
-    pub fn read_frame(&self, side: Side, up: bool, bytes: &[u8]) -> Result<Reading, Reason>
-        ensures reading { result
-            ≡ arrival_of side self.now.network (is_active self.now) up bytes.now }
-        ensures short { OnOk result (length bytes.now ≤ 1514) }
-        ensures carries { IfOk result (Carries side bytes.now) }
-        ensures over { IfErr result (λ reason. reason ≡ TtlOver → IsWhole bytes.now) }
-    {
-        packet_rules::read_frame(side, &self.network, self.is_active(), up, bytes)
-    }
-
-    /// Reads a frame that is at hand, of up to 65,549 bytes, as `read_frame` does one that comes in here.
+    /// Reads a frame at hand here, of up to 65,549 bytes, on this side of a gateway that is `up` or not. An Err has the
+    /// reason of the first step that refuses the frame.
     #[inline(always)]
     pub fn read_whole(&self, side: Side, up: bool, bytes: &[u8]) -> Result<Reading, Reason>
         ensures reading { result

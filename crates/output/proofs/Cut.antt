@@ -5,7 +5,7 @@ use Rattle.std.proofs.lemmas.List.{take-append-le, drop-append-le, nil_from_leng
 use Rattle.std.proofs.lemmas.List.Sums.{sum_by-cons}
 use Rattle.output.specs.Piles.{cut}
 
-sum-cons : (x : ℕ) (xs : List ℕ) → sum (x ∷ xs) ≡ x + sum xs
+pub sum-cons : (x : ℕ) (xs : List ℕ) → sum (x ∷ xs) ≡ x + sum xs
 sum-cons x xs = sum_by-cons (λ (n : ℕ). n) x xs
 
 pub cut-push : (sizes bytes more : List ℕ) (size : ℕ) → sum sizes ≡ length bytes → size ≡ length more

@@ -1,2 +1,3 @@
 mod Cut
+mod Places
 mod Sent

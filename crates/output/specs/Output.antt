@@ -1,5 +1,5 @@
 -- The output of steps: frames to send, datagrams for the other gateway, and notes.
-use Rattle.std.specs.Prelude.{ℕ, ◌≤◌, ◌+◌, ◌*◌, List, [], ◌∷◌, ◌++◌}
+use Rattle.std.specs.Prelude.{ℕ, zero, suc, ◌≤◌, ◌+◌, ◌*◌, List, [], ◌∷◌, ◌++◌, length}
 use Rattle.nat_types.specs.declared.gateways.Side.{Side}
 use Rattle.nat_types.specs.declared.notes.Note.{Note}
 use Rattle.output.specs.declared.pages.Room.{Room}
@@ -37,6 +37,21 @@ sent [] strings = []
 sent (side ∷ sides) [] = []
 sent (side ∷ sides) (bytes ∷ strings) =
     record { side = side; bytes = bytes } ∷ sent sides strings
+
+-- the frames, of which the one at an index has changed bytes
+abbrev pub changed_at : ℕ → (List ℕ → List ℕ) → List Sent → List Sent
+changed_at k change [] = []
+changed_at zero change (f ∷ frames) = record f { bytes = change f.bytes } ∷ frames
+changed_at (suc k) change (f ∷ frames) = f ∷ changed_at k change frames
+
+-- the output with these frames
+abbrev pub with_frames : Output → List Sent → Output
+with_frames told frames = record told { frames = frames }
+
+-- how many bytes all frames have together
+abbrev pub octet_count : List Sent → ℕ
+octet_count [] = 0
+octet_count (f ∷ frames) = length f.bytes + octet_count frames
 
 abbrev pub no_room : Room
 no_room = record { frames = 0; octets = 0; datagrams = 0; notes = 0 }

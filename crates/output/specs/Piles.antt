@@ -1,5 +1,5 @@
 -- Byte strings one after the other in one buffer.
-use Rattle.std.specs.Prelude.{ℕ, List, [], ◌∷◌, take, drop}
+use Rattle.std.specs.Prelude.{ℕ, zero, suc, ◌+◌, List, [], ◌∷◌, length, take, drop}
 
 -- bytes, cut into strings of these sizes
 abbrev pub cut : List ℕ → List ℕ → List (List ℕ)
@@ -11,3 +11,14 @@ pub record Pile : Type 0 where
   pub strings : List (List ℕ)
   pub places : ℕ
   pub octets : ℕ
+
+-- the strings, of which the one at an index is changed
+abbrev pub changed_string : ℕ → (List ℕ → List ℕ) → List (List ℕ) → List (List ℕ)
+changed_string k change [] = []
+changed_string zero change (bytes ∷ strings) = change bytes ∷ strings
+changed_string (suc k) change (bytes ∷ strings) = bytes ∷ changed_string k change strings
+
+-- how many bytes all strings have together
+abbrev pub bytes_in : List (List ℕ) → ℕ
+bytes_in [] = 0
+bytes_in (bytes ∷ strings) = length bytes + bytes_in strings

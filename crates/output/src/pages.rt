@@ -1,13 +1,15 @@
 //! The buffer that a step fills with its output.
-ghost use Rattle.std.specs.Prelude.{◌≡◌, ◌≤◌, ◌<◌, ◌+◌, ◌-◌, ◌++◌, length, vec_len, vec_capacity};
-ghost use Rattle.std.specs.Prelude.{OnOk, OnErr, IsOk};
-ghost use Rattle.output.specs.Output.{none_told, no_room, with_frame, with_datagram, with_note};
-ghost use Rattle.output.specs.Output.{without_notes, IsWithin};
+ghost use Rattle.std.specs.Prelude.{◌≡◌, ◌≤◌, ◌<◌, ◌+◌, ◌-◌, ◌^◌, ◌++◌, Some, length, slice_get, vec_len, vec_capacity};
+ghost use Rattle.std.specs.Prelude.{IfSome, OnOk, OnErr, IsOk};
+ghost use Rattle.output.specs.Output.{none_told, no_room, with_frame, with_frames, with_datagram, with_note};
+ghost use Rattle.output.specs.Output.{changed_at, octet_count, without_notes, IsWithin};
+ghost use Rattle.output.specs.Readers.{sent_of};
 ghost use Rattle.output.specs.Memory.{LacksPage};
 
+use crate::growing::reserve;
 use crate::piles::Pile;
-use crate::readers::{ByteStrings, Frames};
-use crate::writing::WriteBytes;
+use crate::readers::{ByteStrings, Frame, Frames};
+use crate::writing::{ChangeBytes, WriteBytes};
 use nat_types::{Note, Side};
 use std::alloc::{AllocError, Global};
 use std::marker::Model;
@@ -107,12 +109,12 @@ impl OutputBuffer {
         ensures enough { IsWithin room self.old.room → IsOk result }
         ensures refused { OnErr result (LacksPage room) }
     {
-        memory::reserve_exact(&mut self.sides, room.frames)?;
+        reserve(&mut self.sides, room.frames)?;
         self.frames
             .ready(room.frames, LONGEST_FRAME * room.frames + room.octets)?;
         self.datagrams
             .ready(room.datagrams, LONGEST_DATAGRAM * room.datagrams)?;
-        memory::reserve_exact(&mut self.notes, room.notes)?;
+        reserve(&mut self.notes, room.notes)?;
         self.room = room;
         Ok(())
     }
@@ -168,6 +170,18 @@ impl OutputBuffer {
         }
     }
 
+    /// Changes the bytes of the frame at an index in place.
+    pub fn change_frame<C: ChangeBytes>(&mut self, k: usize, change: &C)
+        requires there { k < length self.old.told.frames }
+        requires ready { IfSome (slice_get self.old.told.frames k)
+            (λ f. C.can_change change.now f.bytes) }
+        ensures told { self.new.told ≡ with_frames self.old.told
+            (changed_at k (C.changed change.now) self.old.told.frames) }
+        ensures room { self.new.room ≡ self.old.room }
+    {
+        self.frames.change(k, change);
+    }
+
     /// Appends a datagram, which writes its bytes directly into the buffer.
     pub fn make_datagram<W: WriteBytes>(&mut self, datagram: &W)
         requires ready { W.can_write datagram.now }
@@ -218,6 +232,34 @@ impl OutputBuffer {
         ensures { result ≡ self.now.told.frames }
     {
         Frames::of(&self.sides, self.frames.strings())
+    }
+
+    /// Returns how many frames there are.
+    #[inline(always)]
+    pub fn frame_count(&self) -> usize
+        ensures { result ≡ length self.now.told.frames }
+    {
+        self.sides.len()
+    }
+
+    /// Returns how many bytes all frames have together.
+    #[inline(always)]
+    pub fn frame_octets(&self) -> usize
+        ensures count { result ≡ octet_count self.now.told.frames }
+        ensures few { result < 2 ^ 63 }
+    {
+        self.frames.octet_count()
+    }
+
+    /// Returns the frame at an index.
+    pub fn frame(&self, k: usize) -> Frame<'_>
+        requires { k < length self.now.told.frames }
+        ensures { slice_get self.now.told.frames k ≡ Some (sent_of result) }
+    {
+        Frame {
+            side: self.sides[k],
+            bytes: self.frames.string(k),
+        }
     }
 
     /// Returns how many datagrams there are.

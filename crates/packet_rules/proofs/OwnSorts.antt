@@ -14,7 +14,9 @@ use Rattle.frames.specs.Frame.{frame_of}
 use Rattle.icmp.specs.Error.{is_error}
 use Rattle.icmp.specs.Packet.{error_flow}
 use Rattle.icmp.specs.Query.{kind_number, query_data}
-use Rattle.icmp.specs.Own.{IsOwnPacket, exceeded_message, own_packet, quoted, reply_message, too_long_message}
+use Rattle.icmp.specs.Own.{IsOwnPacket, exceeded_message, identification_of, own_packet, quoted, reply_message, too_long_message}
+use Rattle.icmp.specs.declared.own.Cutting.{Cutting}
+use Rattle.icmp.specs.declared.own.Cutting.TheVariants.{Allowed, Forbidden}
 use Rattle.icmp.specs.declared.errors.TheConstants.{PROTOCOL}
 use Rattle.ipv4.specs.Flow.{flow_of}
 use Rattle.ipv4.specs.Header.{header_of, payload_of}
@@ -41,7 +43,7 @@ use Rattle.packet_rules.specs.Errors.{error_direction, is_error_frame, new_error
 use Rattle.packet_rules.specs.Flows.{error_flow_in, flow_in}
 use Rattle.packet_rules.specs.Frames.{exit_mac, is_translation, new_flow, sent_frame, translated_by, way_of}
 use Rattle.packet_rules.specs.Networks.{IsPlaced, IsWired, broadcast_mac, direction_of, exit_of, hairpin_direction, inside_direction, is_martian, lies_in, may_answer, may_come, network_of, outside_direction}
-use Rattle.packet_rules.specs.Own.{AreBytes, HidesHosts, answer_frame, answer_packet, complaint_frame, complaint_packet, is_any_error, is_own_frame, is_to_host, is_told, own_frame}
+use Rattle.packet_rules.specs.Own.{AreBytes, HidesHosts, answer_cutting, answer_frame, answer_packet, complaint_frame, complaint_packet, is_any_error, is_long_answer, is_own_frame, is_to_host, is_told, own_frame}
 use Rattle.packet_rules.specs.Queries.{kind_leaving}
 use Rattle.packet_rules.specs.Steps.{IsForwardable, IsPassable, and_then}
 use Rattle.packet_rules.proofs.Passing.{both-true, same-number}
@@ -349,8 +351,8 @@ passed-is_not_own networks side (Hairpin own other) next bytes wired placed six 
 
 -- The packets that the box sends of its own.
 abbrev pub OwnPackets : Type 0
-OwnPackets = (service from to : ℕ) (message : List ℕ) → service < 2 ^ 8 → from < 2 ^ 32 → to < 2 ^ 32 → 20 + length message < 2 ^ 16
-    → IsOwnPacket service from to message (own_packet service from to message)
+OwnPackets = (cutting : Cutting) (service from to : ℕ) (message : List ℕ) → identification_of cutting < 2 ^ 16 → service < 2 ^ 8 → from < 2 ^ 32 → to < 2 ^ 32 → 20 + length message < 2 ^ 16
+    → IsOwnPacket cutting service from to message (own_packet cutting service from to message)
 
 own-body : (network : Network) (next : Mac) (packet : List ℕ) → length next.0 ≡ 6 → length network.own_mac.0 ≡ 6
     → ((frame_of (own_frame network next packet)).ethertype ≡ 2048) × ((frame_of (own_frame network next packet)).body ≡ packet)
@@ -391,13 +393,30 @@ ask-room bytes f =
     let h = (header_of packet).header_length in
     omega (arith, length-take ((header_of packet).total_length - h) (drop h packet), length-drop h packet, length-drop 14 bytes, f.frame.whole, f.frame.ipv4.long, f.frame.ipv4.holds_fields, f.frame.ipv4.holds_header, f.frame.ipv4.there)
 
-pub answer-said : OwnPackets → (bytes : List ℕ) → IsAskable bytes → AreBytes bytes
-    → (let packet = (frame_of bytes).body in IsOwnPacket 0 (header_of packet).destination (header_of packet).source (reply_message (payload_of packet)) (answer_packet packet))
+-- the identification of an answer is a number of 16 bits
+two-fit : (a b : ℕ) → a < 256 → b < 256 → a * 256 + (b * 1 + 0) < 65536
+two-fit a b w x = omega arith
+
+identification-fits : (packet : List ℕ) → AreBytes packet → (header_of packet).identification < 65536
+identification-fits packet are =
+    let fits : (i : ℕ) → slice_index (drop 4 packet) i < 256 = λ i. subst (λ (x : ℕ). x < 256) (sym (get_or-drop 4 packet i 0)) (are (4 + i)) in
+    two-fit _ _ (fits 0) (fits 1)
+
+cutting-fits-by : (b : Bool) (n : ℕ) → n < 65536 → identification_of (cond b (Allowed n) Forbidden) < 65536
+cutting-fits-by true n fits = fits
+cutting-fits-by false n fits = omega arith
+
+cutting-fits : (network : Network) (packet : List ℕ) → AreBytes packet → identification_of (answer_cutting network packet) < 65536
+unfolding answer_cutting
+cutting-fits network packet are = cutting-fits-by (is_long_answer network packet) (header_of packet).identification (identification-fits packet are)
+
+pub answer-said : OwnPackets → (network : Network) (bytes : List ℕ) → IsAskable bytes → AreBytes bytes
+    → (let packet = (frame_of bytes).body in IsOwnPacket (answer_cutting network packet) 0 (header_of packet).destination (header_of packet).source (reply_message (payload_of packet)) (answer_packet network packet))
 unfolding answer_packet
-answer-said law bytes f are =
+answer-said law network bytes f are =
     let packet = (frame_of bytes).body in
     let bodies = body-bytes bytes are in
-    law 0 (header_of packet).destination (header_of packet).source (reply_message (payload_of packet)) (omega arith) (destination-fits packet bodies) (source-fits packet bodies) (ask-short bytes f)
+    law (answer_cutting network packet) 0 (header_of packet).destination (header_of packet).source (reply_message (payload_of packet)) (cutting-fits network packet bodies) (omega arith) (destination-fits packet bodies) (source-fits packet bodies) (ask-short bytes f)
 
 -- the message of a complaint
 abbrev complaint-message : Complaint → List ℕ → List ℕ
@@ -416,12 +435,12 @@ complaint-short (TooBig mtu) packet =
     omega (arith, size, quoted-short packet)
 
 complaint-said : OwnPackets → (network : Network) (complaint : Complaint) (packet : List ℕ) → network.own_ip.0 < 2 ^ 32 → AreBytes packet
-    → IsOwnPacket 192 network.own_ip.0 (header_of packet).source (complaint-message complaint packet) (complaint_packet network complaint packet)
+    → IsOwnPacket Forbidden 192 network.own_ip.0 (header_of packet).source (complaint-message complaint packet) (complaint_packet network complaint packet)
 unfolding complaint_packet
 complaint-said law network Exceeded packet own are =
-    law 192 network.own_ip.0 (header_of packet).source (exceeded_message packet) (omega arith) own (source-fits packet are) (complaint-short Exceeded packet)
+    law Forbidden 192 network.own_ip.0 (header_of packet).source (exceeded_message packet) (omega arith) (omega arith) own (source-fits packet are) (complaint-short Exceeded packet)
 complaint-said law network (TooBig mtu) packet own are =
-    law 192 network.own_ip.0 (header_of packet).source (too_long_message packet mtu) (omega arith) own (source-fits packet are) (complaint-short (TooBig mtu) packet)
+    law Forbidden 192 network.own_ip.0 (header_of packet).source (too_long_message packet mtu) (omega arith) (omega arith) own (source-fits packet are) (complaint-short (TooBig mtu) packet)
 
 -- the tests of an own frame hold where each part does
 own-first : (a b c d : Bool) → a ≡ true → b ≡ true → c ≡ true → (a && (b && (c || d))) ≡ true
@@ -510,8 +529,8 @@ pub answer-is_own : OwnPackets → (networks : Networks) (side : Side) (active :
 answer-is_own law networks side active next bytes wired placed six are f is =
     let packet = (frame_of bytes).body in
     let network = network_of networks side in
-    let said = answer-said law bytes f are in
-    let frame = own-body network next (answer_packet packet) six (wired-at networks side wired) in
+    let said = answer-said law network bytes f are in
+    let frame = own-body network next (answer_packet network packet) six (wired-at networks side wired) in
     answer-own-by networks side _ (header_of packet).destination frame.0
     (ap (λ (xs : List ℕ). (header_of xs).protocol) frame.1 ∙ said.protocol)
     (ap (λ (xs : List ℕ). (header_of xs).source) frame.1 ∙ said.source)
@@ -539,8 +558,8 @@ pub answer-hides : OwnPackets → (networks : Networks) (active : Bool) (next : 
     → HidesHosts networks (answer_frame networks.outside next bytes)
 answer-hides law networks active next bytes wired placed six are f is may =
     let packet = (frame_of bytes).body in
-    let said = answer-said law bytes f are in
-    let frame = own-body networks.outside next (answer_packet packet) six wired.outside_mac in
+    let said = answer-said law networks.outside bytes f are in
+    let frame = own-body networks.outside next (answer_packet networks.outside packet) six wired.outside_mac in
     let inside = λ (a : ℕ). lies_in a networks.inside.interface in (
       ap inside (ap (λ (xs : List ℕ). (header_of xs).source) frame.1 ∙ said.source) ∙ asked-apart networks _ placed (asked-at networks Outside active bytes placed is).one,
       ap inside (ap (λ (xs : List ℕ). (header_of xs).destination) frame.1 ∙ said.destination) ∙ answered-apart networks (header_of packet).source may,

@@ -47,7 +47,7 @@ networks_of settings id = record {
     icmp = settings.icmp;
   };
   router = settings.router;
-  pass = false;
+  pass = settings.fragments.pass;
 }
 
 -- both own hardware addresses have six bytes

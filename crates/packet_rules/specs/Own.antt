@@ -1,11 +1,13 @@
 -- What the box sends of its own: the frame that answers an Echo to it, and the frame that complains of a packet that it
 -- drops (RFC 792; RFC 1812, section 4.3.2).
-use Rattle.std.specs.Prelude.{◌≡◌, ◌<◌, ℕ, Bool, false, not, ◌==◌, ◌&&◌, ◌||◌, Option, Some, None, List, ◌++◌, slice_index, Result, Ok, Err, if◌then◌else◌}
+use Rattle.std.specs.Prelude.{◌≡◌, ◌<◌, ℕ, ◌+◌, Bool, false, not, nat_lt, ◌==◌, ◌&&◌, ◌||◌, Option, Some, None, List, ◌++◌, length, slice_index, Result, Ok, Err, if◌then◌else◌}
 use Rattle.addresses.specs.declared.ethernet.Mac.{Mac}
 use Rattle.frames.specs.Frame.{frame_of, header_bytes}
 use Rattle.ipv4.specs.Header.{header_of, is_unbroken, payload_of}
 use Rattle.icmp.specs.Own.{reply_packet, exceeded_packet, too_long_packet}
 use Rattle.icmp.specs.declared.errors.TheConstants.{PROTOCOL}
+use Rattle.icmp.specs.declared.own.Cutting.{Cutting}
+use Rattle.icmp.specs.declared.own.Cutting.TheVariants.{Forbidden, Allowed}
 use Rattle.nat_types.specs.declared.gateways.Side.{Side}
 use Rattle.packet_rules.specs.declared.complaints.Complaint.{Complaint}
 use Rattle.packet_rules.specs.declared.complaints.Complaint.TheVariants.{Exceeded, TooBig}
@@ -20,10 +22,22 @@ use Rattle.packet_rules.specs.Networks.{exit_of, is_broadcast, is_martian, lies_
 unfoldable pub own_frame : Network → Mac → List ℕ → List ℕ
 own_frame network next packet = header_bytes next.0 network.own_mac.0 2048 ++ packet
 
+-- the packet that answers an Echo is longer than the interface's `mtu`
+abbrev pub is_long_answer : Network → List ℕ → Bool
+is_long_answer network packet =
+    nat_lt network.interface.mtu (20 + length (payload_of packet))
+
+-- whether the answer to an Echo may be cut: where it is too long, and then with the Echo's identification
+unfoldable pub answer_cutting : Network → List ℕ → Cutting
+answer_cutting network packet =
+    (if is_long_answer network packet then Allowed (header_of packet).identification
+    else Forbidden)
+
 -- what answers an Echo: its Reply, from the address that was asked to the one that asked
-unfoldable pub answer_packet : List ℕ → List ℕ
-answer_packet packet =
-    reply_packet (payload_of packet) (header_of packet).destination (header_of packet).source
+unfoldable pub answer_packet : Network → List ℕ → List ℕ
+answer_packet network packet =
+    reply_packet (answer_cutting network packet) (payload_of packet)
+    (header_of packet).destination (header_of packet).source
 
 -- the packet that complains of a packet, from the interface's own address to the packet's source
 unfoldable pub complaint_packet : Network → Complaint → List ℕ → List ℕ
@@ -33,7 +47,8 @@ complaint_packet network (TooBig mtu) packet =
     too_long_packet packet mtu network.own_ip.0 (header_of packet).source
 
 abbrev pub answer_frame : Network → Mac → List ℕ → List ℕ
-answer_frame network next bytes = own_frame network next (answer_packet (frame_of bytes).body)
+answer_frame network next bytes =
+    own_frame network next (answer_packet network (frame_of bytes).body)
 
 abbrev pub complaint_frame : Network → Complaint → Mac → List ℕ → List ℕ
 complaint_frame network complaint next bytes =

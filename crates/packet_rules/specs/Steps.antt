@@ -21,7 +21,7 @@ use Rattle.packet_rules.specs.declared.reasons.Reason.TheVariants.{ShortFrame, N
 use Rattle.packet_rules.specs.declared.readings.Reading.{Reading}
 use Rattle.packet_rules.specs.declared.readings.Reading.TheVariants.{Arp, Advert, Packet, Error, Asked}
 use Rattle.packet_rules.specs.declared.networks.Network.{Network}
-use Rattle.frames.specs.declared.ethernet.TheConstants.{LONGEST, LONGEST_WHOLE}
+use Rattle.frames.specs.declared.ethernet.TheConstants.{LONGEST_WHOLE}
 use Rattle.packet_rules.specs.Asked.{IsAskable, asked_of, is_asked}
 use Rattle.packet_rules.specs.Flows.{error_in, packet_in}
 use Rattle.packet_rules.specs.Networks.{is_addressed, is_virtual}
@@ -47,11 +47,7 @@ reason_of_icmp NotQuery = NotUdpTcp
 reason_of_icmp BadQuery = BadTransport
 reason_of_icmp NotAsked = NotUdpTcp
 
--- 1. a frame that comes in has at most 1,514 bytes
-unfoldable pub length_refusal : List ℕ → Option Reason
-length_refusal bytes = (if nat_le (length bytes) LONGEST then None else Some ShortFrame)
-
--- a whole frame has 14 to 65,549 bytes
+-- 1. a frame at hand has 14 to 65,549 bytes
 unfoldable pub size_refusal : List ℕ → Option Reason
 size_refusal bytes =
     (if nat_le 14 (length bytes) && nat_le (length bytes) LONGEST_WHOLE then None
@@ -185,7 +181,7 @@ body_reading side network active frame =
     (if frame.ethertype == 2054 then arp_reading frame.body
     else ipv4_reading side network active frame)
 
--- what a whole frame is read as that is of this side, by a gateway that is up or not, at an interface that is Active or
+-- what a frame at hand is read as that is of this side, by a gateway that is up or not, at an interface that is Active or
 -- not; or the reason of the first step that refuses it
 abbrev pub reading_of : Side → Network → Bool → Bool → List ℕ → Result Reading Reason
 reading_of side network active up bytes =
@@ -194,11 +190,6 @@ reading_of side network active up bytes =
     unless (up_refusal up) (
     unless (destination_refusal network active frame) (
     body_reading side network active frame)))
-
--- the same of a frame that comes in
-abbrev pub arrival_of : Side → Network → Bool → Bool → List ℕ → Result Reading Reason
-arrival_of side network active up bytes =
-    unless (length_refusal bytes) (reading_of side network active up bytes)
 
 -- where the packet of a frame that came in at this side is a query, the query is of the side's kind
 abbrev pub IsOfSide : Side → List ℕ → Type 0

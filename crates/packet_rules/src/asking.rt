@@ -5,13 +5,13 @@ ghost use Rattle.frames.specs.Frame.{frame_of, header_bytes};
 ghost use Rattle.ipv4.specs.Header.{payload_of};
 ghost use Rattle.icmp.specs.Ask.{IsAsk};
 ghost use Rattle.packet_rules.specs.Asked.{IsAskable, IsWhole, asked_of, is_asked, is_echo, is_to_box};
-ghost use Rattle.packet_rules.specs.Own.{answer_frame, answer_packet, own_frame};
+ghost use Rattle.packet_rules.specs.Own.{answer_cutting, answer_frame, answer_packet, own_frame};
 
 use crate::Asked;
 use crate::networks::{Network, is_to_virtual};
 use addresses::Mac;
 use frames::{EthView, EtherType, append_reserved, write_header};
-use icmp::AskView;
+use icmp::{AskView, Cutting};
 use ipv4::{Ipv4View, Size};
 
 /// Whether a packet is for the gateway itself, by the address and the hardware address that it goes to.
@@ -107,19 +107,34 @@ pub(crate) fn own_header(network: &Network, next_mac: Mac) -> [u8; 14]
     header
 }
 
+/// Returns whether the answer to the Echo of a packet may be cut: with the Echo's identification where it is longer than
+/// what leaves here may be.
+#[tactic(auto, unfolding(crate::specs::Own::answer_cutting))]
+fn cutting_of(network: &Network, packet: &Ipv4View<'_>) -> Cutting
+    ensures { result ≡ answer_cutting network.now packet.now.bytes.now }
+{
+    if 20 + packet.payload().len() > usize::from(network.interface.mtu) {
+        Cutting::Allowed(packet.identification())
+    } else {
+        Cutting::Forbidden
+    }
+}
+
 /// Appends the packet that answers the Echo of a frame to a list with capacity for as many bytes as the frame has after
 /// its Ethernet header.
 #[tactic(auto, unfolding(crate::specs::Own::answer_packet))]
-fn append_reply_to(list: &mut Vec<u8>, bytes: &[u8])
+fn append_reply_to(list: &mut Vec<u8>, network: &Network, bytes: &[u8])
     requires room { vec_len list.old + length bytes.now ≤ vec_capacity list.old + 14 }
     requires askable { IsAskable bytes.now }
-    ensures items { list.new.items ≡ list.old.items ++ answer_packet (frame_of bytes.now).body }
+    ensures items { list.new.items
+        ≡ list.old.items ++ answer_packet network.now (frame_of bytes.now).body }
     ensures len { vec_len list.new + 14 ≤ vec_len list.old + length bytes.now }
     ensures capacity { vec_capacity list.old ≤ vec_capacity list.new }
 {
     let packet = packet_of(bytes);
     let ask = ask_of(&packet);
-    icmp::append_reply(list, &ask, packet.destination(), packet.source());
+    let cutting = cutting_of(network, &packet);
+    icmp::append_reply(list, &ask, cutting, packet.destination(), packet.source());
 }
 
 /// Appends the frame that answers the Echo of the received frame `bytes` to a list with capacity for as many bytes as
@@ -134,5 +149,5 @@ pub fn append_echo_reply(list: &mut Vec<u8>, network: &Network, next_mac: Mac, b
     ensures capacity { vec_capacity list.old ≤ vec_capacity list.new }
 {
     append_reserved(list, &own_header(network, next_mac));
-    append_reply_to(list, bytes);
+    append_reply_to(list, network, bytes);
 }

@@ -7,7 +7,7 @@ ghost use Rattle.packet_rules.specs.declared.networks.Network.{Network as Networ
 ghost use Rattle.packet_rules.specs.declared.networks.Networks.{Networks as NetworksValue};
 ghost use Rattle.packet_rules.specs.declared.readings.Reading.{Reading as ReadingValue};
 ghost use Rattle.packet_rules.specs.declared.translations.Translation.{Translation as TranslationValue};
-ghost use Rattle.frames.specs.declared.ethernet.TheConstants.{LONGEST, LONGEST_WHOLE};
+ghost use Rattle.frames.specs.declared.ethernet.TheConstants.{LONGEST_WHOLE};
 ghost use Rattle.vrrp_packet.specs.Message.{IsWritable};
 ghost use Rattle.packet_rules.specs.declared.readings.Reading.TheVariants.{Advert, Asked};
 ghost use Rattle.packet_rules.specs.declared.readings.Asked.{Asked as AskedValue};
@@ -28,10 +28,8 @@ use icmp::{ask_grammar, error_packet_grammar, query_packet_grammar};
 use ipv4::{ipv4_grammar, transport_grammar};
 use vrrp_packet::{advert_grammar, written_is_read};
 
-/// States the length of the longest frame that comes in, and of the longest that is handled, in bytes: an Ethernet
-/// header, and a packet of 1,500 bytes or of 65,535.
+/// States the length of the longest frame that is read, in bytes: an Ethernet header, and a packet of 65,535.
 pub fn limits_law()
-    ensures longest_frame { LONGEST ≡ 1514 }
     ensures longest_whole { LONGEST_WHOLE ≡ 65549 }
 {}
 

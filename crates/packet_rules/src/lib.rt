@@ -30,5 +30,5 @@ pub use networks::{Direction, Network, Networks, direction_taken, next_hop_outsi
 pub use own_laws::{own_frames_law, shows_nothing_inside};
 pub use readings::{Asked, Reading};
 pub use reasons::Reason;
-pub use steps::{read_frame, read_whole};
+pub use steps::read_whole;
 pub use translations::{Translation, append_sent};

@@ -114,7 +114,7 @@ fn networks_at(settings: &Settings, id: GatewayId) -> Networks
             icmp: settings.icmp,
         },
         router: settings.router,
-        pass: false,
+        pass: settings.fragments.pass,
     }
 }
 

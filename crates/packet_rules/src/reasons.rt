@@ -51,7 +51,9 @@ impl fmt::Display for Reason {
             Reason::BadHeader => "no IPv4 header",
             Reason::BadLength => "the IPv4 total length is wrong",
             Reason::BadHeaderSum => "the IPv4 header checksum is wrong",
-            Reason::Fragment => "a fragment",
+            Reason::Fragment => {
+                "a fragment that isn't taken, is broken, is there already, or contradicts"
+            }
             Reason::TtlOver => "the time to live is over",
             Reason::NotUdpTcp => "neither UDP, TCP, a ping nor an ICMP error",
             Reason::BadTransport => "the UDP, TCP or ICMP header is wrong",

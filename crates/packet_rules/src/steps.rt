@@ -8,7 +8,7 @@ ghost use Rattle.ipv4.specs.Flow.{packet_of};
 ghost use Rattle.icmp.specs.Packet.{IsErrorPacket, error_packet_of};
 ghost use Rattle.packet_rules.specs.Asked.{IsWhole};
 ghost use Rattle.packet_rules.specs.declared.reasons.Reason.TheVariants.{TtlOver};
-ghost use Rattle.packet_rules.specs.Steps.{reason_of, reason_of_icmp, size_refusal, length_refusal, destination_refusal, header_refusal, virtual_refusal, transport_refusal, query_refusal, error_refusal, about_refusal, ttl_refusal, is_vrrp, is_from_peer, arp_reading, advert_reading, transport_reading, query_reading, error_reading, icmp_reading, packet_reading, other_reading, ipv4_reading, body_reading, reading_of, arrival_of, Carries};
+ghost use Rattle.packet_rules.specs.Steps.{reason_of, reason_of_icmp, size_refusal, destination_refusal, header_refusal, virtual_refusal, transport_refusal, query_refusal, error_refusal, about_refusal, ttl_refusal, is_vrrp, is_from_peer, arp_reading, advert_reading, transport_reading, query_reading, error_reading, icmp_reading, packet_reading, other_reading, ipv4_reading, body_reading, reading_of, Carries};
 
 use crate::asking::{asked, is_asked};
 use crate::laws::readings_law;
@@ -305,29 +305,8 @@ fn read_ipv4(
     }
 }
 
-/// Reads a frame that came in on a side's network, at an interface that is `active` or not, by a gateway that is `up`
-/// or not. An Err has the reason of the first step that refuses the frame.
-#[tactic(auto, unfolding(crate::specs::Steps::length_refusal))]
-#[inline(always)]
-pub fn read_frame(
-    side: Side,
-    network: &Network,
-    active: bool,
-    up: bool,
-    bytes: &[u8],
-) -> Result<Reading, Reason>
-    ensures reading { result ≡ arrival_of side network.now active up bytes.now }
-    ensures short { OnOk result (length bytes.now ≤ 1514) }
-    ensures carries { IfOk result (Carries side bytes.now) }
-    ensures over { IfErr result (λ reason. reason ≡ TtlOver → IsWhole bytes.now) }
-{
-    if bytes.len() > frames::LONGEST {
-        return Err(Reason::ShortFrame);
-    }
-    read_whole(side, network, active, up, bytes)
-}
-
-/// Reads a frame that is at hand, of up to 65,549 bytes, as [`read_frame`] does one that comes in.
+/// Reads a frame at hand, of up to 65,549 bytes, on a side's network, at an interface that is `active` or not, by a
+/// gateway that is `up` or not. An Err has the reason of the first step that refuses the frame.
 #[inline(always)]
 pub fn read_whole(
     side: Side,

@@ -5,10 +5,10 @@ use arrayvec::ArrayVec;
 use std::fmt::{self, Display, Formatter};
 
 /// The version of the bytes of reports and pages, which is their first byte.
-pub const VERSION: u8 = 3;
+pub const VERSION: u8 = 4;
 
 /// How many bytes a report or a page has at most: those of a full page, which has 3 bytes before its entries, and 10 for
-/// each. A report has at most 1,155.
+/// each. A report has at most 1,267.
 pub const MAX_REPORT_BYTES: usize = 3 + 10 * MAX_PAGE_ENTRIES;
 
 /// The bytes of a report or a page.

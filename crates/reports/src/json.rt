@@ -2,7 +2,9 @@
 
 use crate::names::{PROTOCOLS, dropped, left_out, origin_name};
 use crate::units::Seconds;
-use crate::{Counter, Counters, GatewayReport, PairCounts, PeerReport, Report, SideReport};
+use crate::{
+    Counter, Counters, FragmentReport, GatewayReport, PairCounts, PeerReport, Report, SideReport,
+};
 use addresses::Protocol;
 use journal::{Cause, Origin, reason_name, role_name};
 use nat_types::EntryState;
@@ -24,6 +26,9 @@ impl Display for JsonText<'_> {
         write_apart(f, report)?;
         write_pairs(f, &gateway.pairs)?;
         write_ports(f, gateway)?;
+        write_fragments(f, ",\"fragments\":{", "inside", &gateway.fragments.inside)?;
+        write_fragments(f, ",", "outside", &gateway.fragments.outside)?;
+        f.write_str("}")?;
         write_traffic(f, counters)?;
         write_dropped(f, counters)?;
         write_left_out(f, report)
@@ -152,6 +157,29 @@ fn write_ports<W: fmt::Write>(f: &mut Formatter<W>, gateway: &GatewayReport) -> 
         ",",
         "waiting",
         &[("pair", waiting.pair), ("next_hop", waiting.next_hop)],
+    )
+}
+
+/// Writes what became of packets in fragments at a side.
+fn write_fragments<W: fmt::Write>(
+    f: &mut Formatter<W>,
+    before: &str,
+    name: &str,
+    fragments: &FragmentReport,
+) -> fmt::Result {
+    write_numbers(
+        f,
+        before,
+        name,
+        &[
+            ("incomplete", fragments.incomplete),
+            ("taken", fragments.taken),
+            ("whole", fragments.whole),
+            ("late", fragments.late),
+            ("crowded_out", fragments.crowded_out),
+            ("contradicted", fragments.contradicted),
+            ("cut", fragments.cut),
+        ],
     )
 }
 

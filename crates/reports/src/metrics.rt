@@ -3,7 +3,10 @@
 
 use crate::names::{PROTOCOLS, STATES, dropped, left_out, origin_name, state_name};
 use crate::units::Seconds;
-use crate::{Counter, Counters, GatewayReport, PairCounts, PeerReport, Report, Sides};
+use crate::{
+    Counter, Counters, FragmentReport, Fragments, GatewayReport, PairCounts, PeerReport, Report,
+    Sides,
+};
 use addresses::Protocol;
 use journal::{Cause, Origin, reason_name};
 use std::fmt::{self, Display, Formatter};
@@ -24,6 +27,8 @@ impl Display for MetricsText<'_> {
         write_apart(f, report)?;
         write_pairs(f, &gateway.pairs)?;
         write_ports(f, gateway)?;
+        write_fragments(f, &gateway.fragments)?;
+        write_gathered(f, &gateway.fragments)?;
         write_traffic(f, &report.counters)?;
         write_failures(f, &report.counters)?;
         write_dropped(f, &report.counters)?;
@@ -230,6 +235,55 @@ fn write_ports<W: fmt::Write>(f: &mut Formatter<W>, gateway: &GatewayReport) -> 
             ("{for=\"next_hop\"}", waiting.next_hop),
         ],
     )
+}
+
+/// Writes how many packets lack fragments, and how many fragments were taken, and packets sent in fragments.
+fn write_fragments<W: fmt::Write>(f: &mut Formatter<W>, fragments: &Fragments) -> fmt::Result {
+    let (inside, outside) = (&fragments.inside, &fragments.outside);
+    write_gauge(
+        f,
+        "natpair_fragmented_incomplete",
+        "Packets that lack fragments, of 64 places.",
+        &[(INSIDE, inside.incomplete), (OUTSIDE, outside.incomplete)],
+    )?;
+    write_counter(
+        f,
+        "natpair_fragments_taken_total",
+        "Fragments that were taken.",
+        &[(INSIDE, inside.taken), (OUTSIDE, outside.taken)],
+    )?;
+    write_counter(
+        f,
+        "natpair_packets_cut_total",
+        "Packets that were sent in fragments.",
+        &[(INSIDE, inside.cut), (OUTSIDE, outside.cut)],
+    )
+}
+
+/// Writes what became of packets that came in fragments.
+fn write_gathered<W: fmt::Write>(f: &mut Formatter<W>, fragments: &Fragments) -> fmt::Result {
+    let help = "Packets that came in fragments, by what became of them.";
+    write_head(f, "counter", "natpair_fragmented_total", help)?;
+    write_outcomes(f, "inside", &fragments.inside)?;
+    write_outcomes(f, "outside", &fragments.outside)
+}
+
+/// Writes how many packets of a side became whole, and how many didn't, by the reason.
+fn write_outcomes<W: fmt::Write>(
+    f: &mut Formatter<W>,
+    side: &str,
+    fragments: &FragmentReport,
+) -> fmt::Result {
+    for (outcome, count) in [
+        ("whole", fragments.whole),
+        ("late", fragments.late),
+        ("crowded_out", fragments.crowded_out),
+        ("contradicted", fragments.contradicted),
+    ] {
+        write!(f, "natpair_fragmented_total{{side=\"{side}\",")?;
+        writeln!(f, "outcome=\"{outcome}\"}} {count}")?;
+    }
+    Ok(())
 }
 
 /// Writes what was received and sent.

@@ -2,7 +2,7 @@
 
 use crate::names::{dropped, left_out, origin_name};
 use crate::units::{Grouped, Seconds, Span};
-use crate::{Counter, Counters, GatewayReport, PeerReport, Report, SideReport};
+use crate::{Counter, Counters, FragmentReport, GatewayReport, PeerReport, Report, SideReport};
 use addresses::Protocol;
 use journal::{Cause, Origin, reason_name, role_name};
 use nat_types::EntryState;
@@ -23,6 +23,8 @@ impl Display for PlainText<'_> {
         write_apart(f, report)?;
         write_pairs(f, gateway)?;
         write_ports(f, gateway)?;
+        write_fragments(f, "pieces   inside  ", &gateway.fragments.inside)?;
+        write_fragments(f, "pieces   outside ", &gateway.fragments.outside)?;
         write_traffic(f, &report.counters)?;
         for origin in Origin::ALL {
             write_dropped(f, &report.counters, origin)?;
@@ -131,6 +133,25 @@ fn write_ports<W: fmt::Write>(f: &mut Formatter<W>, gateway: &GatewayReport) -> 
     writeln!(
         f,
         "waiting  {pair} of 64 for a pair, {next_hop} of 64 for a next hop"
+    )
+}
+
+/// Writes how many packets of a side lack fragments, what became of the others, and how many were sent in fragments.
+fn write_fragments<W: fmt::Write>(
+    f: &mut Formatter<W>,
+    name: &str,
+    fragments: &FragmentReport,
+) -> fmt::Result {
+    let (incomplete, taken) = (fragments.incomplete, Grouped(fragments.taken));
+    let (whole, late) = (Grouped(fragments.whole), Grouped(fragments.late));
+    let crowded_out = Grouped(fragments.crowded_out);
+    let contradicted = Grouped(fragments.contradicted);
+    let cut = Grouped(fragments.cut);
+    write!(f, "{name}{incomplete} of 64 incomplete, {taken} taken; ")?;
+    write!(f, "packets: {whole} whole, {late} late, ")?;
+    writeln!(
+        f,
+        "{crowded_out} crowded out, {contradicted} contradicted, {cut} cut"
     )
 }
 

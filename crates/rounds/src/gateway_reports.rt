@@ -6,8 +6,8 @@ use bindings::Entry;
 use gateway::Gateway;
 use nat_types::{Key, NoMemory, Side};
 use reports::{
-    GatewayReport, MAX_PAGE_ENTRIES, Page, PairCounts, PeerReport, PortCounts, SideReport, Sides,
-    WaitingCounts,
+    FragmentReport, Fragments, GatewayReport, MAX_PAGE_ENTRIES, Page, PairCounts, PeerReport,
+    PortCounts, SideReport, Sides, WaitingCounts,
 };
 
 /// Returns the gateway's part of a report. The time is one pass over the whole table, and one over the owned ports for each
@@ -39,7 +39,25 @@ pub fn gateway_report(gateway: &Gateway) -> Result<GatewayReport, NoMemory> {
             pair: gateway.waiting_for_pairs() as u64,
             next_hop: gateway.waiting_for_hops() as u64,
         },
+        fragments: Fragments {
+            inside: fragments_at(gateway, Side::Inside),
+            outside: fragments_at(gateway, Side::Outside),
+        },
     })
+}
+
+/// Returns what became of packets in fragments at a side.
+fn fragments_at(gateway: &Gateway, side: Side) -> FragmentReport {
+    let counts = gateway.fragments(side);
+    FragmentReport {
+        incomplete: counts.incomplete as u64,
+        taken: counts.taken,
+        whole: counts.whole,
+        late: counts.late,
+        crowded_out: counts.crowded_out,
+        contradicted: counts.contradicted,
+        cut: counts.cut,
+    }
 }
 
 /// Counts the entries of the table.

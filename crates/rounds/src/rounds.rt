@@ -1,4 +1,6 @@
 //! The rounds of a box.
+ghost use Rattle.std.specs.Prelude.{◌≡◌, OnErr, OnOk};
+ghost use Rattle.memory.specs.Memory.{WasRefused};
 ghost use Rattle.rounds.specs.Runs.{HasTurned, IsTurn, RunsTo};
 
 use crate::gateway_reports::{sides_of, update_sides};
@@ -7,7 +9,8 @@ use crate::missing_tables::MissingTable;
 use crate::outages::Outages;
 use crate::replies::answer_request;
 use crate::steps::{take_event, take_message};
-use gateway::{Event, Gateway, Out};
+use fragments::Cutter;
+use gateway::{Event, Gateway, NoMemory, Out};
 use journal::{EventLog, Journal};
 use nat_types::GatewayId;
 use platform::CentisecondClock;
@@ -86,6 +89,8 @@ impl<M: Manager> Manager for Option<M> {
 pub(crate) struct RoundState {
     /// What the gateway's last step told.
     pub(crate) out: Out,
+    /// Cuts the frames of a step that are too long for their side.
+    pub(crate) cutter: Cutter,
     pub(crate) counters: Counters,
     pub(crate) sides: Sides,
     pub(crate) apart: ApartReport,
@@ -98,9 +103,13 @@ pub(crate) struct RoundState {
 }
 
 impl RoundState {
-    fn new(alloc: Global, gateway: &Gateway) -> RoundState {
-        RoundState {
+    fn new(alloc: Global, gateway: &Gateway) -> Result<RoundState, NoMemory>
+        ensures refused { OnErr result (WasRefused 1514) }
+    {
+        let cutter = Cutter::new(alloc)?;
+        Ok(RoundState {
             out: Out::new(alloc),
+            cutter,
             counters: Counters::new(),
             sides: sides_of(gateway),
             apart: ApartReport::new(),
@@ -108,7 +117,7 @@ impl RoundState {
             missing_table: MissingTable::new(),
             request: None,
             is_ending: false,
-        }
+        })
     }
 }
 
@@ -118,6 +127,10 @@ impl RoundState {
 /// stopped.
 ///
 /// A send that fails is a lost datagram. An event that runs out of memory changes nothing.
+///
+/// # Errors
+///
+/// Where there is no memory for a fragment as it is sent: nothing is run then.
 pub fn serve<W: Wire, C: CentisecondClock, U: EndSignal, M: Manager, L: Journal>(
     alloc: Global,
     gateway: &mut Gateway,
@@ -127,19 +140,27 @@ pub fn serve<W: Wire, C: CentisecondClock, U: EndSignal, M: Manager, L: Journal>
     manager: &mut M,
     log: &mut EventLog<L>,
     options: &Options,
-)
-    ensures run { RunsTo W.passes gateway.old wire.old gateway.new wire.new }
+) -> Result<(), NoMemory>
+    ensures run { OnOk result (RunsTo W.passes gateway.old wire.old gateway.new wire.new) }
+    ensures err { OnErr result (gateway.new ≡ gateway.old) }
+    ensures unsent { OnErr result (wire.new ≡ wire.old) }
+    ensures refused { OnErr result (WasRefused 1514) }
 {
-    let mut state = RoundState::new(alloc, gateway);
+    let mut state = RoundState::new(alloc, gateway)?;
     all_rounds(
         gateway, wire, clock, until, manager, &mut state, log, options,
     );
     manager.ending();
     take_event(gateway, Event::Stop, wire, &mut state, log);
     log.finish(gateway.moment());
+    Ok(())
 }
 
 /// Runs the rounds of [`serve`] alone: the gateway isn't stopped, and can go on.
+///
+/// # Errors
+///
+/// Those of [`serve`].
 pub fn run_rounds<W: Wire, C: CentisecondClock, U: EndSignal, M: Manager, L: Journal>(
     alloc: Global,
     gateway: &mut Gateway,
@@ -149,14 +170,18 @@ pub fn run_rounds<W: Wire, C: CentisecondClock, U: EndSignal, M: Manager, L: Jou
     manager: &mut M,
     log: &mut EventLog<L>,
     options: &Options,
-)
-    ensures rounds { HasTurned W.passes gateway.old wire.old gateway.new wire.new }
+) -> Result<(), NoMemory>
+    ensures rounds { OnOk result (HasTurned W.passes gateway.old wire.old gateway.new wire.new) }
+    ensures err { OnErr result (gateway.new ≡ gateway.old) }
+    ensures unsent { OnErr result (wire.new ≡ wire.old) }
+    ensures refused { OnErr result (WasRefused 1514) }
 {
-    let mut state = RoundState::new(alloc, gateway);
+    let mut state = RoundState::new(alloc, gateway)?;
     all_rounds(
         gateway, wire, clock, until, manager, &mut state, log, options,
     );
     log.finish(gateway.moment());
+    Ok(())
 }
 
 fn all_rounds<W: Wire, C: CentisecondClock, U: EndSignal, M: Manager, L: Journal>(

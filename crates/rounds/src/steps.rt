@@ -1,18 +1,21 @@
 //! Takes a message or an event: the gateway makes its step, and what the step tells is sent.
-ghost use Rattle.std.specs.Prelude.{◌≡◌, OnErr, OnOk};
+ghost use Rattle.std.specs.Prelude.{◌≡◌, map, OnErr, OnOk};
 ghost use Rattle.output.specs.Output.{none_told};
 ghost use Rattle.sockets.specs.Wires.{sent};
-ghost use Rattle.spec_step.specs.Shown.{scene};
-ghost use Rattle.spec_step.specs.Steps.{IsStepOn};
-ghost use Rattle.rounds.specs.Runs.{AreSent, Takes, TakesAny, TakesReplied, all_sent};
+ghost use Rattle.sockets.specs.declared.wire.Place.TheVariants as places;
+ghost use Rattle.fragments.specs.Cut.{IsMtu, pieces};
+ghost use Rattle.spec_gateway.specs.Steps.{IsGatewayStep};
+ghost use Rattle.rounds.specs.Runs.{AreSent, Takes, TakesAny, TakesReplied, all_sent, frames_sent};
 
 use crate::changes::{cause_of, log_step, origin_of};
 use crate::messages::{Message, read_message};
 use crate::replies::reply;
 use crate::rounds::RoundState;
 use crate::views::View;
+use fragments::Cutter;
 use gateway::{Event, Gateway, NoMemory, Out, Outcome};
 use journal::{EventLog, Journal, Origin};
+use output::Frame;
 use reports::{Counter, Counters};
 use sockets::{Place, Wire};
 
@@ -64,7 +67,13 @@ pub(crate) fn take_event<W: Wire, L: Journal>(
 {
     let before = View::of(gateway);
     let outcome = step(gateway, event, &mut state.out);
-    send_all(wire, &state.out, &mut state.counters);
+    send_all(
+        wire,
+        gateway,
+        &state.out,
+        &mut state.cutter,
+        &mut state.counters,
+    );
     let cause = cause_of(outcome);
     if let Some(cause) = cause {
         state
@@ -79,8 +88,8 @@ pub(crate) fn take_event<W: Wire, L: Journal>(
 
 /// Steps the gateway. Afterwards `out` has what this step tells, and nothing else.
 fn step(gateway: &mut Gateway, event: Event<'_>, out: &mut Out) -> Result<Outcome, NoMemory>
-    ensures step { OnOk result (IsStepOn (scene gateway.old none_told) event.entry
-        (scene gateway.new out.new)) }
+    ensures step { OnOk result (IsGatewayStep gateway.old none_told event.entry
+        gateway.new out.new) }
     ensures err { OnErr result (gateway.new ≡ gateway.old) }
     ensures untold { OnErr result (out.new ≡ none_told) }
 {
@@ -89,12 +98,60 @@ fn step(gateway: &mut Gateway, event: Event<'_>, out: &mut Out) -> Result<Outcom
 }
 
 /// Sends the frames at their sides, then the datagrams over the link.
-fn send_all<W: Wire>(wire: &mut W, out: &Out, counters: &mut Counters)
-    ensures sent { AreSent W.passes (all_sent out.now) wire.old wire.new }
+fn send_all<W: Wire>(
+    wire: &mut W,
+    gateway: &Gateway,
+    out: &Out,
+    cutter: &mut Cutter,
+    counters: &mut Counters,
+)
+    ensures sent { AreSent W.passes (all_sent gateway.now.shown.networks out.now)
+        wire.old wire.new }
+{
+    send_frames(wire, gateway, out, cutter, counters);
+    send_datagrams(wire, out, counters);
+}
+
+/// Sends the frames at their sides. One that is too long for its side is sent in fragments.
+fn send_frames<W: Wire>(
+    wire: &mut W,
+    gateway: &Gateway,
+    out: &Out,
+    cutter: &mut Cutter,
+    counters: &mut Counters,
+)
+    ensures sent { AreSent W.passes (frames_sent gateway.now.shown.networks out.now.frames)
+        wire.old wire.new }
 {
     for frame in out.frames() {
-        send(wire, Place::Side(frame.side), frame.bytes, counters);
+        send_frame(wire, frame, gateway.mtu(frame.side), cutter, counters);
     }
+}
+
+/// Sends a frame at a side with this `mtu`: as it is, or its fragments, one after the other.
+fn send_frame<W: Wire>(
+    wire: &mut W,
+    frame: Frame<'_>,
+    mtu: u16,
+    cutter: &mut Cutter,
+    counters: &mut Counters,
+)
+    requires { IsMtu mtu }
+    ensures sent { AreSent W.passes
+        (map (sent (places.Side frame.entry.side)) (pieces mtu frame.entry.bytes.now))
+        wire.old wire.new }
+{
+    for k in 0..cutter.count(frame.bytes, mtu) {
+        let piece = cutter.piece(frame.bytes, mtu, k);
+        send(wire, Place::Side(frame.side), piece, counters);
+    }
+}
+
+/// Sends the datagrams over the link.
+fn send_datagrams<W: Wire>(wire: &mut W, out: &Out, counters: &mut Counters)
+    ensures sent { AreSent W.passes (map (sent places.Link) out.now.datagrams)
+        wire.old wire.new }
+{
     for datagram in out.datagrams() {
         send(wire, Place::Link, datagram, counters);
     }

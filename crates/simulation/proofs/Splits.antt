@@ -6,17 +6,19 @@ use Rattle.nat_types.specs.declared.gateways.GatewayId.{GatewayId}
 use Rattle.nat_types.specs.declared.gateways.GatewayId.TheVariants.{Zero, One}
 use Rattle.nat_types.specs.declared.pairs.Pair.{Pair}
 use Rattle.output.specs.Output.{Output}
+use Rattle.packet_rules.specs.declared.networks.Networks.{Networks}
+use Rattle.spec_gateway.specs.Sendings.{all_pieces}
 use Rattle.bindings.specs.Entries.{is_pair}
 use Rattle.frame_sim.specs.World.{World, gateway_at, owned_by, pairs_of}
 use Rattle.frame_sim.specs.declared.events.Step.{Step}
-use Rattle.simulation.specs.Lines.{answer_text, event_line, frame_line, gateway_lines, gateway_of, held_line, link_lines, note_line, one_more, owned_from, owned_lines, sent_by, state_line, step_lines, told_lines, with_sent}
+use Rattle.simulation.specs.Lines.{BothNetworks, networks_by, answer_text, event_line, frame_line, gateway_lines, gateway_of, held_line, link_lines, note_line, one_more, owned_from, owned_lines, sent_by, state_line, step_lines, told_lines, with_sent}
 use Rattle.simulation.specs.declared.lines.Counts.{Counts}
 
 -- ---- the output of a step
 
-pub told_split : (i : GatewayId) (sent : ℕ) (told : Output) → told_lines i sent told
-    ≡ flat_map (frame_line i) told.frames ++ (link_lines i sent told.datagrams ++ flat_map note_line told.notes)
-told_split i sent told = append_assoc (flat_map (frame_line i) told.frames) (link_lines i sent told.datagrams) (flat_map note_line told.notes)
+pub told_split : (networks : Networks) (i : GatewayId) (sent : ℕ) (told : Output) → told_lines networks i sent told
+    ≡ flat_map (frame_line i) (all_pieces networks told.frames) ++ (link_lines i sent told.datagrams ++ flat_map note_line told.notes)
+told_split networks i sent told = append_assoc (flat_map (frame_line i) (all_pieces networks told.frames)) (link_lines i sent told.datagrams) (flat_map note_line told.notes)
 
 -- ---- a step
 
@@ -24,10 +26,10 @@ pub events_kept : (i : GatewayId) (sent : ℕ) (counts : Counts) → (with_sent 
 events_kept Zero sent counts = refl
 events_kept One sent counts = refl
 
-pub step_split : (counts : Counts) (e : WorldEvent) (s : Step) (id : GatewayId) (sent number : ℕ)
+pub step_split : (both : BothNetworks) (counts : Counts) (e : WorldEvent) (s : Step) (id : GatewayId) (sent number : ℕ)
     → id ≡ gateway_of e → sent ≡ sent_by id counts → number ≡ one_more counts.events
-    → step_lines counts e s ≡ told_lines id sent s.out ++ event_line number (answer_text s.answer)
-step_split counts e s id sent number is_id is_sent is_number = rw (is_number, is_sent, is_id) refl
+    → step_lines both counts e s ≡ told_lines (networks_by both id) id sent s.out ++ event_line number (answer_text s.answer)
+step_split both counts e s id sent number is_id is_sent is_number = rw (is_number, is_sent, is_id) refl
 
 -- ---- a table
 

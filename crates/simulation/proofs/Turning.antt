@@ -7,7 +7,7 @@ use Rattle.std.proofs.lemmas.List.{take_all}
 use Rattle.frame_sim.specs.World.{World}
 use Rattle.frame_sim.specs.declared.events.Step.{Step}
 use Rattle.nat_types.specs.declared.events.WorldEvent.{WorldEvent}
-use Rattle.simulation.specs.Lines.{no_counts}
+use Rattle.simulation.specs.Lines.{BothNetworks, networks_in, no_counts}
 use Rattle.simulation.specs.Runs.{AreTurns, Contents, HaveTurned, IsTurn, counts_then, is_refusal, turn_lines, turns_lines}
 use Rattle.simulation.specs.declared.lines.Counts.{Counts}
 
@@ -38,15 +38,15 @@ turns-push w (f ∷ es) [] mid e t w2 turns last = absurd turns
 turns-push w (f ∷ es) (u ∷ ts) mid e t w2 turns last =
     (turns.0, (turns.1.0, turns-push turns.0 es ts mid e t w2 turns.1.1 last))
 
-lines-push : (w : World) (es : List WorldEvent) (ts : List (Option Step)) (mid : World) (counts : Counts) (e : WorldEvent) (t : Option Step)
-    → AreTurns w es ts mid → turns_lines counts (es ++ e ∷ []) (ts ++ t ∷ []) ≡ turns_lines counts es ts ++ turn_lines (counts_through counts es ts) e t
-lines-push w [] [] mid counts e t turns = append-nil (turn_lines counts e t)
-lines-push w [] (u ∷ ts) mid counts e t turns = absurd turns
-lines-push w (f ∷ es) [] mid counts e t turns = absurd turns
-lines-push w (f ∷ es) (u ∷ ts) mid counts e t turns =
+lines-push : (both : BothNetworks) (w : World) (es : List WorldEvent) (ts : List (Option Step)) (mid : World) (counts : Counts) (e : WorldEvent) (t : Option Step)
+    → AreTurns w es ts mid → turns_lines both counts (es ++ e ∷ []) (ts ++ t ∷ []) ≡ turns_lines both counts es ts ++ turn_lines both (counts_through counts es ts) e t
+lines-push both w [] [] mid counts e t turns = append-nil (turn_lines both counts e t)
+lines-push both w [] (u ∷ ts) mid counts e t turns = absurd turns
+lines-push both w (f ∷ es) [] mid counts e t turns = absurd turns
+lines-push both w (f ∷ es) (u ∷ ts) mid counts e t turns =
     let then = counts_then counts f u in
-    ap (λ l. turn_lines counts f u ++ l) (lines-push turns.0 es ts mid then e t turns.1.1)
-    ∙ sym (append_assoc (turn_lines counts f u) (turns_lines then es ts) (turn_lines (counts_through then es ts) e t))
+    ap (λ l. turn_lines both counts f u ++ l) (lines-push both turns.0 es ts mid then e t turns.1.1)
+    ∙ sym (append_assoc (turn_lines both counts f u) (turns_lines both then es ts) (turn_lines both (counts_through then es ts) e t))
 
 counts-push : (w : World) (es : List WorldEvent) (ts : List (Option Step)) (mid : World) (counts : Counts) (e : WorldEvent) (t : Option Step)
     → AreTurns w es ts mid → counts_through counts (es ++ e ∷ []) (ts ++ t ∷ []) ≡ counts_then (counts_through counts es ts) e t
@@ -71,13 +71,14 @@ none_turned contents w output counts none = record {
 -- one event more has, and its lines were printed
 pub one_turned : {O : Type 0} (contents : Contents O) (w : World) (es : List WorldEvent) (mid : World) (output some : O) (refused : Bool) (counts : Counts)
     (e : WorldEvent) (step : Option Step) (w2 : World) (more : O) (then : Counts) → Turned contents w es mid output some refused counts → IsTurn mid e step w2
-    → Appends (contents some) (contents more) (turn_lines counts e step) → then ≡ counts_then counts e step
+    → Appends (contents some) (contents more) (turn_lines (networks_in w) counts e step) → then ≡ counts_then counts e step
     → Turned contents w (es ++ e ∷ []) w2 output more (refused || is_refusal step) then
 one_turned contents w es mid output some refused counts e step w2 more then before last written same =
     let had = before.turned in
-    let given = ap (λ (c : Counts). turn_lines c e step) (sym before.counted) in
-    let lines = lines-push w es had.turns mid no_counts e step had.taken ∙ ap (λ l. turns_lines no_counts es had.turns ++ l) given in
-    let whole = Appends-trans (contents output) (contents some) (contents more) (turns_lines no_counts es had.turns) (turn_lines counts e step) had.text written in
+    let both = networks_in w in
+    let given = ap (λ (c : Counts). turn_lines both c e step) (sym before.counted) in
+    let lines = lines-push both w es had.turns mid no_counts e step had.taken ∙ ap (λ l. turns_lines both no_counts es had.turns ++ l) given in
+    let whole = Appends-trans (contents output) (contents some) (contents more) (turns_lines both no_counts es had.turns) (turn_lines both counts e step) had.text written in
     record {
       turned = record {
         turns = had.turns ++ step ∷ [];

@@ -15,14 +15,17 @@ use Rattle.nat_types.specs.declared.notes.Note.{Note}
 use Rattle.nat_types.specs.declared.notes.NoteKind.{NoteKind}
 use Rattle.nat_types.specs.declared.notes.NoteKind.TheVariants as notes
 use Rattle.nat_types.specs.declared.pairs.Pair.{Pair}
+use Rattle.settings.specs.Ranges.{of_gateway}
 use Rattle.output.specs.Output.{Output, Sent}
+use Rattle.packet_rules.specs.declared.networks.Networks.{Networks}
 use Rattle.packet_rules.specs.Reasons.{number_of}
 use Rattle.spec_step.specs.declared.events.Outcome.{Outcome}
 use Rattle.spec_step.specs.declared.events.Outcome.TheVariants as outcomes
 use Rattle.spec_step.specs.Shown.{Shown}
+use Rattle.spec_gateway.specs.Sendings.{all_pieces}
 use Rattle.bindings.specs.Entries.{is_pair}
 use Rattle.frame_sim.specs.Texts.{refusal_text}
-use Rattle.frame_sim.specs.World.{World, gateway_at, is_up, owned_by, pairs_of, synced_at}
+use Rattle.frame_sim.specs.World.{World, gateway_at, is_up, networks_at, owned_by, pairs_of, synced_at}
 use Rattle.frame_sim.specs.declared.events.Step.{Step}
 use Rattle.frame_sim.specs.declared.events.WorldFault.{WorldFault}
 use Rattle.simulation.specs.declared.lines.Counts.{Counts}
@@ -65,6 +68,19 @@ kind_text notes.Synced = codes "Synced"
 kind_text notes.Crashed = codes "Crashed"
 kind_text (notes.Booted number) = codes "Booted " ++ decimal number
 
+-- ---- the networks of both gateways, by which the frames that they send are cut
+
+pub record BothNetworks : Type 0 where
+  pub zero : Networks
+  pub one : Networks
+
+abbrev pub networks_by : BothNetworks → GatewayId → Networks
+networks_by both i = of_gateway both.zero both.one i
+
+-- those of a world's gateways
+abbrev pub networks_in : World → BothNetworks
+networks_in w = record { zero = networks_at w Zero; one = networks_at w One }
+
 -- ---- the output of a step
 
 abbrev pub frame_words : GatewayId → Side → List ℕ
@@ -97,9 +113,11 @@ abbrev pub link_lines : GatewayId → ℕ → List (List ℕ) → List ℕ
 link_lines i sent [] = []
 link_lines i sent (one ∷ others) = link_line i (one_more sent) one ++ link_lines i (one_more sent) others
 
--- frames, then datagrams, then notes
-abbrev pub told_lines : GatewayId → ℕ → Output → List ℕ
-told_lines i sent told = flat_map (frame_line i) told.frames ++ link_lines i sent told.datagrams ++ flat_map note_line told.notes
+-- frames, each as it is or in its fragments where it is too long for its side, then datagrams, then notes
+abbrev pub told_lines : Networks → GatewayId → ℕ → Output → List ℕ
+told_lines networks i sent told =
+    flat_map (frame_line i) (all_pieces networks told.frames) ++ link_lines i sent told.datagrams
+    ++ flat_map note_line told.notes
 
 -- ---- an event
 
@@ -146,8 +164,9 @@ abbrev pub with_event : Counts → Counts
 with_event counts = record counts { events = one_more counts.events }
 
 -- the output of a step, and what became of its event
-abbrev pub step_lines : Counts → WorldEvent → Step → List ℕ
-step_lines counts e s = told_lines (gateway_of e) (sent_by (gateway_of e) counts) s.out
+abbrev pub step_lines : BothNetworks → Counts → WorldEvent → Step → List ℕ
+step_lines both counts e s =
+    told_lines (networks_by both (gateway_of e)) (gateway_of e) (sent_by (gateway_of e) counts) s.out
     ++ event_line (one_more counts.events) (answer_text s.answer)
 
 abbrev pub counts_after : Counts → WorldEvent → Step → Counts

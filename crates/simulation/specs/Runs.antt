@@ -7,7 +7,7 @@ use Rattle.frame_sim.specs.Runs.{Gives}
 use Rattle.frame_sim.specs.Status.{IsRunFrom}
 use Rattle.frame_sim.specs.World.{World}
 use Rattle.frame_sim.specs.declared.events.Step.{Step}
-use Rattle.simulation.specs.Lines.{counts_after, lost_line, no_counts, step_lines, with_event, world_lines}
+use Rattle.simulation.specs.Lines.{BothNetworks, counts_after, lost_line, networks_in, no_counts, step_lines, with_event, world_lines}
 use Rattle.simulation.specs.declared.lines.Counts.{Counts}
 
 -- what an output has, as far as it says that
@@ -17,19 +17,19 @@ Contents O = O → Option (List ℕ)
 -- ---- `sim`
 
 -- what each event gave, in order, where lines have counted so far
-abbrev pub steps_lines : Counts → List WorldEvent → List Step → List ℕ
-steps_lines counts [] steps = []
-steps_lines counts (e ∷ es) [] = []
-steps_lines counts (e ∷ es) (s ∷ ss) = step_lines counts e s ++ steps_lines (counts_after counts e s) es ss
+abbrev pub steps_lines : BothNetworks → Counts → List WorldEvent → List Step → List ℕ
+steps_lines both counts [] steps = []
+steps_lines both counts (e ∷ es) [] = []
+steps_lines both counts (e ∷ es) (s ∷ ss) = step_lines both counts e s ++ steps_lines both (counts_after counts e s) es ss
 
 -- what the events of a run gave, and then how both gateways of the world stand to which they led
-abbrev pub run_lines : List WorldEvent → List Step → World → List ℕ
-run_lines events steps w = steps_lines no_counts events steps ++ world_lines w
+abbrev pub run_lines : BothNetworks → List WorldEvent → List Step → World → List ℕ
+run_lines both events steps w = steps_lines both no_counts events steps ++ world_lines w
 
 -- the steps that these events take, in order, from a world; exactly their lines were printed; 3 where one was refused, else 0
 pub record IsPlayed {O : Type 0} (contents : Contents O) (w : World) (events : List WorldEvent) (output printed : O) (status : ℕ) : Type 0 where
   pub run : IsRunFrom w events status
-  pub text : Appends (contents output) (contents printed) (run_lines events run.steps run.world)
+  pub text : Appends (contents output) (contents printed) (run_lines (networks_in w) events run.steps run.world)
 
 -- ---- `loop`: the bytes that an event brings may be lost
 
@@ -51,9 +51,9 @@ is_refusal None = false
 is_refusal (Some s) = is_err s.answer
 
 -- what an event gave, where lines have counted so far; or that it is lost
-abbrev pub turn_lines : Counts → WorldEvent → Option Step → List ℕ
-turn_lines counts e None = lost_line counts
-turn_lines counts e (Some s) = step_lines counts e s
+abbrev pub turn_lines : BothNetworks → Counts → WorldEvent → Option Step → List ℕ
+turn_lines both counts e None = lost_line counts
+turn_lines both counts e (Some s) = step_lines both counts e s
 
 -- and what they have counted then
 abbrev pub counts_then : Counts → WorldEvent → Option Step → Counts
@@ -61,16 +61,16 @@ counts_then counts e None = with_event counts
 counts_then counts e (Some s) = counts_after counts e s
 
 -- what each event's turn gave, in order
-abbrev pub turns_lines : Counts → List WorldEvent → List (Option Step) → List ℕ
-turns_lines counts [] ts = []
-turns_lines counts (e ∷ es) [] = []
-turns_lines counts (e ∷ es) (t ∷ ts) = turn_lines counts e t ++ turns_lines (counts_then counts e t) es ts
+abbrev pub turns_lines : BothNetworks → Counts → List WorldEvent → List (Option Step) → List ℕ
+turns_lines both counts [] ts = []
+turns_lines both counts (e ∷ es) [] = []
+turns_lines both counts (e ∷ es) (t ∷ ts) = turn_lines both counts e t ++ turns_lines both (counts_then counts e t) es ts
 
 -- these events have had their turns, exactly their lines were printed, and one was refused or none
 pub record HaveTurned {O : Type 0} (contents : Contents O) (w : World) (es : List WorldEvent) (w2 : World) (output printed : O) (refused : Bool) : Type 0 where
   pub turns : List (Option Step)
   pub taken : AreTurns w es turns w2
-  pub text : Appends (contents output) (contents printed) (turns_lines no_counts es turns)
+  pub text : Appends (contents output) (contents printed) (turns_lines (networks_in w) no_counts es turns)
   pub refusals : refused ≡ list_any is_refusal turns
 
 -- the same, and after their lines exactly the tables of the world to which they led were printed; 3 where one was refused, else 0
@@ -78,5 +78,5 @@ pub record IsLooped {O : Type 0} (contents : Contents O) (w : World) (es : List 
   pub turns : List (Option Step)
   pub last : World
   pub taken : AreTurns w es turns last
-  pub text : Appends (contents output) (contents printed) (turns_lines no_counts es turns ++ world_lines last)
+  pub text : Appends (contents output) (contents printed) (turns_lines (networks_in w) no_counts es turns ++ world_lines last)
   pub is : status ≡ (if list_any is_refusal turns then 3 else 0)

@@ -1,12 +1,14 @@
 //! The capture of a run: of each event first the packet that the event brings, and then those that its gateway sent.
 
 use crate::clocks::Clocks;
+use crate::cutting::FrameCutter;
 use crate::texts::gateway_of;
 use captures::{CaptureFile, Direction, Interface, Packet, Reader, open, write_head, write_packet};
 use faults::Fault;
 use frame_sim::{Step, World, WorldFault};
 use nat_types::{GatewayId, WorldEvent};
 use output::Out;
+use sendings::Piece;
 use std::alloc::Global;
 use std::fs::Files;
 use std::io::{self, BufWriter, ErrorKind, Write};
@@ -42,16 +44,40 @@ impl<W: Write> Capture<W> {
     /// # Errors
     ///
     /// Those of the output.
-    pub fn write(&mut self, world: &World<'_>, event: &WorldEvent, step: &Step) -> io::Result<()> {
+    pub(crate) fn write(
+        &mut self,
+        world: &World<'_>,
+        cutter: &FrameCutter,
+        event: &WorldEvent,
+        step: &Step,
+    ) -> io::Result<()> {
         if step.answer.is_ok() {
             self.clocks.follow(event);
         }
-        let time = self.clocks.time(gateway_of(event));
-        let written = write_event(&mut self.output, time, world, event, step);
+        let written = self.write_event(world, cutter, event, step);
         if let Err(error) = &written {
             self.failure = self.failure.or(Some(error.kind()));
         }
         written
+    }
+
+    /// Writes the packet that an event brings, and the packets that its gateway sent.
+    fn write_event(
+        &mut self,
+        world: &World<'_>,
+        cutter: &FrameCutter,
+        event: &WorldEvent,
+        step: &Step,
+    ) -> io::Result<()> {
+        let id = gateway_of(event);
+        let time = self.clocks.time(id);
+        // The world is later than the event: a datagram that wasn't sent then may have been since.
+        if !matches!(step.answer, Err(WorldFault::NoSuchDatagram)) {
+            write_input(&mut self.output, time, world, event)?;
+        }
+        let pieces = cutter.pieces(id, &step.out)?;
+        write_frames(&mut self.output, id, time, pieces.as_slice())?;
+        write_datagrams(&mut self.output, id, time, &step.out)
     }
 
     /// Flushes the output.
@@ -140,23 +166,6 @@ pub(crate) fn input_of<'a>(
     }
 }
 
-/// Writes the packet that an event brings, and the packets that its gateway sent.
-fn write_event<W: Write>(
-    output: &mut W,
-    time: u64,
-    world: &World<'_>,
-    event: &WorldEvent,
-    step: &Step,
-) -> io::Result<()> {
-    // The world is later than the event: a datagram that wasn't sent then may have been since.
-    if !matches!(step.answer, Err(WorldFault::NoSuchDatagram)) {
-        write_input(output, time, world, event)?;
-    }
-    let id = gateway_of(event);
-    write_frames(output, id, time, &step.out)?;
-    write_datagrams(output, id, time, &step.out)
-}
-
 fn write_input<W: Write>(
     output: &mut W,
     time: u64,
@@ -175,13 +184,18 @@ fn write_input<W: Write>(
     write_packet(output, &packet)
 }
 
-fn write_frames<W: Write>(output: &mut W, id: GatewayId, time: u64, out: &Out) -> io::Result<()> {
-    for frame in out.frames() {
+fn write_frames<W: Write>(
+    output: &mut W,
+    id: GatewayId,
+    time: u64,
+    pieces: &[Piece],
+) -> io::Result<()> {
+    for piece in pieces {
         let packet = Packet {
-            interface: Interface::Side(id, frame.side),
+            interface: Interface::Side(id, piece.side()),
             direction: Direction::Outbound,
             timestamp: time,
-            bytes: frame.bytes,
+            bytes: piece.bytes(),
         };
         write_packet(output, &packet)?;
     }

@@ -4,6 +4,7 @@
 
 mod capture;
 mod clocks;
+mod cutting;
 mod lines;
 mod loopback;
 mod looped;
@@ -18,3 +19,4 @@ pub use loopback::Loopback;
 pub use looped::{Channel, run_loop, run_loop_job};
 pub use script::{Job, read_job};
 pub use sim::{Progress, run_sim, run_sim_job};
+pub use texts::gateway_of;

@@ -3,6 +3,7 @@ ghost use Rattle.std.specs.Prelude.{◌≡◌, OnOk};
 ghost use Rattle.simulation.specs.Lines.{answer_text, counts_after, event_line, lost_line, no_counts, one_more, sent_by, step_lines, with_event, with_sent};
 ghost use Rattle.simulation.specs.Printed.{Prints};
 
+use crate::cutting::FrameCutter;
 use crate::step_output::print_output;
 use crate::texts::gateway_of;
 use frame_sim::{Step, WorldFault};
@@ -61,16 +62,17 @@ impl Counts {
 pub(crate) fn print_step<W: Write>(
     output: &mut W,
     counts: &mut Counts,
+    cutter: &FrameCutter,
     event: &WorldEvent,
     step: &Step,
 ) -> io::Result<()>
     ensures printed { Prints (W.contents output.old) result (W.contents output.new)
-        (step_lines counts.old event.now step.now) }
+        (step_lines cutter.now counts.old event.now step.now) }
     ensures counted { OnOk result (counts.new ≡ counts_after counts.old event.now step.now) }
 {
     let id = gateway_of(event);
     let mut sent = counts.sent_by(id);
-    print_output(output, id, &mut sent, &step.out)?;
+    print_output(output, id, &mut sent, cutter, &step.out)?;
     counts.set_sent(id, sent);
     let number = counts.next_event();
     print_answer(output, number, &step.answer)

@@ -5,6 +5,7 @@ ghost use Rattle.simulation.specs.Printed.{Prints};
 ghost use Rattle.simulation.specs.Runs.{HaveTurned, IsLooped, IsTurn, counts_then, is_refusal, turn_lines};
 
 use crate::capture::{Capture, begin_capture, end_capture, input_of};
+use crate::cutting::FrameCutter;
 use crate::lines::{Counts, print_lost, print_step};
 use crate::sim::status_of;
 use crate::tables::print_world;
@@ -66,8 +67,7 @@ pub fn run_loop_job<C: Channel, F: Write + Drop, W: Write>(
 {
     match World::founded(alloc, &job.settings) {
         Ok(mut world) => {
-            let events = job.events.as_slice();
-            let status = run_on(&mut world, events, channel, capture, output);
+            let status = run_on(&mut world, job, channel, capture, output);
             world.end();
             status
         }
@@ -75,17 +75,18 @@ pub fn run_loop_job<C: Channel, F: Write + Drop, W: Write>(
     }
 }
 
-/// Runs events on a world, as [`run_loop_job`] does on a new one.
+/// Runs the events of a job on a world, as [`run_loop_job`] does on a new one.
 fn run_on<C: Channel, F: Write + Drop, W: Write>(
     world: &mut World<'_>,
-    events: &[WorldEvent],
+    job: &Job,
     channel: &mut C,
     capture: &mut Option<Capture<F>>,
     output: &mut W,
 ) -> Result<u8, Fault>
-    ensures { IfOk result (IsLooped W.contents world.old events.now output.old output.new) }
+    ensures { IfOk result (IsLooped W.contents world.old job.now.events.items
+        output.old output.new) }
 {
-    let refused = take_turns(world, events, channel, capture, output)?;
+    let refused = take_turns(world, job, channel, capture, output)?;
     print_world(output, world)?;
     Ok(status_of(refused))
 }
@@ -93,21 +94,23 @@ fn run_on<C: Channel, F: Write + Drop, W: Write>(
 /// Takes the turn of each event in order. Returns whether an event was refused.
 fn take_turns<C: Channel, F: Write + Drop, W: Write>(
     world: &mut World<'_>,
-    events: &[WorldEvent],
+    job: &Job,
     channel: &mut C,
     capture: &mut Option<Capture<F>>,
     output: &mut W,
 ) -> io::Result<bool>
-    ensures { IfOk result (HaveTurned W.contents world.old events.now world.new
+    ensures { IfOk result (HaveTurned W.contents world.old job.now.events.items world.new
         output.old output.new) }
 {
+    let cutter = FrameCutter::of(*job.events.allocator(), world);
+    let events = job.events.as_slice();
     let mut counts = Counts::new();
     let mut refused = false;
     for event in events {
         let step = turn(world, event, channel);
         refused = has_refused(refused, &step);
-        capture_turn(capture, world, event, &step)?;
-        print_turn(output, &mut counts, event, &step)?;
+        capture_turn(capture, world, &cutter, event, &step)?;
+        print_turn(output, &mut counts, &cutter, event, &step)?;
     }
     Ok(refused)
 }
@@ -151,12 +154,13 @@ fn is_lost<C: Channel>(world: &World<'_>, event: &WorldEvent, channel: &mut C) -
 fn capture_turn<F: Write + Drop>(
     capture: &mut Option<Capture<F>>,
     world: &World<'_>,
+    cutter: &FrameCutter,
     event: &WorldEvent,
     step: &Option<Step>,
 ) -> io::Result<()> {
     match step {
         Some(step) => match capture {
-            Some(capture) => capture.write(world, event, step),
+            Some(capture) => capture.write(world, cutter, event, step),
             None => Ok(()),
         },
         None => Ok(()),
@@ -167,15 +171,16 @@ fn capture_turn<F: Write + Drop>(
 fn print_turn<W: Write>(
     output: &mut W,
     counts: &mut Counts,
+    cutter: &FrameCutter,
     event: &WorldEvent,
     step: &Option<Step>,
 ) -> io::Result<()>
     ensures printed { Prints (W.contents output.old) result (W.contents output.new)
-        (turn_lines counts.old event.now step.now) }
+        (turn_lines cutter.now counts.old event.now step.now) }
     ensures counted { OnOk result (counts.new ≡ counts_then counts.old event.now step.now) }
 {
     match step {
-        Some(step) => print_step(output, counts, event, step),
+        Some(step) => print_step(output, counts, cutter, event, step),
         None => print_lost(output, counts),
     }
 }

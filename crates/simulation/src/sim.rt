@@ -8,6 +8,7 @@ ghost use Rattle.simulation.specs.Printed.{Prints};
 ghost use Rattle.simulation.specs.Runs.{IsPlayed, run_lines, steps_lines};
 
 use crate::capture::{Capture, begin_capture, end_capture};
+use crate::cutting::FrameCutter;
 use crate::lines::{Counts, print_step};
 use crate::tables::print_world;
 use crate::{Job, read_job};
@@ -98,12 +99,13 @@ fn run_on<P: Progress, C: Write + Drop, W: Write>(
 {
     let alloc = *job.events.allocator();
     let events = job.events.as_slice();
+    let cutter = FrameCutter::of(alloc, world);
     let steps = steps_of(alloc, world, events, progress)?;
     let steps = steps.as_slice();
     if let Some(capture) = capture {
-        capture_steps(capture, world, events, steps)?;
+        capture_steps(capture, world, &cutter, events, steps)?;
     }
-    print_steps(output, events, steps)?;
+    print_steps(output, &cutter, events, steps)?;
     print_world(output, world)?;
     Ok(status_of(has_refusal(steps)))
 }
@@ -141,19 +143,25 @@ fn append(steps: &mut Vec<Step>, mut more: Vec<Step>) -> Result<(), NoMemory>
 fn capture_steps<C: Write>(
     capture: &mut Capture<C>,
     world: &World<'_>,
+    cutter: &FrameCutter,
     events: &[WorldEvent],
     steps: &[Step],
 ) -> io::Result<()> {
     for (event, step) in events.iter().zip(steps) {
-        capture.write(world, event, step)?;
+        capture.write(world, cutter, event, step)?;
     }
     Ok(())
 }
 
 /// Prints the lines of all events in order.
-fn print_steps<W: Write>(output: &mut W, events: &[WorldEvent], steps: &[Step]) -> io::Result<()>
+fn print_steps<W: Write>(
+    output: &mut W,
+    cutter: &FrameCutter,
+    events: &[WorldEvent],
+    steps: &[Step],
+) -> io::Result<()>
     ensures { Prints (W.contents output.old) result (W.contents output.new)
-        (steps_lines no_counts events.now steps.now) }
+        (steps_lines cutter.now no_counts events.now steps.now) }
 {
     let mut counts = Counts::new();
     let mut rest = steps;
@@ -161,7 +169,7 @@ fn print_steps<W: Write>(output: &mut W, events: &[WorldEvent], steps: &[Step]) 
         let Some((step, others)) = rest.split_first() else {
             return Ok(());
         };
-        print_step(output, &mut counts, event, step)?;
+        print_step(output, &mut counts, cutter, event, step)?;
         rest = others;
     }
     Ok(())

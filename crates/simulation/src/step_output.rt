@@ -1,12 +1,14 @@
-//! The lines of a step's output: frames, then datagrams, then notes.
+//! The lines of a step's output: frames as they go out, then datagrams, then notes.
 ghost use Rattle.std.specs.Prelude.{◌≡◌, ◌≤◌, flat_map, length, OnOk};
 ghost use Rattle.hex.specs.Hex.{encode_lower};
-ghost use Rattle.simulation.specs.Lines.{frame_line, frame_words, link_line, link_lines, link_words, more, note_line, told_lines};
+ghost use Rattle.simulation.specs.Lines.{frame_line, frame_words, link_line, link_lines, link_words, more, networks_by, note_line, told_lines};
 ghost use Rattle.simulation.specs.Printed.{Prints};
 
+use crate::cutting::FrameCutter;
 use crate::texts::{PairText, id_text, side_text};
 use nat_types::{GatewayId, Note, NoteKind, Side};
 use output::Out;
+use sendings::Piece;
 use std::io::{self, Write};
 
 /// The most bytes that one write prints in hexadecimal.
@@ -17,23 +19,25 @@ pub(crate) fn print_output<W: Write>(
     output: &mut W,
     id: GatewayId,
     sent: &mut usize,
+    cutter: &FrameCutter,
     out: &Out,
 ) -> io::Result<()>
     ensures printed { Prints (W.contents output.old) result (W.contents output.new)
-        (told_lines id sent.old out.now) }
+        (told_lines (networks_by cutter.now id) id sent.old out.now) }
     ensures sent { OnOk result (sent.new ≡ more sent.old out.now.datagrams) }
 {
-    print_frames(output, id, out)?;
+    let pieces = cutter.pieces(id, out)?;
+    print_frames(output, id, pieces.as_slice())?;
     print_datagrams(output, id, sent, out)?;
     print_notes(output, out.notes())
 }
 
-fn print_frames<W: Write>(output: &mut W, id: GatewayId, out: &Out) -> io::Result<()>
+fn print_frames<W: Write>(output: &mut W, id: GatewayId, pieces: &[Piece]) -> io::Result<()>
     ensures { Prints (W.contents output.old) result (W.contents output.new)
-        (flat_map (frame_line id) out.now.frames) }
+        (flat_map (frame_line id) pieces.now) }
 {
-    for frame in out.frames() {
-        print_frame(output, id, frame.side, frame.bytes)?;
+    for piece in pieces {
+        print_frame(output, id, piece.side(), piece.bytes())?;
     }
     Ok(())
 }

@@ -7,7 +7,7 @@ use nat_types::{GatewayId, Pair, Side, WorldEvent};
 use std::fmt::{self, Display, Formatter};
 
 /// Returns the gateway to which an event happens.
-pub(crate) fn gateway_of(event: &WorldEvent) -> GatewayId
+pub fn gateway_of(event: &WorldEvent) -> GatewayId
     ensures { result ≡ gateway_of event.now }
 {
     match event {

@@ -48,8 +48,7 @@ use Rattle.spec_step.specs.Shown.{GatewayAndOutput, Shown, id_of, is_running, sc
 use Rattle.spec_step.specs.Routers.{BothAct, RouterActs}
 use Rattle.spec_step.specs.GivingWay.{GivingWay, left, turn_of}
 use Rattle.spec_step.specs.Steps.{Does, FrameDoes, IsStepOn, clock_after, ended_on, stopped, ticked, word_by, word_refusal}
-use Rattle.spec_step.specs.Verdict.{arrival_on}
-use Rattle.spec_step.proofs.Arriving.{read-on}
+use Rattle.spec_step.specs.Verdict.{reading_on}
 use Rattle.spec_step.proofs.Turning.{back_as, turn-by}
 use Rattle.spec_step.proofs.Idle.{idle-at-once, sought-at-once}
 use Rattle.spec_step.proofs.Packets.{Reads, kept-filter, read-formed}
@@ -96,10 +95,10 @@ router-rests s side event s2 acts = subst (λ (x : GatewayAndOutput). Resting s 
 both-rest : (s : GatewayAndOutput) (event : RouterEvent) (s2 : GatewayAndOutput) → BothAct s event s2 → Resting s s2
 both-rest s event s2 both = resting-then s both.between s2 (router-rests s Inside event both.between both.inside) (router-rests both.between Outside event s2 both.outside)
 
-frame-rests : Reads → (s : GatewayAndOutput) (side : Side) (bytes : List ℕ) (r : Result Reading Reason) (s2 : GatewayAndOutput) → arrival_on s.shown side bytes ≡ r → AreBytes bytes → FrameDoes s side bytes r s2 → Resting s s2
+frame-rests : Reads → (s : GatewayAndOutput) (side : Side) (bytes : List ℕ) (r : Result Reading Reason) (s2 : GatewayAndOutput) → reading_on s.shown side bytes ≡ r → AreBytes bytes → FrameDoes s side bytes r s2 → Resting s s2
 frame-rests reads s side bytes (Ok (Arp p)) s2 read are does = subst (λ (x : GatewayAndOutput). Resting s x) (sym does) (arp-rests reads s side p)
 frame-rests reads s side bytes (Ok (Advert a from)) s2 read are does = router-rests s side _ s2 does
-frame-rests reads s side bytes (Ok (Packet packet)) s2 read are does = subst (λ (x : GatewayAndOutput). Resting s x) (sym does) (flow-rests s side bytes packet.flow are (read-formed [] [] reads s.shown side bytes packet are (read-on s.shown side bytes (Packet packet) read)))
+frame-rests reads s side bytes (Ok (Packet packet)) s2 read are does = subst (λ (x : GatewayAndOutput). Resting s x) (sym does) (flow-rests s side bytes packet.flow are (read-formed [] [] reads s.shown side bytes packet are read))
 frame-rests reads s side bytes (Ok (Error packet)) s2 read are does = subst (λ (x : GatewayAndOutput). Resting s x) (sym does) (error-rests s side bytes packet.flow are)
 frame-rests reads s side bytes (Ok (Asked echo)) s2 read are does = subst (λ (x : GatewayAndOutput). Resting s x) (sym does) (echo-rests s side bytes echo are)
 frame-rests reads s side bytes (Err reason) s2 read are does = subst (λ (x : GatewayAndOutput). Resting s x) (sym does) (refused-rests s side side bytes reason)
@@ -314,7 +313,7 @@ idle-rests-from s now turned middle gives both =
 -- ---- an event's own parts
 
 does-rest : Reads → (s : GatewayAndOutput) (event : Event) (done : GatewayAndOutput) → Does s event done → HasBytes event → Resting (begun_on s event) done
-does-rest reads s (Frame side bytes) done does has = frame-rests reads s side bytes.now (arrival_on s.shown side bytes.now) done refl has does
+does-rest reads s (Frame side bytes) done does has = frame-rests reads s side bytes.now (reading_on s.shown side bytes.now) done refl has does
 does-rest reads s (Comes bytes) done does has =
     subst (λ (x : GatewayAndOutput). Resting s x) (sym does) (datagram-rests reads s bytes.now (reading bytes.now) refl has)
 does-rest reads s (Tick now) done does has =

@@ -67,7 +67,7 @@ use Rattle.spec_step.specs.Shown.{GatewayAndOutput, Shown, id_of, is_apart, is_r
 use Rattle.spec_step.specs.Routers.{BothAct, RouterActs}
 use Rattle.spec_step.specs.GivingWay.{GivingWay, left, turn_of}
 use Rattle.spec_step.specs.Steps.{Does, FrameDoes, IsStepOn, ended_on, ticked, word_by, word_refusal}
-use Rattle.spec_step.specs.Verdict.{arrival_on, exit_by, hop_by, plan_of, reading_on, error_hop, error_plan}
+use Rattle.spec_step.specs.Verdict.{error_hop, error_plan, exit_by, hop_by, plan_of, reading_on}
 use Rattle.spec_step.proofs.Turning.{back_as, turn-by}
 use Rattle.spec_step.proofs.WhileApart.{few-sought, idle-apart, idle-taken-few, tell-silent}
 use Rattle.spec_step.proofs.Own.{Said, echo-by, refusal-by, refused-by, said_scene}
@@ -564,7 +564,7 @@ bounded s x done is same =
     omega (arith, few.0, ap (λ (z : GatewayAndOutput). length z.told.notes) same)
 
 does-few : (s : GatewayAndOutput) (event : Event) (done : GatewayAndOutput) → Does s event done → HasBytes event → length done.told.notes ≤ length s.told.notes + most_notes s.shown
-does-few s (Frame side bytes) done does has = at (arrival_on s.shown side bytes.now) does
+does-few s (Frame side bytes) done does has = at (reading_on s.shown side bytes.now) does
   where
     at : (r : Result Reading Reason) → FrameDoes s side bytes.now r done → length done.told.notes ≤ length s.told.notes + most_notes s.shown
     at (Ok (Arp p)) is =

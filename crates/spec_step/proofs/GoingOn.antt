@@ -56,11 +56,10 @@ use Rattle.spec_step.specs.declared.plans.Reply.{Reply}
 use Rattle.spec_step.specs.declared.plans.Reply.TheVariants as reply
 use Rattle.spec_step.specs.GoingOn.{BeginsBy, GoesByOwn, HasAllPairs, HasNoPort, HaveErrorPairs, HavePairs, IsOwnWhereTwo, MayBegin, MayGoOn, MayPassOn, NeedsPair, NeedsPort, Translates}
 use Rattle.spec_step.specs.Shown.{Shown, is_apart, is_up, station_on}
-use Rattle.spec_step.specs.Verdict.{arrival_on, error_by, error_on, error_plan, exit_by, fits_at, hop_back, hop_to, if_fits, if_reply_fits, look_for, next_back, next_by, next_to, outcome_by, outcome_read, outcome_reply, pair_at, pair_in, pair_in_of, pair_out, plan_by, plan_from, plan_of, plan_on, plan_to, plan_via, reply_to, reply_via, target_pair, verdict}
-use Rattle.spec_step.proofs.Arriving.{read-on}
+use Rattle.spec_step.specs.Verdict.{error_by, error_on, error_plan, exit_by, fits_at, hop_back, hop_to, if_fits, if_reply_fits, look_for, next_back, next_by, next_to, outcome_by, outcome_read, outcome_reply, pair_at, pair_in, pair_in_of, pair_out, plan_by, plan_from, plan_of, plan_on, plan_to, plan_via, reading_on, reply_to, reply_via, target_pair, verdict}
 use Rattle.spec_step.proofs.Sends.{AreFound, IsOwn, plan-sends}
 use Rattle.spec_step.proofs.Translating.{pair-is}
-use Rattle.spec_step.proofs.Reasons.{IsFine, direction-fine, error-direction-fine, is_of_choice, arrival-fine, reads-up, then-fine}
+use Rattle.spec_step.proofs.Reasons.{IsEarly, direction-early, error-direction-early, is_of_plan, reading-early, reads-up}
 
 -- ---- pairs that are found
 
@@ -138,10 +137,10 @@ up-synced : (synced stopped : Bool) → (synced && not stopped) ≡ true → syn
 up-synced true stopped is = refl
 up-synced false stopped is = absurd (cc)
 
-synced-reads : (g : Shown) (side : Side) (bytes : List ℕ) (r : Reading) → arrival_on g side bytes ≡ Ok r → is_synced g.ledger.book.stage ≡ true
+synced-reads : (g : Shown) (side : Side) (bytes : List ℕ) (r : Reading) → reading_on g side bytes ≡ Ok r → is_synced g.ledger.book.stage ≡ true
 synced-reads g side bytes r reads =
     let s = station_on g side in
-    up-synced (is_synced g.ledger.book.stage) g.stopped (reads-up side s.network (is_active s) (is_up g) bytes r (read-on g side bytes r reads))
+    up-synced (is_synced g.ledger.book.stage) g.stopped (reads-up side s.network (is_active s) (is_up g) bytes r reads)
 
 pub packet-sent : (g : Shown) (side : Side) (bytes : List ℕ) (by : Translation) → MayGoOn g side bytes by → verdict g side bytes ≡ Sent
 packet-sent g side bytes by may =
@@ -220,6 +219,66 @@ error-sent g side bytes by may =
 
 -- ---- which reasons a plan has
 
+-- whether a reason is one of choosing a port: no port is free, or the host has all the pairs that it may have
+abbrev is_of_choice : Reason → Bool
+is_of_choice why.ShortFrame = false
+is_of_choice why.NotMine = false
+is_of_choice why.BadHeader = false
+is_of_choice why.BadLength = false
+is_of_choice why.BadHeaderSum = false
+is_of_choice why.Fragment = false
+is_of_choice why.TtlOver = false
+is_of_choice why.NotUdpTcp = false
+is_of_choice why.BadTransport = false
+is_of_choice why.BadArp = false
+is_of_choice why.BadAdvert = false
+is_of_choice why.NotUp = false
+is_of_choice why.NoBinding = false
+is_of_choice why.NoPort = true
+is_of_choice why.CannotWait = false
+is_of_choice why.BadDatagram = false
+is_of_choice why.OldWord = false
+is_of_choice why.HostLimit = true
+is_of_choice why.TooLong = false
+is_of_choice why.TooMany = false
+
+-- the result isn't refused for one of these two reasons
+abbrev IsFine : {X : Type 0} → Result X Reason → Type 0
+IsFine (Ok x) = Unit {0}
+IsFine (Err reason) = is_of_choice reason ≡ false
+
+-- the next step of a result that is fine is fine, where it is fine from each value
+then-fine : {X Y : Type 0} (r : Result X Reason) (next : X → Result Y Reason) → IsFine r → ((x : X) → IsFine (next x)) → IsFine (and_then r next)
+then-fine (Ok x) next fine each = each x
+then-fine (Err reason) next fine each = fine
+
+-- a reason that a plan has not alone is none of choosing a port
+early-is : (reason : Reason) → is_of_plan reason ≡ false → is_of_choice reason ≡ false
+early-is why.ShortFrame early = refl
+early-is why.NotMine early = refl
+early-is why.BadHeader early = refl
+early-is why.BadLength early = refl
+early-is why.BadHeaderSum early = refl
+early-is why.Fragment early = refl
+early-is why.TtlOver early = refl
+early-is why.NotUdpTcp early = refl
+early-is why.BadTransport early = refl
+early-is why.BadArp early = refl
+early-is why.BadAdvert early = refl
+early-is why.NotUp early = refl
+early-is why.NoBinding early = refl
+early-is why.NoPort early = absurd (cc)
+early-is why.CannotWait early = refl
+early-is why.BadDatagram early = refl
+early-is why.OldWord early = refl
+early-is why.HostLimit early = absurd (cc)
+early-is why.TooLong early = refl
+early-is why.TooMany early = refl
+
+early-fine : {X : Type 0} (r : Result X Reason) → IsEarly r → IsFine r
+early-fine (Ok x) early = tt
+early-fine (Err reason) early = early-is reason early
+
 clash : {X : Type 0} (x : Result X Reason) (r : Reason) → IsFine x → x ≡ Err r → is_of_choice r ≡ true → ⊥
 clash (Ok y) r fine is choice = absurd (cc)
 clash (Err reason) r fine is choice =
@@ -262,7 +321,7 @@ fits-fine false (Wait endpoint) = refl
 
 error-plan-fine : (g : Shown) (side : Side) (flow : ErrorFlow) (size : Size) → IsFine (error_plan g side flow size)
 error-plan-fine g side flow size =
-    then-fine (error_direction g.networks side flow) _ (error-direction-fine g.networks side flow)
+    then-fine (error_direction g.networks side flow) _ (early-fine _ (error-direction-early g.networks side flow))
     (λ x. then-fine (error_on g flow x) _ (on x) (λ plan. fits-fine (fits_at g (exit_of x) size) plan))
   where
     on : (x : Direction) → IsFine (error_on g flow x)
@@ -334,7 +393,7 @@ on-refused g flow way.Hairpin r choice is = at (target_pair g flow) refl is
 -- the packet of a frame is refused so
 record FrameRefused (g : Shown) (side : Side) (bytes : List ℕ) (r : Reason) : Type 0 where
   packet : Datagram
-  reads : arrival_on g side bytes ≡ Ok (Packet packet)
+  reads : reading_on g side bytes ≡ Ok (Packet packet)
   path : Direction
   goes : direction_of g.networks side packet.flow.protocol packet.flow.source.0 packet.flow.destination.0 ≡ Ok path
   refused : Refused g packet.flow path r
@@ -346,8 +405,8 @@ fitted-refused g flow x fits r choice is = at (plan_on g flow x) refl is
     at (Ok plan) there fitted = absurd (clash (if_fits fits plan) r (fits-fine fits plan) fitted choice)
     at (Err reason) there fitted = on-refused g flow x r choice (there ∙ fitted)
 
-packet-refused : (g : Shown) (side : Side) (bytes : List ℕ) (packet : Datagram) (r : Reason) → is_of_choice r ≡ true → arrival_on g side bytes ≡ Ok (Packet packet) → plan_of g side packet.flow packet.size ≡ Err r → FrameRefused g side bytes r
-packet-refused g side bytes packet r choice reads is = at (direction_of g.networks side flow.protocol flow.source.0 flow.destination.0) refl (direction-fine g.networks side flow.protocol flow.source.0 flow.destination.0) is
+packet-refused : (g : Shown) (side : Side) (bytes : List ℕ) (packet : Datagram) (r : Reason) → is_of_choice r ≡ true → reading_on g side bytes ≡ Ok (Packet packet) → plan_of g side packet.flow packet.size ≡ Err r → FrameRefused g side bytes r
+packet-refused g side bytes packet r choice reads is = at (direction_of g.networks side flow.protocol flow.source.0 flow.destination.0) refl (early-fine _ (direction-early g.networks side flow.protocol flow.source.0 flow.destination.0)) is
   where
     flow : Flow
     flow = packet.flow
@@ -375,12 +434,12 @@ reply-refused (Ok (reply.AskAgain hop)) r choice is =
 reply-refused (Err reason) r choice is = let same : reason ≡ r = cc in ap Err same
 
 frame-refused : (g : Shown) (side : Side) (bytes : List ℕ) (r : Reason) → is_of_choice r ≡ true → verdict g side bytes ≡ Dropped r → FrameRefused g side bytes r
-frame-refused g side bytes r choice is = at (arrival_on g side bytes) refl is
+frame-refused g side bytes r choice is = at (reading_on g side bytes) refl is
   where
-    fine : IsFine (arrival_on g side bytes)
-    fine = arrival-fine side (station_on g side).network (is_active (station_on g side)) (is_up g) bytes
+    fine : IsFine (reading_on g side bytes)
+    fine = early-fine _ (reading-early side (station_on g side).network (is_active (station_on g side)) (is_up g) bytes)
 
-    at : (o : Result Reading Reason) → arrival_on g side bytes ≡ o → outcome_read g side o ≡ Dropped r → FrameRefused g side bytes r
+    at : (o : Result Reading Reason) → reading_on g side bytes ≡ o → outcome_read g side o ≡ Dropped r → FrameRefused g side bytes r
     at (Ok (Arp p)) reads out = absurd (cc)
     at (Ok (Advert a from)) reads out = absurd (cc)
     at (Ok (Packet packet)) reads out = packet-refused g side bytes packet r choice reads (outcome-refused (plan_of g side packet.flow packet.size) r choice out)

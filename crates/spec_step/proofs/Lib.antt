@@ -1,14 +1,15 @@
 mod Accounting
 mod Apart
-mod Arriving
 mod Asked
 mod Asking
 mod AskingParts
 mod Before
 mod Beginning
 mod Counting
+mod Cutting
 mod Ending
 mod Erring
+mod Feeding
 mod Fitting
 mod FrameKinds
 mod Freeing

@@ -56,8 +56,7 @@ use Rattle.spec_step.specs.Routers.{BothAct, RouterActs}
 use Rattle.spec_step.specs.Settled.{AreIdle}
 use Rattle.spec_step.specs.Steps.{Does, FrameDoes, IsStepOn, clock_after, ended_on, stopped, ticked, word_by, word_refusal}
 use Rattle.spec_step.specs.Truly.{AtHand, Known, known_of, packets_of}
-use Rattle.spec_step.specs.Verdict.{arrival_on}
-use Rattle.spec_step.proofs.Arriving.{read-on}
+use Rattle.spec_step.specs.Verdict.{reading_on}
 use Rattle.spec_step.proofs.Before.{apart-then}
 use Rattle.spec_step.proofs.Packets.{kept-filter}
 use Rattle.spec_step.proofs.Asking.{Ask-on, Asks, IsFit, IsQuiet, NearStays, NetsStay, Waiting, asking-then, due-more, net-stays, new-more, nobody, nothing-asks, quiet-asks, quiet-by, requests-same, row-quiet}
@@ -385,11 +384,11 @@ refused-others frames s side bytes reason are w = at reason
     at HostLimit = quiet
     at TooMany = quiet
 
-frame-others : Frames → (s : GatewayAndOutput) (side : Side) (bytes : List ℕ) (r : Result Reading Reason) (s2 : GatewayAndOutput) → arrival_on s.shown side bytes ≡ r → AreBytes bytes → IsFit s.shown → FrameDoes s side bytes r s2
+frame-others : Frames → (s : GatewayAndOutput) (side : Side) (bytes : List ℕ) (r : Result Reading Reason) (s2 : GatewayAndOutput) → reading_on s.shown side bytes ≡ r → AreBytes bytes → IsFit s.shown → FrameDoes s side bytes r s2
     → Sends-others (FrameOwes s.shown side r) (packet_as side bytes r) (frees_as s.shown side r) s s2
 frame-others frames s side bytes (Ok (Arp p)) s2 read are w does =
     let at = station_on s.shown side in
-    let six = frames.reads side at.network (is_active at) _ bytes (Arp p) (read-on s.shown side bytes (Arp p) read) in
+    let six = frames.reads side at.network (is_active at) _ bytes (Arp p) read in
     subst (λ (x : GatewayAndOutput). Sends-others (FrameOwes s.shown side (Ok (Arp p))) [] (frees_as s.shown side (Ok (Arp p))) s x) (sym does)
     (arp-others frames s side p six w)
 frame-others frames s side bytes (Ok (Advert a from)) s2 read are w does =
@@ -400,15 +399,15 @@ frame-others frames s side bytes (Ok (Advert a from)) s2 read are w does =
 frame-others frames s side bytes (Ok (Packet packet)) s2 read are w does =
     subst (λ (x : GatewayAndOutput). Sends-others (FrameOwes s.shown side (Ok (Packet packet))) (at_hand side bytes ∷ []) (frees_as s.shown side (Ok (Packet packet))) s x) (sym does)
     (others-then (FrameOwes s.shown side (Ok (Packet packet))) (at_hand side bytes ∷ []) (frees_as s.shown side (Ok (Packet packet))) [] s s (flow_taken s side bytes packet.flow) refl
-    (gives-here s w) (packet-asks frames s side bytes packet (read-on s.shown side bytes (Packet packet) read) are w).asks)
+    (gives-here s w) (packet-asks frames s side bytes packet read are w).asks)
 frame-others frames s side bytes (Ok (Error packet)) s2 read are w does =
     subst (λ (x : GatewayAndOutput). Sends-others (FrameOwes s.shown side (Ok (Error packet))) (at_hand side bytes ∷ []) (frees_as s.shown side (Ok (Error packet))) s x) (sym does)
     (others-then (FrameOwes s.shown side (Ok (Error packet))) (at_hand side bytes ∷ []) (frees_as s.shown side (Ok (Error packet))) [] s s (error_taken s side bytes packet.flow) refl
-    (gives-here s w) (error-asks frames s side bytes packet (read-on s.shown side bytes (Error packet) read) are w).asks)
+    (gives-here s w) (error-asks frames s side bytes packet read are w).asks)
 frame-others frames s side bytes (Ok (Asked echo)) s2 read are w does =
     subst (λ (x : GatewayAndOutput). Sends-others (FrameOwes s.shown side (Ok (Asked echo))) (at_hand side bytes ∷ []) (frees_as s.shown side (Ok (Asked echo))) s x) (sym does)
     (others-then (FrameOwes s.shown side (Ok (Asked echo))) (at_hand side bytes ∷ []) (frees_as s.shown side (Ok (Asked echo))) [] s s (echo_taken s side bytes echo) refl
-    (gives-here s w) (echo-asks frames s side bytes echo (read-on s.shown side bytes (Asked echo) read) are w).asks)
+    (gives-here s w) (echo-asks frames s side bytes echo read are w).asks)
 frame-others frames s side bytes (Err reason) s2 read are w does =
     subst (λ (x : GatewayAndOutput). Sends-others (FrameOwes s.shown side (Err reason)) (packet_as side bytes (Err reason)) (frees_as s.shown side (Err reason)) s x) (sym does)
     (refused-others frames s side bytes reason are w)
@@ -651,7 +650,7 @@ asks-alone s event done owed w asks = others-then (Owes s.shown event) (packet_i
 
 does-others : Frames → (s : GatewayAndOutput) (event : Event) (done : GatewayAndOutput) → Does s event done → HasBytes event → IsBook s.shown.ledger.book → IsFit s.shown → AreOthers s event done
 does-others frames s (Frame side bytes) done does has is w =
-    others-at s (Frame side bytes) done (λ p. refl) (frame-others frames s side bytes.now (arrival_on s.shown side bytes.now) done refl has w does)
+    others-at s (Frame side bytes) done (λ p. refl) (frame-others frames s side bytes.now (reading_on s.shown side bytes.now) done refl has w does)
 does-others frames s (Comes bytes) done does has is w =
     subst (λ (x : GatewayAndOutput). AreOthers s (Comes bytes) x) (sym does)
     (others-at s (Comes bytes) (datagram_taken s bytes.now) (λ p. refl) (asks-alone s (Comes bytes) (datagram_taken s bytes.now) refl w (datagram-asks frames s (reading bytes.now) is w).asks))

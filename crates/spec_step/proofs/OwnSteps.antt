@@ -41,8 +41,7 @@ use Rattle.spec_step.specs.Sayings.{AreOwnIn, own_alone, own_arp, own_datagram, 
 use Rattle.spec_step.specs.Shown.{GatewayAndOutput, Shown, is_running, scene, station_on, with_station, is_apart}
 use Rattle.spec_step.specs.Steps.{Does, FrameDoes, IsStepOn, ended_on, stopped, ticked, word_by, word_refusal}
 use Rattle.spec_step.specs.Truly.{IsSetUp}
-use Rattle.spec_step.specs.Verdict.{arrival_on}
-use Rattle.spec_step.proofs.Arriving.{read-on}
+use Rattle.spec_step.specs.Verdict.{reading_on}
 use Rattle.spec_step.proofs.FrameKinds.{other-none}
 use Rattle.spec_step.proofs.OwnTakings.{Just, all-just, just-then, nothing-just, other-just, quiet-just, read-just, refused-just}
 use Rattle.spec_step.proofs.Packets.{kept-filter}
@@ -134,18 +133,18 @@ arp-just frames s side p six = λ is w.
 
 -- ---- a frame
 
-frame-just : Frames → (s : GatewayAndOutput) (side : Side) (bytes : List ℕ) (r : Result Reading Reason) (s2 : GatewayAndOutput) → arrival_on s.shown side bytes ≡ r → AreBytes bytes → FrameDoes s side bytes r s2 → Justly (own_framed s side bytes r) s s2
+frame-just : Frames → (s : GatewayAndOutput) (side : Side) (bytes : List ℕ) (r : Result Reading Reason) (s2 : GatewayAndOutput) → reading_on s.shown side bytes ≡ r → AreBytes bytes → FrameDoes s side bytes r s2 → Justly (own_framed s side bytes r) s s2
 frame-just frames s side bytes (Ok (Arp p)) s2 read are does = λ is w.
     let at = station_on s.shown side in
-    let six = frames.reads side at.network (is_active at) _ bytes (Arp p) (read-on s.shown side bytes (Arp p) read) in
+    let six = frames.reads side at.network (is_active at) _ bytes (Arp p) read in
     subst (λ (x : GatewayAndOutput). Just s x (own_arp s side p)) (sym does) (arp-just frames s side p six is w)
 frame-just frames s side bytes (Ok (Advert a from)) s2 read are does = λ is w. router-just frames s side _ s2 does
 frame-just frames s side bytes (Ok (Packet packet)) s2 read are does = λ is w.
-    subst (λ (x : GatewayAndOutput). Just s x (own_framed s side bytes (Ok (Packet packet)))) (sym does) (read-just frames s side bytes are w (Ok (Packet packet)) (read-on s.shown side bytes (Packet packet) read))
+    subst (λ (x : GatewayAndOutput). Just s x (own_framed s side bytes (Ok (Packet packet)))) (sym does) (read-just frames s side bytes are w (Ok (Packet packet)) read)
 frame-just frames s side bytes (Ok (Error packet)) s2 read are does = λ is w.
-    subst (λ (x : GatewayAndOutput). Just s x []) (sym does) (read-just frames s side bytes are w (Ok (Error packet)) (read-on s.shown side bytes (Error packet) read))
+    subst (λ (x : GatewayAndOutput). Just s x []) (sym does) (read-just frames s side bytes are w (Ok (Error packet)) read)
 frame-just frames s side bytes (Ok (Asked echo)) s2 read are does = λ is w.
-    subst (λ (x : GatewayAndOutput). Just s x (own_framed s side bytes (Ok (Asked echo)))) (sym does) (read-just frames s side bytes are w (Ok (Asked echo)) (read-on s.shown side bytes (Asked echo) read))
+    subst (λ (x : GatewayAndOutput). Just s x (own_framed s side bytes (Ok (Asked echo)))) (sym does) (read-just frames s side bytes are w (Ok (Asked echo)) read)
 frame-just frames s side bytes (Err reason) s2 read are does = λ is w.
     subst (λ (x : GatewayAndOutput). Just s x (own_framed s side bytes (Err reason))) (sym does) (refused-just frames s side bytes are w side reason)
 
@@ -269,9 +268,9 @@ record IsJust (s : GatewayAndOutput) (event : Event) (done : GatewayAndOutput) :
 
 does-just : Frames → (s : GatewayAndOutput) (event : Event) (done : GatewayAndOutput) → Does s event done → HasBytes event → IsSound s.shown → IsSetUp s.shown → IsJust s event done
 does-just frames s (Frame side bytes) done does has is w = record {
-  own = own_framed s side bytes.now (arrival_on s.shown side bytes.now);
+  own = own_framed s side bytes.now (reading_on s.shown side bytes.now);
   are = refl;
-  just = frame-just frames s side bytes.now (arrival_on s.shown side bytes.now) done refl has does is w;
+  just = frame-just frames s side bytes.now (reading_on s.shown side bytes.now) done refl has does is w;
 }
 does-just frames s (Comes bytes) done does has is w = record {
   own = own_datagram s (reading bytes.now);
@@ -342,3 +341,24 @@ step-just frames s event s2 step has is w =
         },
       ),
     )
+
+ticked-nets : (s : GatewayAndOutput) → (link_ticked s).shown.networks ≡ s.shown.networks
+ticked-nets s = at (is_due_on_tick (handed_in s.shown).link s.shown.moment)
+  where
+    at : (b : Bool) → (let x : GatewayAndOutput = (let g = handed_in s.shown in cond b (scene (record g { link = sent_on_tick g.link g.moment }) (with_datagram s.told (datagram_in g))) (scene g s.told)) in x.shown.networks) ≡ s.shown.networks
+    at true = refl
+    at false = refl
+
+end-nets : (event : Event) (done : GatewayAndOutput) → (ended_on event done).shown.networks ≡ done.shown.networks
+end-nets (Frame side bytes) done = refl
+end-nets (Comes bytes) done = refl
+end-nets (Tick now) done = ticked-nets done
+end-nets Stop done = refl
+end-nets (PeerOff n) done = refl
+end-nets (SideIs side up) done = refl
+
+-- a whole step leaves the networks
+pub step-nets : Frames → (s : GatewayAndOutput) (event : Event) (s2 : GatewayAndOutput) → IsStepOn s event s2 → HasBytes event → IsSound s.shown → IsSetUp s.shown → s2.shown.networks ≡ s.shown.networks
+step-nets frames s event s2 step has is w =
+    let all = does-just frames s event step.done step.does has is w in
+    ap (λ (x : GatewayAndOutput). x.shown.networks) step.sends ∙ end-nets event step.done ∙ all.just.nets

@@ -60,7 +60,7 @@ use Rattle.spec_step.specs.Settled.{AreIdle, HaveBegun, IsSettled}
 use Rattle.spec_step.specs.Shown.{GatewayAndOutput, Shown, is_apart, is_running, is_up, scene, station_on, with_station}
 use Rattle.spec_step.specs.Routers.{BothAct, RouterActs}
 use Rattle.spec_step.specs.Steps.{Does, FrameDoes, IsStepOn, ended_on, stopped, ticked, word_by, word_refusal}
-use Rattle.spec_step.specs.Verdict.{arrival_on, exit_by, hop_by, plan_of, reading_on, error_hop, error_plan}
+use Rattle.spec_step.specs.Verdict.{error_hop, error_plan, exit_by, hop_by, plan_of, reading_on}
 use Rattle.spec_step.proofs.Lines.{acts-shown, both-shown, both-stopped, line-idles, line-stays, started-begun}
 use Rattle.spec_step.proofs.Own.{Said, echo-by, refusal-by, refused-by, said_scene}
 use Rattle.spec_step.proofs.Asked.{PlanSays, plan-says}
@@ -482,7 +482,7 @@ frame-calms s side bytes (Ok (Asked echo)) s2 does = subst (λ (x : GatewayAndOu
 frame-calms s side bytes (Err reason) s2 does = subst (λ (x : GatewayAndOutput). Calming s x) (sym does) (refused-calms s side side bytes reason)
 
 does-calms : (s : GatewayAndOutput) (event : Event) (done : GatewayAndOutput) → Does s event done → Calming s done
-does-calms s (Frame side bytes) done does = frame-calms s side bytes.now (arrival_on s.shown side bytes.now) done does
+does-calms s (Frame side bytes) done does = frame-calms s side bytes.now (reading_on s.shown side bytes.now) done does
 does-calms s (Comes bytes) done does = subst (λ (x : GatewayAndOutput). Calming s x) (sym does) (datagram-calms s (reading bytes.now))
 does-calms s (Tick now) done does = subst (λ (x : GatewayAndOutput). Calming s x) (sym does.4) (tick-calms s now does.0 does.1 does.2 does.3)
 does-calms s Stop done does = subst (λ (x : GatewayAndOutput). Calming s x) (sym does.2) (stopped-calms s does.0 does.1)

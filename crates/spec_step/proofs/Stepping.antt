@@ -15,18 +15,17 @@ use Rattle.spec_step.specs.Machine.{AreBytes, Goes, HasBytes, HasPushed, IsLoneR
 use Rattle.spec_step.specs.Parts.{idle_taken, old_dropped, alone_taken}
 use Rattle.spec_step.specs.Shown.{GatewayAndOutput}
 use Rattle.spec_step.specs.Steps.{Does, FrameDoes, IsStepOn, ended_on, stopped, ticked, word_refusal}
-use Rattle.spec_step.specs.Verdict.{arrival_on}
-use Rattle.spec_step.proofs.Arriving.{read-on}
+use Rattle.spec_step.specs.Verdict.{reading_on}
 use Rattle.spec_step.proofs.Ending.{answered-goes, answered-keeps, ended-still, ticked-goes, ticked-keeps}
 use Rattle.spec_step.proofs.Hearing.{Arrives, all-idle-goes, alone-taken-goes, arrives-by, datagram-arrives, word-arrives}
 use Rattle.spec_step.proofs.Packets.{Reads, echo-goes, flow-goes, read-formed, error-goes, refused-goes}
 use Rattle.spec_step.proofs.Passing.{Going, IsSound, going-then}
 use Rattle.spec_step.proofs.Sides.{arp-goes, both-go, old-goes, plugged-goes, router-goes, stopped-goes, turn-goes}
 
-frame-goes : Reads → (s : GatewayAndOutput) (side : Side) (bytes : List ℕ) (r : Result Reading Reason) (s2 : GatewayAndOutput) → arrival_on s.shown side bytes ≡ r → AreBytes bytes → FrameDoes s side bytes r s2 → Going [] [] s s2
+frame-goes : Reads → (s : GatewayAndOutput) (side : Side) (bytes : List ℕ) (r : Result Reading Reason) (s2 : GatewayAndOutput) → reading_on s.shown side bytes ≡ r → AreBytes bytes → FrameDoes s side bytes r s2 → Going [] [] s s2
 frame-goes reads s side bytes (Ok (Arp p)) s2 read are does = subst (λ (x : GatewayAndOutput). Going [] [] s x) (sym does) (arp-goes [] [] reads s side p)
 frame-goes reads s side bytes (Ok (Advert a from)) s2 read are does = router-goes [] [] s side _ s2 does
-frame-goes reads s side bytes (Ok (Packet packet)) s2 read are does = subst (λ (x : GatewayAndOutput). Going [] [] s x) (sym does) (flow-goes [] [] s side bytes packet.flow are (read-formed [] [] reads s.shown side bytes packet are (read-on s.shown side bytes (Packet packet) read)))
+frame-goes reads s side bytes (Ok (Packet packet)) s2 read are does = subst (λ (x : GatewayAndOutput). Going [] [] s x) (sym does) (flow-goes [] [] s side bytes packet.flow are (read-formed [] [] reads s.shown side bytes packet are read))
 frame-goes reads s side bytes (Ok (Error packet)) s2 read are does = subst (λ (x : GatewayAndOutput). Going [] [] s x) (sym does) (error-goes [] [] s side bytes packet.flow are)
 frame-goes reads s side bytes (Ok (Asked echo)) s2 read are does = subst (λ (x : GatewayAndOutput). Going [] [] s x) (sym does) (echo-goes [] [] s side bytes echo are)
 frame-goes reads s side bytes (Err reason) s2 read are does = subst (λ (x : GatewayAndOutput). Going [] [] s x) (sym does) (refused-goes [] [] s side side bytes reason)
@@ -42,7 +41,7 @@ begun_on s (SideIs side up) = s
 
 pub does-arrives : Reads → (s : GatewayAndOutput) (event : Event) (done : GatewayAndOutput) (h : List Record) → Does s event done → HasBytes event → HasPushed s.shown h → IsSound s.shown → IsLoneRightly s.shown → Arrives (letters_in event) (words_in event) (begun_on s event) done h
 does-arrives reads s (Frame side bytes) done h does has stands is alone =
-    arrives-by [] [] s done h (frame-goes reads s side bytes.now (arrival_on s.shown side bytes.now) done refl has does) stands is alone
+    arrives-by [] [] s done h (frame-goes reads s side bytes.now (reading_on s.shown side bytes.now) done refl has does) stands is alone
 does-arrives reads s (Comes bytes) done h does has stands is alone =
     subst (λ (x : GatewayAndOutput). Arrives (letter_in (reading bytes.now)) [] s x h) (sym does) (datagram-arrives reads s h bytes.now (reading bytes.now) refl has stands is alone)
 does-arrives reads s (Tick now) done h does has stands is alone =

@@ -27,7 +27,7 @@ use Rattle.spec_step.specs.Settled.{IsSettled}
 use Rattle.spec_step.specs.Shown.{GatewayAndOutput, Shown, has_side_out, is_running, is_up, is_whole, scene, station_on, with_station}
 use Rattle.spec_step.specs.Steps.{FrameDoes, IsStepOn, clock_after, ticked, word_refusal}
 use Rattle.spec_step.specs.TakingOver.{AreSilentSteps, HearsAdvert, IsAdvertOf, IsBehind, IsSilentStep, hears_on, is_advert, router_on}
-use Rattle.spec_step.specs.Verdict.{arrival_on}
+use Rattle.spec_step.specs.Verdict.{reading_on}
 use Rattle.spec_step.proofs.Giving.{away_by, tick-ticks, turn_as}
 use Rattle.spec_step.proofs.Idle.{idle-at-once}
 use Rattle.spec_step.proofs.Lines.{acts-shown, both-shown}
@@ -190,7 +190,7 @@ was-stopped false there runs = absurd (cc)
 step-awaits : (s : GatewayAndOutput) (event : Event) (s2 : GatewayAndOutput) (side : Side) (due : ℕ) → IsStepOn s event s2 → hears_on side s.shown event ≡ false → is_running s.shown ≡ true → is_running s2.shown ≡ true
     → Awaits (router_on s.shown side) due → Awaits (router_on s2.shown side) due
 step-awaits s (Frame at bytes) s2 side due step silent ran runs waits =
-    answered-awaits s s2 step.done side due step.sends (frame-awaits s step.done at side bytes.now (arrival_on s.shown at bytes.now) due silent step.does waits)
+    answered-awaits s s2 step.done side due step.sends (frame-awaits s step.done at side bytes.now (reading_on s.shown at bytes.now) due silent step.does waits)
 step-awaits s (Comes bytes) s2 side due step silent ran runs waits =
     answered-awaits s s2 step.done side due step.sends
     (subst (λ (x : GatewayAndOutput). Awaits (router_on x.shown side) due) (sym step.does) (awaits-on s _ side due (datagram-stands s (reading bytes.now)) waits))
@@ -321,8 +321,8 @@ pub waits-since : (s : GatewayAndOutput) (side : Side) (event : Event) (s2 : Gat
 waits-since s side (Frame at bytes) s2 priority interval step heard backup above follows =
     let done = step.done in
     let due = s.shown.moment + active_down_interval (router_on s.shown side).priority interval in
-    let does : FrameDoes s side bytes.now (arrival_on s.shown at bytes.now) done = subst (λ (x : Side). FrameDoes s x bytes.now (arrival_on s.shown at bytes.now) done) heard.0 step.does in
-    let first = frame-follows s done side bytes.now (arrival_on s.shown at bytes.now) priority interval does heard.1 backup above follows in
+    let does : FrameDoes s side bytes.now (reading_on s.shown at bytes.now) done = subst (λ (x : Side). FrameDoes s x bytes.now (reading_on s.shown at bytes.now) done) heard.0 step.does in
+    let first = frame-follows s done side bytes.now (reading_on s.shown at bytes.now) priority interval does heard.1 backup above follows in
     subst (λ (x : GatewayAndOutput). IsBehind x.shown side due) (sym step.sends)
     (behind-on done (link_answered done) side due (stands-by done (link_answered done) refl refl refl refl) first)
 waits-since s side (Comes bytes) s2 priority interval step heard backup above follows = absurd heard

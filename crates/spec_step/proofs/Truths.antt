@@ -48,8 +48,7 @@ use Rattle.spec_step.specs.GivingWay.{GivingWay, left, turn_of}
 use Rattle.spec_step.specs.Steps.{Does, FrameDoes, IsStepOn, ended_on, last_moment, stopped, ticked, word_by, word_refusal}
 use Rattle.spec_step.specs.PassedOn.{TellsAll}
 use Rattle.spec_step.specs.Truly.{IsSetUp, AtHand, Known, hand_of, known_of, unasked}
-use Rattle.spec_step.specs.Verdict.{arrival_on}
-use Rattle.spec_step.proofs.Arriving.{read-on}
+use Rattle.spec_step.specs.Verdict.{reading_on}
 use Rattle.spec_step.proofs.Turning.{back_as, turn-by}
 use Rattle.spec_step.proofs.Packets.{kept-filter}
 use Rattle.spec_step.proofs.Passing.{IsSound}
@@ -177,10 +176,10 @@ both-say frames s event s2 both =
 
 -- ---- a frame
 
-frame-speaks : Frames → (s : GatewayAndOutput) (side : Side) (bytes : List ℕ) (r : Result Reading Reason) (s2 : GatewayAndOutput) → arrival_on s.shown side bytes ≡ r → AreBytes bytes → FrameDoes s side bytes r s2 → Speaks (at_hand side bytes ∷ []) s s2
+frame-speaks : Frames → (s : GatewayAndOutput) (side : Side) (bytes : List ℕ) (r : Result Reading Reason) (s2 : GatewayAndOutput) → reading_on s.shown side bytes ≡ r → AreBytes bytes → FrameDoes s side bytes r s2 → Speaks (at_hand side bytes ∷ []) s s2
 frame-speaks frames s side bytes (Ok (Arp p)) s2 read are does =
     let at = station_on s.shown side in
-    let six = frames.reads side at.network (is_active at) _ bytes (Arp p) (read-on s.shown side bytes (Arp p) read) in
+    let six = frames.reads side at.network (is_active at) _ bytes (Arp p) read in
     let done = arp_taken s side p in
     let hand = at_hand side bytes ∷ [] in
     subst (λ (x : GatewayAndOutput). Speaks hand s x) (sym does) (speaks-then [] hand s done done (arp-speaks frames s side p six) (saying-nothing done hand))
@@ -189,13 +188,13 @@ frame-speaks frames s side bytes (Ok (Advert a from)) s2 read are does =
     speaks-then [] hand s s2 s2 (speaks-of [] s s2 (router-says frames s side _ s2 does)) (saying-nothing s2 hand)
 frame-speaks frames s side bytes (Ok (Packet packet)) s2 read are does =
     let hand = at_hand side bytes ∷ [] in
-    subst (λ (x : GatewayAndOutput). Speaks hand s x) (sym does) (speaks-of hand s (flow_taken s side bytes packet.flow) (packet-says frames s side bytes packet (read-on s.shown side bytes (Packet packet) read) are))
+    subst (λ (x : GatewayAndOutput). Speaks hand s x) (sym does) (speaks-of hand s (flow_taken s side bytes packet.flow) (packet-says frames s side bytes packet read are))
 frame-speaks frames s side bytes (Ok (Error packet)) s2 read are does =
     let hand = at_hand side bytes ∷ [] in
-    subst (λ (x : GatewayAndOutput). Speaks hand s x) (sym does) (speaks-of hand s (error_taken s side bytes packet.flow) (error-packet-says frames s side bytes packet (read-on s.shown side bytes (Error packet) read) are))
+    subst (λ (x : GatewayAndOutput). Speaks hand s x) (sym does) (speaks-of hand s (error_taken s side bytes packet.flow) (error-packet-says frames s side bytes packet read are))
 frame-speaks frames s side bytes (Ok (Asked echo)) s2 read are does =
     let hand = at_hand side bytes ∷ [] in
-    subst (λ (x : GatewayAndOutput). Speaks hand s x) (sym does) (speaks-of hand s (echo_taken s side bytes echo) (echo-says frames s side bytes echo (read-on s.shown side bytes (Asked echo) read) are))
+    subst (λ (x : GatewayAndOutput). Speaks hand s x) (sym does) (speaks-of hand s (echo_taken s side bytes echo) (echo-says frames s side bytes echo read are))
 frame-speaks frames s side bytes (Err reason) s2 read are does =
     let hand = at_hand side bytes ∷ [] in
     subst (λ (x : GatewayAndOutput). Speaks hand s x) (sym does) (speaks-of hand s (refused s side side bytes reason) (refused-says frames s side side bytes reason are))
@@ -433,7 +432,7 @@ plugged-says s Outside up = λ is w. (
 -- ---- an event's own parts
 
 pub does-speak : Frames → (s : GatewayAndOutput) (event : Event) (done : GatewayAndOutput) → Does s event done → HasBytes event → Speaks (hand_of event) s done
-does-speak frames s (Frame side bytes) done does has = frame-speaks frames s side bytes.now (arrival_on s.shown side bytes.now) done refl has does
+does-speak frames s (Frame side bytes) done does has = frame-speaks frames s side bytes.now (reading_on s.shown side bytes.now) done refl has does
 does-speak frames s (Comes bytes) done does has =
     subst (λ (x : GatewayAndOutput). Speaks [] s x) (sym does) (speaks-of [] s _ (datagram-says frames s bytes.now (reading bytes.now) refl has))
 does-speak frames s (Tick now) done does has =

@@ -55,8 +55,7 @@ use Rattle.spec_step.specs.Parts.{acted, all_framed, all_idle_done, all_sought_d
 use Rattle.spec_step.specs.Routers.{BothAct, RouterActs}
 use Rattle.spec_step.specs.Shown.{GatewayAndOutput, Shown, id_of, is_apart, is_running, scene, station_on, with_notes, with_station}
 use Rattle.spec_step.specs.Steps.{Does, FrameDoes, IsStepOn, ended_on, stopped, ticked, word_by, word_refusal}
-use Rattle.spec_step.specs.Verdict.{arrival_on, plan_of}
-use Rattle.spec_step.proofs.Arriving.{read-on}
+use Rattle.spec_step.specs.Verdict.{plan_of, reading_on}
 use Rattle.spec_step.proofs.Accounting.{restarted-id, taken-id}
 use Rattle.spec_step.proofs.Packets.{PlanFits, Reads, kept-filter, kept-more, plan-fits, read-formed}
 use Rattle.spec_step.proofs.Passing.{IsSound}
@@ -219,12 +218,12 @@ router-moves s side event s2 acts = subst (λ (x : GatewayAndOutput). Unmoving s
 both-move : (s : GatewayAndOutput) (event : RouterEvent) (s2 : GatewayAndOutput) → BothAct s event s2 → Unmoving s s2
 both-move s event s2 both = unmoving-then s both.between s2 (router-moves s Inside event both.between both.inside) (router-moves both.between Outside event s2 both.outside)
 
-frame-moves : Reads → (s : GatewayAndOutput) (side : Side) (bytes : List ℕ) (r : Result Reading Reason) (s2 : GatewayAndOutput) → arrival_on s.shown side bytes ≡ r → AreBytes bytes → FrameDoes s side bytes r s2 → Unmoving s s2
+frame-moves : Reads → (s : GatewayAndOutput) (side : Side) (bytes : List ℕ) (r : Result Reading Reason) (s2 : GatewayAndOutput) → reading_on s.shown side bytes ≡ r → AreBytes bytes → FrameDoes s side bytes r s2 → Unmoving s s2
 frame-moves reads s side bytes (Ok (Arp p)) s2 read are does = subst (λ (x : GatewayAndOutput). Unmoving s x) (sym does) (arp-moves reads s side p)
 frame-moves reads s side bytes (Ok (Advert a from)) s2 read are does = router-moves s side _ s2 does
 frame-moves reads s side bytes (Ok (Packet packet)) s2 read are does =
     subst (λ (x : GatewayAndOutput). Unmoving s x) (sym does)
-    (flows Unmoving unmoving-then unseen-moves wanted-moves carried-moves waits-moves s side bytes packet.flow are (read-formed [] [] reads s.shown side bytes packet are (read-on s.shown side bytes (Packet packet) read)))
+    (flows Unmoving unmoving-then unseen-moves wanted-moves carried-moves waits-moves s side bytes packet.flow are (read-formed [] [] reads s.shown side bytes packet are read))
 frame-moves reads s side bytes (Ok (Error packet)) s2 read are does =
     subst (λ (x : GatewayAndOutput). Unmoving s x) (sym does)
     (errors Unmoving unmoving-then unseen-moves wanted-moves carried-moves waits-moves s side bytes packet.flow are)
@@ -356,7 +355,7 @@ turn-moves s s2 takes =
 -- ---- an event's own parts
 
 does-move : Reads → (s : GatewayAndOutput) (event : Event) (done : GatewayAndOutput) → Does s event done → HasBytes event → Unmoving (begun_on s event) done
-does-move reads s (Frame side bytes) done does has = frame-moves reads s side bytes.now (arrival_on s.shown side bytes.now) done refl has does
+does-move reads s (Frame side bytes) done does has = frame-moves reads s side bytes.now (reading_on s.shown side bytes.now) done refl has does
 does-move reads s (Comes bytes) done does has =
     subst (λ (x : GatewayAndOutput). Unmoving s x) (sym does) (datagram-moves reads s bytes.now (reading bytes.now) refl has)
 does-move reads s (Tick now) done does has =

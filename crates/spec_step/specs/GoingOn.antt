@@ -25,7 +25,7 @@ use Rattle.packet_rules.specs.Flows.{source_of, target_of}
 use Rattle.packet_rules.specs.Frames.{way_of}
 use Rattle.packet_rules.specs.Networks.{direction_of}
 use Rattle.spec_step.specs.Shown.{Shown}
-use Rattle.spec_step.specs.Verdict.{arrival_on, exit_by, fits_at, next_by, next_to, target_pair}
+use Rattle.spec_step.specs.Verdict.{exit_by, fits_at, next_by, next_to, reading_on, target_pair}
 
 -- the entry that was found is of this pair, and translates
 pub record Translates (found : Option Entry) (p : Pair) : Type 0 where
@@ -45,11 +45,11 @@ HavePairs g flow (Hairpin own other) =
     Translates (entry_of g.ledger.book.entries (source_of flow)) own
     × Translates (slot_of g.ledger.book.entries (target_of flow)) other
 
--- The frame that came in has a packet that goes on: it is valid, its time to live is above one, it may go this way, its
--- pairs translate, its next hop's hardware address is known, and it is no longer than what is sent there.
+-- The frame has a packet that goes on: it is valid, its time to live is above one, it may go this way, its pairs
+-- translate, its next hop's hardware address is known, and it is no longer than what is sent there, or may be cut.
 pub record MayGoOn (g : Shown) (side : Side) (bytes : List ℕ) (by : Translation) : Type 0 where
   pub packet : Datagram
-  pub reads : arrival_on g side bytes ≡ Ok (Packet packet)
+  pub reads : reading_on g side bytes ≡ Ok (Packet packet)
   pub way : let flow = packet.flow in
       direction_of g.networks side flow.protocol flow.source.0 flow.destination.0 ≡ Ok (way_of by)
   pub pairs : HavePairs g packet.flow by
@@ -80,10 +80,10 @@ HaveErrorPairs g flow (Hairpin own other) =
     Translates (entry_of g.ledger.book.entries (endpoint_about flow)) own
     × Translates (slot_of g.ledger.book.entries (key_about flow)) other
 
--- the frame that came in has an error that goes on, under the conditions of MayGoOn
+-- the frame has an error that goes on, under the conditions of MayGoOn
 pub record MayPassOn (g : Shown) (side : Side) (bytes : List ℕ) (by : Translation) : Type 0 where
   pub packet : ErrorPacket
-  pub reads : arrival_on g side bytes ≡ Ok (Error packet)
+  pub reads : reading_on g side bytes ≡ Ok (Error packet)
   pub way : error_direction g.networks side packet.flow ≡ Ok (way_of by)
   pub pairs : HaveErrorPairs g packet.flow by
   pub hop : Mac
@@ -98,11 +98,11 @@ NeedsPair g flow way.Outward = Unit {0}
 NeedsPair g flow way.Inward = ⊥
 NeedsPair g flow way.Hairpin = (p : Pair) × (target_pair g flow ≡ Ok p)
 
--- A port has to be chosen for the packet of a frame that came in: its way needs a pair of its source, which has none. A
--- proposal that was given up counts as none.
+-- A port has to be chosen for the packet of a frame: its way needs a pair of its source, which has none. A proposal that
+-- was given up counts as none.
 pub record NeedsPort (g : Shown) (side : Side) (bytes : List ℕ) : Type 0 where
   pub packet : Datagram
-  pub reads : arrival_on g side bytes ≡ Ok (Packet packet)
+  pub reads : reading_on g side bytes ≡ Ok (Packet packet)
   pub way : Direction
   pub goes : let flow = packet.flow in
       direction_of g.networks side flow.protocol flow.source.0 flow.destination.0 ≡ Ok way
@@ -132,10 +132,11 @@ BeginsBy g flow port (Hairpin own other) =
     (own ≡ new_pair (source_of flow) port) × (target_pair g flow ≡ Ok other)
 
 -- A packet may begin a pair: it is valid and its time to live is above one, its source has no pair, the host is below its
--- limit, a port is free, the next hop's hardware address is known, and the packet is no longer than what is sent there.
+-- limit, a port is free, the next hop's hardware address is known, and the packet is no longer than what is sent there,
+-- or may be cut.
 pub record MayBegin (g : Shown) (side : Side) (bytes : List ℕ) : Type 0 where
   pub packet : Datagram
-  pub reads : arrival_on g side bytes ≡ Ok (Packet packet)
+  pub reads : reading_on g side bytes ≡ Ok (Packet packet)
   pub none : entry_of g.ledger.book.entries (source_of packet.flow) ≡ None
   pub below : is_at_limit g.ledger.book packet.flow.source ≡ false
   pub port : Port

@@ -59,7 +59,7 @@ use Rattle.spec_step.specs.Parts.{frames_of, record_done, request_by, reset, sen
 use Rattle.spec_step.specs.Shown.{GatewayAndOutput, Shown, is_apart, station_on}
 use Rattle.spec_step.specs.Steps.{clock_after, word_refusal}
 use Rattle.spec_step.specs.Truly.{AreItsPairs, AtHand, Known, known_of, near_on, packets_of}
-use Rattle.spec_step.specs.Verdict.{arrival_on, exit_by}
+use Rattle.spec_step.specs.Verdict.{exit_by, reading_on}
 
 -- whether a frame that left at this side is an other frame
 unfoldable pub is_other : Networks → Side → List ℕ → Bool
@@ -119,7 +119,7 @@ FrameOwes g side (Err reason) own = own ≡ []
 
 -- the frames that an event has the gateway send by itself
 abbrev pub Owes : Shown → Event → List Sent → Type 0
-Owes g (Frame side bytes) own = FrameOwes g side (arrival_on g side bytes.now) own
+Owes g (Frame side bytes) own = FrameOwes g side (reading_on g side bytes.now) own
 Owes g (Datagram bytes) own = own ≡ []
 Owes g (Tick now) own = TickOwes (record g { moment = clock_after g.moment now }) own
 Owes g Stop own = AreOfBoth g table.Stop g.moment own
@@ -173,7 +173,7 @@ frees_apart g w = is_apart g && (is_young g.moment w && ends AllPairs w.wait)
 
 -- whether an event ends a packet's wait
 abbrev pub is_freed : GatewayAndOutput → Event → HeldPacket → Bool
-is_freed s (Frame side bytes) w = frees_as s.shown side (arrival_on s.shown side bytes.now) w
+is_freed s (Frame side bytes) w = frees_as s.shown side (reading_on s.shown side bytes.now) w
 is_freed s (Datagram bytes) w = frees_read s (reading bytes.now) w
 is_freed s (Tick now) w = frees_apart (record s.shown { moment = clock_after s.shown.moment now }) w
 is_freed s Stop w = false
@@ -205,7 +205,7 @@ packet_as side bytes (Err reason) = []
 
 -- the packet of an event, if there is one
 abbrev pub packet_in : Shown → Event → List AtHand
-packet_in g (Frame side bytes) = packet_as side bytes.now (arrival_on g side bytes.now)
+packet_in g (Frame side bytes) = packet_as side bytes.now (reading_on g side bytes.now)
 packet_in g (Datagram bytes) = []
 packet_in g (Tick now) = []
 packet_in g Stop = []

@@ -30,7 +30,7 @@ use Rattle.spec_step.specs.Parts.{all_sought_done, answered_by, idle_taken, old_
 use Rattle.spec_step.specs.Routers.{BothAct}
 use Rattle.spec_step.specs.Shown.{GatewayAndOutput, id_of, is_apart, scene, station_on, with_notes, with_station}
 use Rattle.spec_step.specs.Steps.{ticked, word_refusal}
-use Rattle.spec_step.specs.Verdict.{arrival_on}
+use Rattle.spec_step.specs.Verdict.{reading_on}
 
 -- the own frames of the packets whose wait is over
 abbrev pub own_released : GatewayAndOutput → Ended → List Sent
@@ -114,7 +114,7 @@ AreOwnAtTick s now own = (turned middle : GatewayAndOutput) × GivingWay (ticked
 
 -- the own frames at an event; a stop and the state of a side's cable have none
 abbrev pub AreOwnIn : GatewayAndOutput → Event → List Sent → Type 0
-AreOwnIn s (Frame side bytes) own = own ≡ own_framed s side bytes.now (arrival_on s.shown side bytes.now)
+AreOwnIn s (Frame side bytes) own = own ≡ own_framed s side bytes.now (reading_on s.shown side bytes.now)
 AreOwnIn s (Comes bytes) own = own ≡ own_datagram s (reading bytes.now)
 AreOwnIn s (Tick now) own = AreOwnAtTick s now own
 AreOwnIn s Stop own = own ≡ []

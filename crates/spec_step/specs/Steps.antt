@@ -19,7 +19,7 @@ use Rattle.spec_step.specs.GivingWay.{GivingWay}
 use Rattle.spec_step.specs.Parts.{alone_taken, arp_taken, datagram_taken, echo_taken, error_taken, flow_taken, idle_taken, link_answered, link_ticked, old_dropped, refused, side_plugged, word_taken}
 use Rattle.spec_step.specs.Routers.{BothAct, RouterActs}
 use Rattle.spec_step.specs.Shown.{GatewayAndOutput, Shown, scene}
-use Rattle.spec_step.specs.Verdict.{arrival_on, verdict}
+use Rattle.spec_step.specs.Verdict.{reading_on, verdict}
 
 -- the greatest time that a clock has, in centiseconds
 abbrev pub last_moment : ℕ
@@ -61,7 +61,7 @@ word_by s n (Some reason) = s
 -- An event's own parts, before the datagram at the end. A tick begins with its turn, at the time of
 -- the tick.
 abbrev pub Does : GatewayAndOutput → Event → GatewayAndOutput → Type 0
-Does s (Frame side bytes) s2 = FrameDoes s side bytes.now (arrival_on s.shown side bytes.now) s2
+Does s (Frame side bytes) s2 = FrameDoes s side bytes.now (reading_on s.shown side bytes.now) s2
 Does s (Comes bytes) s2 = s2 ≡ datagram_taken s bytes.now
 Does s (Tick now) s2 = (turned middle : GatewayAndOutput) × GivingWay (ticked s now) turned × BothAct turned table.Tick middle × (s2 ≡ alone_taken (idle_taken (old_dropped middle)))
 Does s Stop s2 = (middle : GatewayAndOutput) × BothAct s table.Stop middle × (s2 ≡ stopped middle)

@@ -12,7 +12,7 @@ use Rattle.spec_step.specs.declared.events.Event.{Event}
 use Rattle.spec_step.specs.declared.events.Event.TheVariants.{Frame, Datagram, Tick, Stop, PeerOff, Side as SideIs}
 use Rattle.spec_step.specs.Shown.{Shown, is_running, scene, station_on}
 use Rattle.spec_step.specs.Steps.{IsStepOn}
-use Rattle.spec_step.specs.Verdict.{arrival_on}
+use Rattle.spec_step.specs.Verdict.{reading_on}
 
 -- the virtual router on a side
 abbrev pub router_on : Shown → Side → Router
@@ -34,7 +34,7 @@ is_advert (Err reason) = false
 
 -- whether an event is an advertisement that is heard on a side
 abbrev pub hears_on : Side → Shown → Event → Bool
-hears_on side g (Frame at bytes) = same_side at side && is_advert (arrival_on g at bytes.now)
+hears_on side g (Frame at bytes) = same_side at side && is_advert (reading_on g at bytes.now)
 hears_on side g (Datagram bytes) = false
 hears_on side g (Tick now) = false
 hears_on side g Stop = false
@@ -54,7 +54,7 @@ IsAdvertOf priority interval (Err reason) = ⊥
 -- the event is an advertisement on a side, with this priority and this interval
 abbrev pub HearsAdvert : Side → Shown → Event → ℕ → ℕ → Type 0
 HearsAdvert side g (Frame at bytes) priority interval =
-    (at ≡ side) × IsAdvertOf priority interval (arrival_on g at bytes.now)
+    (at ≡ side) × IsAdvertOf priority interval (reading_on g at bytes.now)
 HearsAdvert side g (Datagram bytes) priority interval = ⊥
 HearsAdvert side g (Tick now) priority interval = ⊥
 HearsAdvert side g Stop priority interval = ⊥

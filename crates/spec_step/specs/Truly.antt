@@ -1,5 +1,6 @@
 -- Told truly: the translated frames of a step are, one for one and in order, translations of different packets at hand,
--- by the pairs that the step's Used notes name. The packets at hand are the event's own packet and the kept packets.
+-- by the pairs that the step's Used notes name. The packets at hand are the event's own packet and the kept packets. Each
+-- frame is a whole one: what came in fragments was put together before, and what is too long is cut afterwards.
 use Rattle.std.specs.Prelude.{◌≡◌, ℕ, Bool, not, ◌&&◌, List, [], ◌∷◌, ◌++◌, map, Some, Ok}
 use Rattle.std.specs.List.{AllByRecursion, filter, flat_map}
 use Rattle.std.specs.List.Sorted.{IsPermutation}
@@ -44,7 +45,7 @@ used_in (Booted number) = []
 abbrev pub used_pairs : List Note → List Pair
 used_pairs notes = flat_map (λ note. used_in note.what) notes
 
--- a packet at hand: the side where it came in, and its frame's bytes as they came
+-- a packet at hand: the side where it came in, and its whole frame's bytes as they came
 pub record AtHand : Type 0 where
   pub side : Side
   pub bytes : List ℕ

@@ -30,7 +30,7 @@ use Rattle.packet_rules.specs.Errors.{endpoint_about, error_direction, key_about
 use Rattle.packet_rules.specs.Flows.{source_of, target_of}
 use Rattle.packet_rules.specs.Frames.{hop_of, way_of}
 use Rattle.packet_rules.specs.Networks.{back_hop, direction_of, exit_of, may_answer, mtu_of}
-use Rattle.packet_rules.specs.Steps.{length_refusal, reading_of, and_then, unless}
+use Rattle.packet_rules.specs.Steps.{reading_of, and_then}
 use Rattle.interfaces.specs.Stations.{is_active}
 use Rattle.interfaces.specs.Tallies.{may_reply}
 use Rattle.spec_step.specs.declared.events.Outcome.{Outcome}
@@ -139,10 +139,6 @@ abbrev pub reading_on : Shown → Side → List ℕ → Result Reading Reason
 reading_on g side bytes =
     let s = station_on g side in reading_of side s.network (is_active s) (is_up g) bytes
 
--- the same of a frame that comes in on a side
-abbrev pub arrival_on : Shown → Side → List ℕ → Result Reading Reason
-arrival_on g side bytes = unless (length_refusal bytes) (reading_on g side bytes)
-
 -- ---- an ICMP error about a translated packet
 
 -- The pair by which the packet inside an error went out, found by its source port. Where there is no pair, or a Doomed
@@ -233,6 +229,6 @@ outcome_read g side (Ok (Error packet)) = outcome_by (error_plan g side packet.f
 outcome_read g side (Ok (Asked echo)) = outcome_reply (reply_to g side echo)
 outcome_read g side (Err reason) = Dropped reason
 
--- the verdict on a frame that comes in: its outcome
+-- the verdict on a whole frame: its outcome
 abbrev pub verdict : Shown → Side → List ℕ → Outcome
-verdict g side bytes = outcome_read g side (arrival_on g side bytes)
+verdict g side bytes = outcome_read g side (reading_on g side bytes)

@@ -6,7 +6,8 @@ use packet_rules::Reason;
 /// An event that a gateway takes in one step.
 #[derive(Clone, Copy, Debug, PartialEq, Eq)]
 pub enum Event<'a> {
-    /// A frame came in on a side. The bytes are the frame's.
+    /// A frame came in on a side. The bytes are the frame's; those of a whole frame that came in
+    /// fragments may be more than 1,514.
     Frame(Side, &'a [u8]),
     /// A datagram of the other gateway came over the link. The bytes are the datagram's.
     Datagram(&'a [u8]),

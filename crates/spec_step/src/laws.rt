@@ -1,6 +1,7 @@
 //! The laws of a step of a gateway. Each law is the contract of a function that does nothing.
 
 ghost use Rattle.std.specs.Prelude.{◌≡◌, ◌≢◌, ◌↔◌, Ok, ◌≤◌, ◌<◌, ◌+◌, ◌^◌, ◌∷◌, ◌++◌, ℕ, true, false, [], Bool, List, length, reverse, Err, Some};
+ghost use Rattle.std.specs.Borrow.{Bor};
 ghost use Rattle.std.specs.List.{AllByRecursion};
 ghost use Rattle.nat_types.specs.declared.gateways.GatewayId.{GatewayId};
 ghost use Rattle.nat_types.specs.declared.gateways.Side.{Side};
@@ -13,20 +14,25 @@ ghost use Rattle.nat_types.specs.declared.records.Record.{Record};
 ghost use Rattle.nat_types.specs.Same.{same};
 ghost use Rattle.addresses.specs.declared.ethernet.Mac.{Mac};
 ghost use Rattle.settings.specs.declared.whole.Settings.{Settings};
+ghost use Rattle.frames.specs.Frame.{frame_of};
 ghost use Rattle.icmp.specs.declared.packets.ErrorFlow.{ErrorFlow};
 ghost use Rattle.interfaces.specs.Stations.{is_active};
 ghost use Rattle.link.specs.Hearing.{peer_serves};
+ghost use Rattle.link.specs.Link.{wanted};
 ghost use Rattle.output.specs.Output.{Sent};
 ghost use Rattle.packet_rules.specs.declared.readings.Asked.{Asked as Echo};
 ghost use Rattle.ipv4.specs.declared.flows.Flow.{Flow};
 ghost use Rattle.ipv4.specs.declared.packets.Size.{Size};
+ghost use Rattle.ipv4.specs.Header.{is_unbroken};
 ghost use Rattle.packet_rules.specs.declared.complaints.Complaint.TheVariants.{TooBig};
+ghost use Rattle.packet_rules.specs.declared.networks.Network.{Network};
 ghost use Rattle.packet_rules.specs.declared.networks.Networks.{Networks};
 ghost use Rattle.packet_rules.specs.declared.reasons.Reason.{Reason};
-ghost use Rattle.packet_rules.specs.declared.reasons.Reason.TheVariants.{HostLimit, NoPort, TooLong};
+ghost use Rattle.packet_rules.specs.declared.reasons.Reason.TheVariants.{Fragment, HostLimit, NoPort, TooLong};
 ghost use Rattle.packet_rules.specs.declared.translations.Translation.{Translation};
 ghost use Rattle.packet_rules.specs.Networks.{direction_of, mtu_of};
 ghost use Rattle.packet_rules.specs.Own.{complaint_of, exit_for};
+ghost use Rattle.packet_rules.specs.Steps.{reading_of};
 ghost use Rattle.spec_trace.specs.Past.{Idle};
 ghost use Rattle.spec_pair.specs.Talk.{note};
 ghost use Rattle.waiting.specs.Packets.{HeldPacket, hop_count};
@@ -37,7 +43,7 @@ ghost use Rattle.spec_binding.specs.Books.{IsBook, is_lone, is_synced};
 ghost use Rattle.spec_binding.specs.Ledgers.{go_on_all, release_all};
 ghost use Rattle.spec_binding.specs.Serving.{serving};
 ghost use Rattle.spec_step.specs.declared.events.Event.{Event};
-ghost use Rattle.spec_step.specs.declared.events.Event.TheVariants.{Tick};
+ghost use Rattle.spec_step.specs.declared.events.Event.TheVariants.{Frame, Tick};
 ghost use Rattle.spec_step.specs.declared.events.Outcome.TheVariants as outcome;
 ghost use Rattle.spec_step.specs.declared.plans.Plan.TheVariants.{Send as SendBy, Wait as WaitForPair};
 ghost use Rattle.spec_step.specs.Apart.{IsUnmoved, WaitsForNobody};
@@ -484,3 +490,61 @@ pub fn goes_on_is_sent()
     ensures alone { (g : Shown) (side : Side) (bytes : List ℕ) → is_apart g ≡ true
         → MayBegin g side bytes → verdict g side bytes ≡ outcome.Sent }
 {}
+
+/// A fragment is dropped and nothing else happens, where the link owes no datagram and has the
+/// records that it was promised, as it does between steps.
+pub fn fragments_are_dropped()
+    ensures { (s : GatewayAndOutput) (side : Side) (bytes : Bor (List ℕ)) (s2 : GatewayAndOutput)
+        → reading_on s.shown side bytes.now ≡ Err Fragment → s.shown.link.due ≡ false
+        → wanted s.shown.link ≡ 0 → IsStepOn s (Frame side bytes) s2 → s2 ≡ s }
+{}
+
+/// The link has the records that it was promised, as far as it has places for them, after each step
+/// and in a gateway as it begins.
+pub fn steps_feed()
+    ensures step { (s : GatewayAndOutput) (event : Event) (s2 : GatewayAndOutput) (h : List Record)
+        → IsStepOn s event s2
+        → HasBytes event → IsBook s.shown.ledger.book → IsLoneRightly s.shown → KeepsBytes s.shown
+        → HasPushed s.shown h → wanted s.shown.link ≡ 0 → wanted s2.shown.link ≡ 0 }
+    ensures begun { (settings : Settings) (id : GatewayId) (boot : ℕ)
+        → wanted (begun settings id boot).link ≡ 0 }
+    ensures founded { (settings : Settings) (boot : ℕ)
+        → wanted (founded settings boot).link ≡ 0 }
+{
+    readings_law();
+}
+
+/// A step leaves the networks and the gateway's id as they are, and what was sent before stays in
+/// front of what it sends.
+pub fn steps_stay()
+    ensures networks { (s : GatewayAndOutput) (event : Event) (s2 : GatewayAndOutput)
+        → IsStepOn s event s2
+        → HasBytes event → IsBook s.shown.ledger.book → KeepsBytes s.shown → IsSetUp s.shown
+        → s2.shown.networks ≡ s.shown.networks }
+    ensures id { (s : GatewayAndOutput) (event : Event) (s2 : GatewayAndOutput)
+        → IsStepOn s event s2
+        → HasBytes event → IsBook s.shown.ledger.book → KeepsBytes s.shown
+        → id_of s2.shown ≡ id_of s.shown }
+    ensures frames { (s : GatewayAndOutput) (event : Event) (s2 : GatewayAndOutput)
+        → IsStepOn s event s2
+        → HasBytes event → IsBook s.shown.ledger.book → KeepsBytes s.shown → IsSetUp s.shown
+        → (sent : List Sent) × (s2.told.frames ≡ s.told.frames ++ sent) }
+{
+    readings_law();
+    frames_law();
+    own_frames_law();
+    tallies_law();
+}
+
+/// No frame is too long when it is read. And where packets are cut, none without Don't Fragment is
+/// dropped because it is too long: no packet that is translated, no error that is passed on, and no
+/// Echo to the box.
+pub fn never_too_long()
+    ensures read { (side : Side) (network : Network) (active up : Bool) (bytes : List ℕ)
+        → reading_of side network active up bytes ≢ Err TooLong }
+    ensures cut { (g : Shown) (side : Side) (bytes : List ℕ) → g.networks.pass ≡ true
+        → is_unbroken (frame_of bytes).body ≡ false
+        → verdict g side bytes ≢ outcome.Dropped TooLong }
+{
+    readings_law();
+}

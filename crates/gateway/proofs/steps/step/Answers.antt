@@ -1,7 +1,7 @@
 use Rattle.std.proofs.Common.{◌∙◌}
 use Rattle.spec_step.specs.Steps.{IsStepOn}
 use Rattle.forwarder.specs.Forwarder.{scene_on}
-use Rattle.gateway.proofs.Lacking.{lacks-memory}
+use Rattle.gateway.proofs.Lacking.{lacks-step}
 use Rattle.gateway.proofs.Lasting.{step-lasts}
 use Rattle.gateway.proofs.steps.step.Goals as goal
 
@@ -27,5 +27,20 @@ returns-clause-gateway c =
       settled = c.steps_settle.ensures s c.args.event s2 step g.settled;
     }
 
+pub returns-clause-stays : goal.returns-clause-stays
+returns-clause-stays c =
+    let g = c.requires.gateway in
+    let s = scene_on c.args.forwarder.now c.args.page.now in
+    let done = scene_on c.take_event.new.forwarder c.take_event.new.page in
+    let s2 = scene_on c.end_event.new.forwarder c.end_event.new.page in
+    let step : IsStepOn s c.args.event s2 = record { done = done; does = c.in_ok-outcome.ensures.does; sends = c.end_event.ensures } in
+    let front = c.steps_stay.ensures.frames s c.args.event s2 step c.recall_event.ensures g.book g.bytes c.recall_set_up.ensures in
+    record {
+      networks_are = c.steps_stay.ensures.networks s c.args.event s2 step c.recall_event.ensures g.book g.bytes c.recall_set_up.ensures;
+      id_is = c.steps_stay.ensures.id s c.args.event s2 step c.recall_event.ensures g.book g.bytes;
+      sent = front.0;
+      sent_are = front.1;
+    }
+
 pub returns-in_err-outcome-clause-lacks : goal.returns-in_err-outcome-clause-lacks
-returns-in_err-outcome-clause-lacks c = lacks-memory c.from_residual.result c.args.event c.args.forwarder.now c.args.page.now c.in_err-outcome.ensures.lacks
+returns-in_err-outcome-clause-lacks c = lacks-step c.from_residual.result c.args.event c.args.forwarder.now c.args.page.now c.in_err-outcome.ensures.lacks

@@ -1,4 +1,4 @@
-use Rattle.std.proofs.Common.{◌≡◌, ◌≤◌, ℕ, List, length, ◌∙◌, ap, subst, arith}
+use Rattle.std.proofs.Common.{◌≤◌, ℕ, List, length, ◌∙◌, ap, subst, arith}
 use Rattle.std.specs.List.{filter}
 use Rattle.bind_core.specs.Cores.{Core, ledger_of}
 use Rattle.link.specs.Link.{Link}

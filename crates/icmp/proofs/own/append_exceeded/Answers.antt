@@ -5,4 +5,4 @@ use Rattle.icmp.proofs.own.append_exceeded.Goals as goal
 pub returns-clause-items : goal.returns-clause-items
 returns-clause-items c =
     c.append.ensures.items
-    ∙ same-packet 11 0 0 0 c.args.list.now.items c.complaining.ensures.service c.complaining.ensures.from c.complaining.ensures.to c.quoted.ensures.bytes
+    ∙ same-packet 11 0 0 0 c.args.list.now.items c.complaining.ensures.cutting c.complaining.ensures.service c.complaining.ensures.from c.complaining.ensures.to c.quoted.ensures.bytes

@@ -6,4 +6,4 @@ use Rattle.simulation.proofs.sim.print_steps.Given as goal
 
 abbrev pub invariant-loop-event : goal.invariant-loop-event
 invariant-loop-event g l = IsPart (g.W.Write.contents l.fn.output) (g.W.Write.contents l.output)
-    (steps_lines no_counts l.events l.steps) (steps_lines l.counts (drop l.event-index l.events) l.rest)
+    (steps_lines l.cutter no_counts l.events l.steps) (steps_lines l.cutter l.counts (drop l.event-index l.events) l.rest)

@@ -4,6 +4,7 @@ use Rattle.std.proofs.KnownBytes.{Appends-trans}
 use Rattle.nat_types.specs.declared.events.WorldEvent.{WorldEvent}
 use Rattle.frame_sim.specs.Status.{has_refusal}
 use Rattle.frame_sim.specs.declared.events.Step.{Step}
+use Rattle.simulation.specs.Lines.{networks_in}
 use Rattle.simulation.specs.Runs.{IsPlayed, run_lines}
 use Rattle.simulation.proofs.sim.run_on.Goals as goal
 
@@ -19,6 +20,6 @@ returns g c =
         answers = c.in_ok-steps.ensures;
         refusals = c.status_of.ensures ∙ ap (λ (b : Bool). if b then 3 else 0) (c.has_refusal.ensures ∙ ap has_refusal all);
       };
-      text = subst (λ (ss : List Step). Appends (g.W.Write.contents c.args.output.now) (g.W.Write.contents c.print_world.new.output) (run_lines c.as_slice-events.result.now ss c.steps_of.new.world))
-          all (Appends-trans _ _ _ _ _ c.in_ok-print_steps.ensures c.in_ok-print_world.ensures);
+      text = subst (λ (ss : List Step). Appends (g.W.Write.contents c.args.output.now) (g.W.Write.contents c.print_world.new.output) (run_lines (networks_in c.args.world.now) c.as_slice-events.result.now ss c.steps_of.new.world))
+          all (Appends-trans _ _ _ _ _ (rw (c.of-cutter.ensures) at c.in_ok-print_steps.ensures) c.in_ok-print_world.ensures);
     })

@@ -1,14 +1,17 @@
-use Rattle.std.proofs.Common.{◌≡◌, ◌++◌, ◌∷◌, [], true, Some, ap, subst, sym, ◌∙◌}
+use Rattle.std.proofs.Common.{Bool, List, inr, ◌≡◌, ◌++◌, ◌∷◌, [], true, Some, ap, subst, sym, ◌∙◌}
 use Rattle.nat_types.specs.declared.gateways.GatewayId.{GatewayId}
 use Rattle.nat_types.specs.declared.gateways.GatewayId.TheVariants.{Zero, One}
 use Rattle.nat_types.specs.declared.notes.NoteKind.TheVariants.{Booted}
 use Rattle.settings.specs.declared.whole.Settings.{Settings}
 use Rattle.frame_sim.specs.World.{Half, World, settings_of}
-use Rattle.frame_sim.specs.Events.{may_boot, noting}
+use Rattle.nat_types.specs.declared.notes.Note.{Note}
+use Rattle.frame_sim.specs.declared.events.WorldFault.TheVariants.{PremiseBroken}
+use Rattle.frame_sim.specs.Events.{may_boot, noting, unless}
+use Rattle.frame_sim.specs.Runs.{fault_of}
 use Rattle.frame_sim.proofs.Taking.{sound-so}
 use Rattle.frame_sim.proofs.Turning.{boot-sound}
 use Rattle.spec_step.specs.Founding.{begun}
-use Rattle.spec_step.specs.Shown.{Shown}
+use Rattle.spec_gateway.specs.State.{GatewayState, beginning}
 use Rattle.frame_sim.proofs.worlds.World.boot.Goals as goal
 
 pub invariant_of-self-in-Zero : goal.invariant_of-self-in-Zero
@@ -19,9 +22,9 @@ invariant_of-self-in-Zero c =
     let may2 = subst (λ (i : GatewayId). may_boot w i n ≡ true) c.in-Zero.is may in
     let noted = c.in-Ok.ensures.trace ∙ ap (λ (i : GatewayId). w.trace ++ noting i 0 (Booted n) ∷ []) c.in-Zero.is in
     let own = c.settings.ensures ∙ ap (λ (x : World). settings_of x c.args.id) (sym c.self.view_is) in
-    let begins = c.in_ok-gateway.ensures.begins ∙ ap (λ (s : Settings). begun s c.args.id n) own ∙ ap (λ (i : GatewayId). begun (settings_of w i) i n) c.in-Zero.is in
-    let is = c.start.ensures ∙ ap (λ (g : Shown). let h : Half = record w.zero { gateway = Some g; boot = n } in h) begins in
-    sound-so w Zero _ c.start.new.self _ c.note_both.new.trace.items is noted (boot-sound c.goes_to.ensures c.books_begin.ensures.booted c.others_account.ensures.booted c.beginnings_account.ensures.begun w Zero n c.self.invariant may2)
+    let begins = c.in_ok-gateway.ensures.begins ∙ ap (λ (s : Settings). beginning (begun s c.args.id n)) own ∙ ap (λ (i : GatewayId). beginning (begun (settings_of w i) i n)) c.in-Zero.is in
+    let is = c.start.ensures ∙ ap (λ (g : GatewayState). let h : Half = record w.zero { gateway = Some g; boot = n } in h) begins in
+    sound-so w Zero _ c.start.new.self _ c.note_both.new.trace.items is noted (boot-sound c.goes_to.ensures c.books_begin.ensures.booted c.others_account.ensures.booted c.beginnings_account.ensures.begun c.parts_stay_bytes.ensures.begun w Zero n c.self.invariant may2)
 
 pub invariant_of-self-in-One : goal.invariant_of-self-in-One
 invariant_of-self-in-One c =
@@ -31,6 +34,12 @@ invariant_of-self-in-One c =
     let may2 = subst (λ (i : GatewayId). may_boot w i n ≡ true) c.in-One.is may in
     let noted = c.in-Ok.ensures.trace ∙ ap (λ (i : GatewayId). w.trace ++ noting i 0 (Booted n) ∷ []) c.in-One.is in
     let own = c.settings.ensures ∙ ap (λ (x : World). settings_of x c.args.id) (sym c.self.view_is) in
-    let begins = c.in_ok-gateway.ensures.begins ∙ ap (λ (s : Settings). begun s c.args.id n) own ∙ ap (λ (i : GatewayId). begun (settings_of w i) i n) c.in-One.is in
-    let is = c.start-in-One.ensures ∙ ap (λ (g : Shown). let h : Half = record w.one { gateway = Some g; boot = n } in h) begins in
-    sound-so w One _ c.start-in-One.new.self _ c.note_both.new.trace.items is noted (boot-sound c.goes_to.ensures c.books_begin.ensures.booted c.others_account.ensures.booted c.beginnings_account.ensures.begun w One n c.self.invariant may2)
+    let begins = c.in_ok-gateway.ensures.begins ∙ ap (λ (s : Settings). beginning (begun s c.args.id n)) own ∙ ap (λ (i : GatewayId). beginning (begun (settings_of w i) i n)) c.in-One.is in
+    let is = c.start-in-One.ensures ∙ ap (λ (g : GatewayState). let h : Half = record w.one { gateway = Some g; boot = n } in h) begins in
+    sound-so w One _ c.start-in-One.new.self _ c.note_both.new.trace.items is noted (boot-sound c.goes_to.ensures c.books_begin.ensures.booted c.others_account.ensures.booted c.beginnings_account.ensures.begun c.parts_stay_bytes.ensures.begun w One n c.self.invariant may2)
+
+pub returns-in-Err : goal.returns-in-Err
+returns-in-Err c =
+    let may : may_boot c.args.self.now c.args.id c.args.number ≡ true = sym c.may_boot.ensures ∙ (let f : c.may_boot.result ≡ true = cc in f) in
+    let same = ap (λ (notes : List Note). let x : World = record { settings = c.self.inside.settings.now; settings_one = c.self.inside.settings_one.now; zero = c.self.inside.zero; one = c.self.inside.one; trace = notes } in x) c.in-Err.ensures.unnoted in
+    (ap (λ (b : Bool). fault_of (unless b PremiseBroken)) (sym may), (λ is. inr c.in-Err.ensures.short), c.in-Err.ensures.untold, same ∙ c.self.view_is)

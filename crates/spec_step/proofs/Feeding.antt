@@ -1,0 +1,109 @@
+-- After a step the link has the records that it was promised, as far as it has places; so a fragment changes nothing.
+use Rattle.std.proofs.Common.{◌≡◌, ℕ, ◌+◌, ◌-◌, min, Bool, true, false, cond, Result, Err, List, length, take, drop, refl, sym, ap, subst, ◌∙◌, arith}
+use Rattle.std.specs.Borrow.{Bor}
+use Rattle.std.proofs.lemmas.List.{append-nil, length-append, length-take}
+use Rattle.nat_types.specs.declared.gateways.GatewayId.{GatewayId}
+use Rattle.nat_types.specs.declared.gateways.Side.{Side}
+use Rattle.nat_types.specs.declared.gateways.Side.TheVariants.{Inside, Outside}
+use Rattle.nat_types.specs.declared.records.Record.{Record}
+use Rattle.settings.specs.declared.whole.Settings.{Settings}
+use Rattle.link.specs.Link.{is_due_on_tick, sent_on_answer, sent_on_tick, wanted, with_fed}
+use Rattle.packet_rules.specs.declared.readings.Reading.{Reading}
+use Rattle.packet_rules.specs.declared.reasons.Reason.{Reason}
+use Rattle.packet_rules.specs.declared.reasons.Reason.TheVariants.{Fragment}
+use Rattle.output.specs.Output.{Output, with_datagram}
+use Rattle.spec_binding.specs.Books.{IsBook}
+use Rattle.spec_step.specs.declared.events.Event.{Event}
+use Rattle.spec_step.specs.declared.events.Event.TheVariants.{Frame, Datagram as Comes, Tick, Stop, PeerOff, Side as SideIs}
+use Rattle.spec_step.specs.Founding.{begun, founded}
+use Rattle.spec_step.specs.Machine.{HasBytes, HasPushed, IsLoneRightly, KeepsBytes}
+use Rattle.spec_step.specs.Parts.{answer_sent, datagram_in, handed_in, link_answered, link_ticked, side_plugged}
+use Rattle.spec_step.specs.Shown.{GatewayAndOutput, Shown, scene}
+use Rattle.spec_step.specs.Steps.{Does, FrameDoes, IsStepOn, ended_on}
+use Rattle.spec_step.specs.Verdict.{reading_on}
+use Rattle.spec_step.proofs.Packets.{Reads}
+use Rattle.spec_step.proofs.Stepping.{parts-stand}
+
+-- the gateway after this many records of a promised batch were fed to the link
+abbrev fed_by : Shown → ℕ → Shown
+fed_by g n = let book = g.ledger.book in
+    record g {
+      ledger = record g.ledger { book = record book { coming = drop n book.coming } };
+      link = with_fed g.link (take n book.coming);
+    }
+
+minus-nothing : (n : ℕ) → n - 0 ≡ n
+minus-nothing n = omega arith
+
+fed-nothing : (g : Shown) → fed_by g 0 ≡ g
+fed-nothing g =
+    ap (λ (fs : List Record). let x : Shown = record g { link = record g.link { fed = fs; promised = g.link.promised - 0 } } in x) (append-nil g.link.fed)
+    ∙ ap (λ (n : ℕ). let x : Shown = record g { link = record g.link { promised = n } } in x) (minus-nothing g.link.promised)
+
+handed-same : (g : Shown) → wanted g.link ≡ 0 → handed_in g ≡ g
+handed-same g fed = ap (λ (n : ℕ). fed_by g n) fed ∙ fed-nothing g
+
+-- no datagram is due
+unsent : (g : Shown) (told : Output) → g.link.due ≡ false → answer_sent g told ≡ scene g told
+unsent g told due =
+    ap (λ (b : Bool). let t : Output = cond b (with_datagram told (datagram_in g)) told in scene (record g { link = sent_on_answer g.link }) t) due
+    ∙ ap (λ (b : Bool). scene (record g { link = record g.link { due = b } }) told) (sym due)
+
+ends-alone : (s : GatewayAndOutput) → s.shown.link.due ≡ false → wanted s.shown.link ≡ 0 → link_answered s ≡ s
+ends-alone s due fed = ap (λ (g : Shown). answer_sent g s.told) (handed-same s.shown fed) ∙ unsent s.shown s.told due
+
+pub fragment-drops : (s : GatewayAndOutput) (side : Side) (bytes : Bor (List ℕ)) (s2 : GatewayAndOutput) → reading_on s.shown side bytes.now ≡ Err Fragment → s.shown.link.due ≡ false → wanted s.shown.link ≡ 0 → IsStepOn s (Frame side bytes) s2 → s2 ≡ s
+fragment-drops s side bytes s2 reads due fed step =
+    let same : step.done ≡ s = subst (λ (r : Result Reading Reason). FrameDoes s side bytes.now r step.done) reads step.does in
+    step.sends ∙ ap (λ (x : GatewayAndOutput). link_answered x) same ∙ ends-alone s due fed
+
+-- ---- what is fed
+
+-- where so many are promised and so many fed, no more is wanted once the link has what it wanted
+no-more : (promised fed more : ℕ) → more ≡ min promised (64 - fed) → min (promised - more) (64 - (fed + more)) ≡ 0
+no-more promised fed more is = omega (arith, is)
+
+handed-feeds : (g : Shown) → length g.ledger.book.coming ≡ g.link.promised → wanted (handed_in g).link ≡ 0
+handed-feeds g coming =
+    let e = g.link in
+    let rs = take (wanted e) g.ledger.book.coming in
+    let long : length rs ≡ min (wanted e) e.promised = length-take (wanted e) g.ledger.book.coming ∙ ap (λ (n : ℕ). min (wanted e) n) coming in
+    let all : length rs ≡ min e.promised (64 - length e.fed) = omega (arith, long) in
+    ap (λ (n : ℕ). min (e.promised - length rs) (64 - n)) (length-append e.fed rs) ∙ no-more e.promised (length e.fed) (length rs) all
+
+ticked-feeds : (s : GatewayAndOutput) → length s.shown.ledger.book.coming ≡ s.shown.link.promised → wanted (link_ticked s).shown.link ≡ 0
+ticked-feeds s coming = at (is_due_on_tick (handed_in s.shown).link s.shown.moment)
+  where
+    at : (b : Bool) → wanted (let x : GatewayAndOutput = (let g = handed_in s.shown in cond b (scene (record g { link = sent_on_tick g.link g.moment }) (with_datagram s.told (datagram_in g))) (scene g s.told)) in x.shown.link) ≡ 0
+    at true = handed-feeds s.shown coming
+    at false = handed-feeds s.shown coming
+
+plugged-feeds : (s : GatewayAndOutput) (side : Side) (up : Bool) → wanted s.shown.link ≡ 0 → wanted (side_plugged s side up).shown.link ≡ 0
+plugged-feeds s Inside up fed = fed
+plugged-feeds s Outside up fed = fed
+
+pub step-feeds : Reads → (s : GatewayAndOutput) (event : Event) (s2 : GatewayAndOutput) (h : List Record) → IsStepOn s event s2 → HasBytes event → IsBook s.shown.ledger.book → IsLoneRightly s.shown → KeepsBytes s.shown → HasPushed s.shown h
+    → wanted s.shown.link ≡ 0 → wanted s2.shown.link ≡ 0
+step-feeds reads s event s2 h step has book lone kept pushed fed =
+    let stands = parts-stand reads s event step.done h step.does has book lone kept pushed in
+    let coming = stands.1.pushed.coming in
+    subst (λ (x : GatewayAndOutput). wanted x.shown.link ≡ 0) (sym step.sends) (ends event step.does coming)
+  where
+    done : GatewayAndOutput
+    done = step.done
+
+    ends : (e : Event) → Does s e done → length done.shown.ledger.book.coming ≡ done.shown.link.promised → wanted (ended_on e done).shown.link ≡ 0
+    ends (Frame side bytes) does coming = handed-feeds done.shown coming
+    ends (Comes bytes) does coming = handed-feeds done.shown coming
+    ends (Tick now) does coming = ticked-feeds done coming
+    ends Stop does coming = handed-feeds done.shown coming
+    ends (PeerOff n) does coming = handed-feeds done.shown coming
+    ends (SideIs side up) does coming = subst (λ (x : GatewayAndOutput). wanted x.shown.link ≡ 0) (sym does) (plugged-feeds s side up fed)
+
+pub begun-feeds : (settings : Settings) (id : GatewayId) (boot : ℕ) → wanted (begun settings id boot).link ≡ 0
+unfolding begun
+begun-feeds settings id boot = refl
+
+pub founded-feeds : (settings : Settings) (boot : ℕ) → wanted (founded settings boot).link ≡ 0
+unfolding founded begun
+founded-feeds settings boot = refl
