@@ -34,7 +34,7 @@ use packet_rules::readings_law;
 use spec_step::{steps_pass_on, steps_say, steps_tell};
 
 /// A frame that brings nothing whole changes the fragments that are there, and nothing else. It tells nothing.
-pub fn parts_are_nothing()
+pub fn part_is_nothing()
     ensures { (s : GatewayState) (told : Output) (side : Side) (bytes : Bor (List ℕ))
         (s2 : GatewayState) (told2 : Output)
         → IsGatewayStep s told (Frame side bytes) s2 told2

@@ -6,5 +6,5 @@ mod laws;
 
 pub use laws::{
     as_without, fragments_stay_few, gateway_passes_on, gateway_says, gateway_tells, inner_steps,
-    parts_are_nothing, parts_stay_bytes, pieces_are_numbered, short_frames_stay,
+    part_is_nothing, parts_stay_bytes, pieces_are_numbered, short_frames_stay,
 };

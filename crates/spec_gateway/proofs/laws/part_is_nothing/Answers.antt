@@ -1,5 +1,5 @@
 use Rattle.spec_gateway.proofs.Inside.{part-nothing}
-use Rattle.spec_gateway.proofs.laws.parts_are_nothing.Goals as goal
+use Rattle.spec_gateway.proofs.laws.part_is_nothing.Goals as goal
 
 pub returns : goal.returns
 returns c = part-nothing
