@@ -1,16 +1,17 @@
 -- What is known of the fragments of a datagram with one more behind them.
-use Rattle.std.proofs.Common.{◌≡◌, ℕ, ◌+◌, ◌<◌, Bool, true, false, not, cond, ◌&&◌, ◌||◌, ◌==◌, nat_le, nat_lt, Option, Some, None, unwrap_or, List, [], ◌∷◌, ◌++◌, length, get_or, refl, ap, ◌∙◌, sym}
+use Rattle.std.proofs.Common.{◌≡◌, ℕ, ◌+◌, ◌<◌, Bool, true, false, not, cond, ◌&&◌, ◌||◌, ◌==◌, nat_le, nat_lt, Option, Some, None, unwrap_or, List, [], ◌∷◌, ◌++◌, length, get_or, refl, ap, ◌∙◌, sym, arith}
 use Rattle.std.specs.Option.{is_some}
-use Rattle.std.specs.List.{find, list_any, position}
+use Rattle.std.specs.List.{count_by, find, list_any, position}
 use Rattle.std.proofs.lemmas.Bool.{or_right}
+use Rattle.std.proofs.lemmas.List.Folds.{list_any-append}
 use Rattle.std.proofs.lemmas.List.Sums.{sum_by_push}
 use Rattle.ipv4.specs.Header.{header_of}
 use Rattle.fragments.specs.Fragment.{carried, contradicts, end_of, first_of, ipv4_in, is_last, is_same, starts}
 use Rattle.fragments.specs.Gathered.{effect_of}
-use Rattle.fragments.specs.Whole.{carried_by, first_header_length, is_whole, payload_end, whole_length}
+use Rattle.fragments.specs.Whole.{carried_by, first_fragment, first_header_length, is_marked, is_whole, payload_end, whole_length}
 use Rattle.fragments.specs.declared.datagrams.Effect.{Effect}
 use Rattle.fragments.specs.declared.datagrams.Effect.TheVariants.{Repeats, Contradicts, Waits, TooLong, Completes}
-use Rattle.fragments.proofs.Placing.{any-before, any-behind, first-at, found-at, found-before, found-behind}
+use Rattle.fragments.proofs.Placing.{any-before, any-behind, first-at, found-at, found-before, found-behind, none-counted}
 
 -- the first that passes, of these and one more
 with-before : (p : List ℕ → Bool) (fs : List (List ℕ)) (new : List ℕ) (at : ℕ) (d : List ℕ) → position p fs ≡ Some at → unwrap_or (find p (fs ++ new ∷ [])) [] ≡ get_or fs at d
@@ -25,6 +26,25 @@ with-none : (p : List ℕ → Bool) (fs : List (List ℕ)) (new : List ℕ) → 
 with-none p fs new none isnt =
     ap (λ (o : Option (List ℕ)). unwrap_or o []) (found-behind p fs new none)
     ∙ ap (λ (b : Bool). unwrap_or (let o : Option (List ℕ) = cond b (Some new) None in o) []) isnt
+
+-- the one with offset 0
+pub first-before : (fs : List (List ℕ)) (new : List ℕ) (at : ℕ) (d : List ℕ) → position starts fs ≡ Some at → first_fragment (fs ++ new ∷ []) ≡ get_or fs at d
+first-before fs new at d is = with-before starts fs new at d is
+
+pub first-behind : (fs : List (List ℕ)) (new : List ℕ) → position starts fs ≡ None → count_by starts (fs ++ new ∷ []) ≡ 1 → first_fragment (fs ++ new ∷ []) ≡ new
+first-behind fs new none once = by (starts new) refl
+  where
+    by : (b : Bool) → starts new ≡ b → first_fragment (fs ++ new ∷ []) ≡ new
+    by true is = with-new starts fs new none is
+    by false isnt = absurd (omega (arith, once, none-counted starts fs none, sum_by_push (λ (f : List ℕ). cond (starts f) 1 0) fs new, ap {B = ℕ} (λ (b : Bool). cond b 1 0) isnt))
+
+-- one of them met congestion
+pub marked-with : (fs : List (List ℕ)) (new : List ℕ) → list_any is_marked (fs ++ new ∷ []) ≡ (list_any is_marked fs || is_marked new)
+marked-with fs new = list_any-append is_marked fs (new ∷ []) ∙ ap (λ (b : Bool). list_any is_marked fs || b) (or-false (is_marked new))
+  where
+    or-false : (b : Bool) → (b || false) ≡ b
+    or-false true = refl
+    or-false false = refl
 
 -- the end that the last one gives
 pub end-before : (fs : List (List ℕ)) (new : List ℕ) (at : ℕ) (d : List ℕ) → position is_last fs ≡ Some at → payload_end (fs ++ new ∷ []) ≡ end_of (get_or fs at d)

@@ -1,12 +1,14 @@
 -- A payload into which fragments are written one after another, the last of the list first.
-use Rattle.std.proofs.Common.{◌≡◌, ◌⊎◌, inl, inr, ℕ, zero, suc, ◌+◌, ◌-◌, ◌<◌, ◌≤◌, Bool, true, false, cond, ◌&&◌, nat_lt, nat_le, List, [], ◌∷◌, ◌++◌, length, take, drop, replicate, map, get_or, refl, ap, ap₂, ◌∙◌, sym, subst, arith, append_assoc, length-append}
-use Rattle.std.specs.List.{AllByRecursion, range_with_len}
+use Rattle.std.proofs.Common.{◌≡◌, ◌⊎◌, inl, inr, ℕ, ◌+◌, ◌-◌, ◌<◌, ◌≤◌, Bool, true, false, cond, ◌&&◌, nat_lt, nat_le, List, [], ◌∷◌, ◌++◌, length, take, drop, get_or, refl, ap, ◌∙◌, sym, subst, arith, append_assoc, length-append}
+use Rattle.std.specs.List.{AllByRecursion, count_by}
 use Rattle.std.proofs.lemmas.Bool.{cases_lt, and_from, and_left, and_right, lt-ltb, le-ltb, le-leb, lt-leb}
-use Rattle.std.proofs.lemmas.List.{get_or_append_left, get_or-append_right, get_or-take, get_or-drop, length-take-le, length-drop, length-replicate, drop_all, drop_at, take-append-drop, take_all, take_at}
+use Rattle.std.proofs.lemmas.List.{get_or_append_left, get_or-append_right, get_or-take, get_or-drop, length-take-le, length-drop, drop_all, drop_at, take-append-drop, take_all, take_at}
 use Rattle.std.proofs.lemmas.List.FromFn.{fill_by_all, get_or-map-range_with_len, length-map-range_with_len}
 use Rattle.frames.specs.Bytes.{Puts}
 use Rattle.fragments.specs.Fragment.{carried, carries, end_of, first_of}
-use Rattle.fragments.specs.Whole.{byte_at}
+use Rattle.fragments.specs.Over.{byte_over, written_over}
+use Rattle.fragments.specs.Whole.{IsReady, byte_at, payload_again, payload_end}
+use Rattle.fragments.proofs.Counting.{count-cons, tally}
 
 -- bytes written at a place: what stands where
 put-get : (at k : ℕ) (bytes old : List ℕ) → at + length bytes ≤ length old
@@ -46,7 +48,7 @@ put-get at k bytes old fits = by (cases_lt k at) (cases_lt k (at + length bytes)
         ∙ (get_or-drop (at + length bytes) old (k - (at + length bytes)) 0
         ∙ ap (λ (n : ℕ). get_or old n 0) (let n : at + length bytes + (k - (at + length bytes)) ≡ k = omega (arith, behind) in n)))
 
-length-put : (at : ℕ) (bytes old : List ℕ) → at + length bytes ≤ length old → length (take at old ++ bytes ++ drop (at + length bytes) old) ≡ length old
+pub length-put : (at : ℕ) (bytes old : List ℕ) → at + length bytes ≤ length old → length (take at old ++ bytes ++ drop (at + length bytes) old) ≡ length old
 length-put at bytes old fits = omega (
   arith,
   length-append (take at old ++ bytes) (drop (at + length bytes) old),
@@ -56,40 +58,35 @@ length-put at bytes old fits = omega (
   fits,
 )
 
--- the bytes of these fragments, up to a place
-abbrev pub bytes_to : ℕ → List (List ℕ) → List ℕ
-bytes_to n fragments = map (byte_at fragments) (range_with_len 0 n)
+length-over : (old : List ℕ) (fs : List (List ℕ)) → length (written_over old fs) ≡ length old
+length-over old fs = length-map-range_with_len (byte_over old fs) 0 (length old)
 
 -- one more fragment is written before the others
-pub filled-more : (n : ℕ) (f : List ℕ) (fs : List (List ℕ)) (old new : List ℕ) → end_of f ≤ n → old ≡ bytes_to n fs → Puts (first_of f) (carried f) old new → new ≡ bytes_to n (f ∷ fs)
+pub filled-more : (was : List ℕ) (f : List ℕ) (fs : List (List ℕ)) (old new : List ℕ) → end_of f ≤ length was → old ≡ written_over was fs → Puts (first_of f) (carried f) old new → new ≡ written_over was (f ∷ fs)
 unfolding carries
-filled-more n f fs old new within was put =
-    let size : length old ≡ n = ap length was ∙ length-map-range_with_len (byte_at fs) 0 n in
+filled-more was f fs old new within is put =
+    let size : length old ≡ length was = ap length is ∙ length-over was fs in
     let fits : first_of f + length (carried f) ≤ length old = omega (arith, within, size) in
-    let long : length new ≡ n = ap length put ∙ length-put (first_of f) (carried f) old fits ∙ size in
-    fill_by_all (byte_at (f ∷ fs)) new n 0 long
+    let long : length new ≡ length was = ap length put ∙ length-put (first_of f) (carried f) old fits ∙ size in
+    fill_by_all (byte_over was (f ∷ fs)) new (length was) 0 long
     (λ k below. ap (λ (xs : List ℕ). get_or xs k 0) put
     ∙ (put-get (first_of f) k (carried f) old fits
     ∙ ap (λ (x : ℕ). cond (carries k f) (get_or (carried f) (k - first_of f) 0) x)
-    (ap (λ (xs : List ℕ). get_or xs k 0) was ∙ get_or-map-range_with_len (byte_at fs) 0 n k k 0 below (omega arith))))
+    (ap (λ (xs : List ℕ). get_or xs k 0) is ∙ get_or-map-range_with_len (byte_over was fs) 0 (length was) k k 0 below (omega arith))))
 
 -- no fragment is written yet
-zeros : (f : ℕ → ℕ) (a n : ℕ) → ((k : ℕ) → f k ≡ 0) → replicate n 0 ≡ map f (range_with_len a n)
-zeros f a zero none = refl
-zeros f a (suc n) none = ap₂ (λ (x : ℕ) (xs : List ℕ). x ∷ xs) (sym (none a)) (zeros f (a + 1) n none)
-
-pub filled-none : (n : ℕ) → replicate n 0 ≡ bytes_to n []
-filled-none n = zeros (byte_at []) 0 n (λ k. refl)
+pub filled-none : (was : List ℕ) → was ≡ written_over was []
+filled-none was = fill_by_all (byte_over was []) was (length was) 0 refl (λ k below. refl)
 
 -- ---- a loop that writes the fragments of a list, the last one first
-pub record Filled (n : ℕ) (all left : List (List ℕ)) (payload : List ℕ) : Type 0 where
+pub record Filled (was : List ℕ) (all left : List (List ℕ)) (payload : List ℕ) : Type 0 where
   pub front : left ≡ take (length left) all
-  pub written : payload ≡ bytes_to n (drop (length left) all)
+  pub written : payload ≡ written_over was (drop (length left) all)
 
-pub fill-begins : (n : ℕ) (all : List (List ℕ)) (payload : List ℕ) → payload ≡ replicate n 0 → Filled n all all payload
-fill-begins n all payload was = record {
+pub fill-begins : (was : List ℕ) (all : List (List ℕ)) → Filled was all all was
+fill-begins was all = record {
   front = sym (take_all (length all) all (omega arith));
-  written = was ∙ filled-none n ∙ ap (bytes_to n) (sym (drop_all (length all) all (omega arith)));
+  written = filled-none was ∙ ap (written_over was) (sym (drop_all (length all) all (omega arith)));
 }
 
 -- the list, around the last one of what is left
@@ -103,39 +100,62 @@ one-of-all : (P : List ℕ → Type 0) (xs ys : List (List ℕ)) (x : List ℕ) 
 one-of-all P [] ys x all = all.0
 one-of-all P (y ∷ xs) ys x all = one-of-all P xs ys x all.1
 
-pub fill-within : (n : ℕ) (all left before : List (List ℕ)) (f payload : List ℕ) → AllByRecursion (λ (g : List ℕ). end_of g ≤ n) all → Filled n all left payload → left ≡ before ++ f ∷ [] → end_of f ≤ n
-fill-within n all left before f payload within is last =
-    one-of-all (λ (g : List ℕ). end_of g ≤ n) before (drop (length left) all) f
-    (subst (λ (xs : List (List ℕ)). AllByRecursion (λ (g : List ℕ). end_of g ≤ n) xs) (split all left before f is.front last) within)
+pub fill-within : (was : List ℕ) (all left before : List (List ℕ)) (f payload : List ℕ) → AllByRecursion (λ (g : List ℕ). end_of g ≤ length was) all → Filled was all left payload → left ≡ before ++ f ∷ [] → end_of f ≤ length was
+fill-within was all left before f payload within is last =
+    one-of-all (λ (g : List ℕ). end_of g ≤ length was) before (drop (length left) all) f
+    (subst (λ (xs : List (List ℕ)). AllByRecursion (λ (g : List ℕ). end_of g ≤ length was) xs) (split all left before f is.front last) within)
 
-pub fill-long : (n : ℕ) (all left : List (List ℕ)) (payload : List ℕ) → Filled n all left payload → length payload ≡ n
-fill-long n all left payload is = ap length is.written ∙ length-map-range_with_len (byte_at (drop (length left) all)) 0 n
+pub fill-long : (was : List ℕ) (all left : List (List ℕ)) (payload : List ℕ) → Filled was all left payload → length payload ≡ length was
+fill-long was all left payload is = ap length is.written ∙ length-over was (drop (length left) all)
 
-pub fill-goes : (n : ℕ) (all left before : List (List ℕ)) (f old new : List ℕ) → AllByRecursion (λ (g : List ℕ). end_of g ≤ n) all → Filled n all left old → left ≡ before ++ f ∷ [] → Puts (first_of f) (carried f) old new → Filled n all before new
-fill-goes n all left before f old new within is last put =
+pub fill-goes : (was : List ℕ) (all left before : List (List ℕ)) (f old new : List ℕ) → AllByRecursion (λ (g : List ℕ). end_of g ≤ length was) all → Filled was all left old → left ≡ before ++ f ∷ [] → Puts (first_of f) (carried f) old new → Filled was all before new
+fill-goes was all left before f old new within is last put =
     let around = split all left before f is.front last in
     let ahead : take (length before) all ≡ before = ap (take (length before)) around ∙ take_at before (f ∷ drop (length left) all) (length before) refl in
     let behind : drop (length before) all ≡ f ∷ drop (length left) all = ap (drop (length before)) around ∙ drop_at before (f ∷ drop (length left) all) (length before) refl in
     record {
       front = sym ahead;
-      written = filled-more n f (drop (length left) all) old new (fill-within n all left before f old within is last) is.written put ∙ ap (bytes_to n) (sym behind);
+      written = filled-more was f (drop (length left) all) old new (fill-within was all left before f old within is last) is.written put ∙ ap (written_over was) (sym behind);
     }
 
-pub fill-ends : (n : ℕ) (all left : List (List ℕ)) (payload : List ℕ) → Filled n all left payload → length left ≡ 0 → payload ≡ bytes_to n all
-fill-ends n all left payload is none = is.written ∙ ap (λ (k : ℕ). bytes_to n (drop k all)) none
+pub fill-ends : (was : List ℕ) (all left : List (List ℕ)) (payload : List ℕ) → Filled was all left payload → length left ≡ 0 → payload ≡ written_over was all
+fill-ends was all left payload is none = is.written ∙ ap (λ (k : ℕ). written_over was (drop k all)) none
 
--- ---- zeros at the end of a list, into which fragments are written
-pub record IsTail (items old : List ℕ) (start n : ℕ) (fs : List (List ℕ)) : Type 0 where
-  pub zeros : drop start items ≡ replicate (length (drop start items)) 0
-  pub within : AllByRecursion (λ (f : List ℕ). end_of f ≤ length (drop start items)) fs
-  pub written : take start items ++ bytes_to (length (drop start items)) fs ≡ old ++ bytes_to n fs
+-- ---- what was there before doesn't count where each place is carried
+over-last : (was mid new : List ℕ) (there : List (List ℕ)) (k : ℕ) → end_of new ≤ length was → Puts (first_of new) (carried new) was mid → byte_over mid there k ≡ byte_over was (there ++ new ∷ []) k
+unfolding carries
+over-last was mid new [] k within put =
+    ap (λ (xs : List ℕ). get_or xs k 0) put ∙ put-get (first_of new) k (carried new) was within
+over-last was mid new (f ∷ fs) k within put =
+    ap (λ (x : ℕ). cond (carries k f) (get_or (carried f) (k - first_of f) 0) x) (over-last was mid new fs k within put)
 
-pub tail-is : (items old : List ℕ) (start n : ℕ) (fs : List (List ℕ)) → length old ≡ start → items ≡ old ++ replicate n 0 → AllByRecursion (λ (f : List ℕ). end_of f ≤ n) fs → IsTail items old start n fs
-tail-is items old start n fs long same within =
-    let tail : drop start items ≡ replicate n 0 = ap (drop start) same ∙ drop_at old (replicate n 0) start long in
-    let size : length (drop start items) ≡ n = ap length tail ∙ length-replicate n 0 in
-    record {
-      zeros = tail ∙ ap (λ (m : ℕ). replicate m 0) (sym size);
-      within = subst (λ (m : ℕ). AllByRecursion (λ (f : List ℕ). end_of f ≤ m) fs) (sym size) within;
-      written = ap₂ (λ (xs : List ℕ) (m : ℕ). xs ++ bytes_to m fs) (ap (take start) same ∙ take_at old (replicate n 0) start long) size;
-    }
+over-carried : (was : List ℕ) (fs : List (List ℕ)) (k : ℕ) → count_by (carries k) fs ≡ 1 → byte_over was fs k ≡ byte_at fs k
+over-carried was [] k once = absurd (omega (arith, once))
+over-carried was (f ∷ fs) k once = by (carries k f) refl (λ rest. over-carried was fs k rest)
+  where
+    by : (b : Bool) → carries k f ≡ b → (count_by (carries k) fs ≡ 1 → byte_over was fs k ≡ byte_at fs k)
+        → cond b (get_or (carried f) (k - first_of f) 0) (byte_over was fs k) ≡ cond b (get_or (carried f) (k - first_of f) 0) (byte_at fs k)
+    by true is rest = refl
+    by false is rest = rest (omega (arith, once, count-cons (carries k) f fs, ap tally is))
+
+-- the payload, where the one that completes them was written first
+pub filled-all : (was mid payload new : List ℕ) (there : List (List ℕ)) → IsReady (there ++ new ∷ []) → length was ≡ payload_end (there ++ new ∷ []) → end_of new ≤ length was → Puts (first_of new) (carried new) was mid → payload ≡ written_over mid there → payload ≡ payload_again (there ++ new ∷ [])
+filled-all was mid payload new there ready long within put is =
+    let all : List (List ℕ) = there ++ new ∷ [] in
+    let size : length mid ≡ payload_end (there ++ new ∷ []) = ap length put ∙ length-put (first_of new) (carried new) was within ∙ long in
+    fill_by_all (byte_at (there ++ new ∷ [])) payload (payload_end (there ++ new ∷ [])) 0 (ap length is ∙ length-over mid there ∙ size)
+    (λ k below. ap (λ (xs : List ℕ). get_or xs k 0) is
+    ∙ (get_or-map-range_with_len (byte_over mid there) 0 (length mid) k k 0 (omega (arith, below, size)) (omega arith)
+    ∙ (over-last was mid new there k within put
+    ∙ over-carried was (there ++ new ∷ []) k (ready.complete.each k below))))
+
+-- none ends behind the end of the payload: of these, and of the one that completes them
+pub record AreWithin (n : ℕ) (there : List (List ℕ)) (new : List ℕ) : Type 0 where
+  pub each : AllByRecursion (λ (f : List ℕ). end_of f ≤ n) there
+  pub last : end_of new ≤ n
+
+pub within-both : (n : ℕ) (there : List (List ℕ)) (new : List ℕ) → AllByRecursion (λ (f : List ℕ). end_of f ≤ n) (there ++ new ∷ []) → AreWithin n there new
+within-both n [] new all = record { each = tt; last = all.0 }
+within-both n (f ∷ fs) new all =
+    let rest = within-both n fs new all.1 in
+    record { each = (all.0, rest.each); last = rest.last }

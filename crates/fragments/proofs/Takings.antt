@@ -1,10 +1,9 @@
 -- What comes of a fragment, by what a call answered.
-use Rattle.std.proofs.Common.{◌≡◌, ◌⊎◌, inl, inr, ◌≤◌, ◌+◌, ℕ, Bool, false, cond, Option, Some, None, unwrap_or, Result, Ok, Err, OnOk, OnErr, List, [], length, ap, ◌∙◌, sym, subst}
+use Rattle.std.proofs.Common.{◌≡◌, ◌⊎◌, inr, ◌≤◌, ◌+◌, ℕ, Bool, false, cond, Option, Some, None, unwrap_or, Result, Ok, Err, OnOk, OnErr, List, [], length, ap, ◌∙◌, sym, subst}
 use Rattle.std.specs.List.{find, position}
-use Rattle.memory.specs.Memory.{WasRefused}
 use Rattle.fragments.specs.Fragment.{IsFragment, is_broken, trimmed}
 use Rattle.fragments.specs.Gathered.{AreKept, Datagram, Taking, arrived, begun, effect_of, held, is_named, left_first, lost_for, refused, taken}
-use Rattle.fragments.specs.Memory.{LacksCopy, LacksWhole}
+use Rattle.fragments.specs.Memory.{LacksCopy, LacksUpTo, LacksWhole}
 use Rattle.fragments.specs.Name.{name_of}
 use Rattle.fragments.specs.Places.{fragments_at, joined_at, with_at}
 use Rattle.fragments.specs.Whole.{reassembled, whole_length}
@@ -37,13 +36,12 @@ taken-none now frame f ds is fine none =
 
 -- what a call lacks that makes a whole frame
 pub lacks-join : (at : ℕ) (f : List ℕ) (ds : List Datagram) → IsFragment f → is_broken f ≡ false → AreKept ds → position (is_named (name_of f)) ds ≡ Some at → effect_of (fragments_at at ds) f ≡ Completes
-    → LacksCopy f ⊎ WasRefused (14 + whole_length (with_at at f ds)) → LacksCopy f ⊎ LacksWhole (joined_at at f ds).made
-lacks-join at f ds is fine kept there effect (inl copy) = inl copy
-lacks-join at f ds is fine kept there effect (inr whole) =
+    → LacksUpTo (14 + whole_length (with_at at f ds)) → LacksCopy f ⊎ LacksWhole (joined_at at f ds).made
+lacks-join at f ds is fine kept there effect whole =
     let d : Datagram = record { name = name_of f; since = 0; fragments = [] } in
     let long = (ready-at at f ds d is fine kept there effect).1 in
     let made : (joined_at at f ds).made ≡ Some (reassembled (with_at at f ds)) = ap (λ (t : Taking). t.made) (joined-as at f ds Completes effect) in
-    inr (subst LacksWhole (sym made) (subst WasRefused (sym long) whole))
+    inr (subst LacksWhole (sym made) (subst LacksUpTo (sym long) whole))
 
 -- what is kept after a call, whatever it answers
 pub kept-either : {T E : Type 0} (r : Result T E) (now : ℕ) (frame : List ℕ) (ds ds2 : List Datagram) (w w2 : List ℕ) → IsFragment frame → AreKept ds → length w ≤ 65549

@@ -6,5 +6,6 @@ pub mod Header
 pub mod Memory
 pub mod Name
 pub mod Options
+pub mod Over
 pub mod Places
 pub mod Whole

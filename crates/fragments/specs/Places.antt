@@ -1,5 +1,5 @@
 -- Datagrams by their place in the list.
-use Rattle.std.specs.Prelude.{ℕ, zero, suc, ◌-◌, List, [], ◌∷◌, ◌++◌, length, take}
+use Rattle.std.specs.Prelude.{ℕ, zero, suc, List, [], ◌∷◌, ◌++◌}
 use Rattle.fragments.specs.Gathered.{Datagram, Taking, effect_of, joined}
 use Rattle.fragments.specs.Name.{name_of}
 
@@ -19,13 +19,6 @@ added_at at fragment [] = []
 added_at zero fragment (d ∷ datagrams) =
     record d { fragments = d.fragments ++ fragment ∷ [] } ∷ datagrams
 added_at (suc at) fragment (d ∷ datagrams) = d ∷ added_at at fragment datagrams
-
--- the datagrams without the last fragment of the one at a place
-abbrev pub without_last_at : ℕ → List Datagram → List Datagram
-without_last_at at [] = []
-without_last_at zero (d ∷ datagrams) =
-    record d { fragments = take (length d.fragments - 1) d.fragments } ∷ datagrams
-without_last_at (suc at) (d ∷ datagrams) = d ∷ without_last_at at datagrams
 
 -- what comes of a fragment beside those of the datagram at a place
 abbrev pub joined_at : ℕ → List ℕ → List Datagram → Taking

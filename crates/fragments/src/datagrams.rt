@@ -1,5 +1,5 @@
 //! A datagram of which fragments are there, and what one more does beside them.
-ghost use Rattle.std.specs.Prelude.{◌≡◌, ◌≤◌, ◌-◌, ◌*◌, ◌++◌, ◌∷◌, [], length, take, vec_len, position, OnOk, OnErr, is_ok, if◌then◌else◌};
+ghost use Rattle.std.specs.Prelude.{◌≡◌, ◌≤◌, ◌*◌, ◌++◌, ◌∷◌, [], length, position, OnOk, OnErr, is_ok, if◌then◌else◌};
 ghost use Rattle.std.specs.List.{count_by, list_any, sum_by};
 ghost use Rattle.memory.specs.Memory.{WasRefused};
 ghost use Rattle.fragments.specs.Fragment.{carried, contradicts, is_last, is_same, starts};
@@ -100,15 +100,6 @@ impl Datagram {
         ensures refused { OnErr result (WasRefused 1) }
     {
         memory::push(&mut self.fragments, fragment)
-    }
-
-    /// Takes the last fragment away.
-    pub(crate) fn pop(&mut self)
-        ensures { self.new ≡ record self.old {
-          fragments = take (length self.old.fragments - 1) self.old.fragments;
-        } }
-    {
-        let _ = self.fragments.pop();
     }
 }
 

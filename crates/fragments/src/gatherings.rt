@@ -1,16 +1,15 @@
 //! The fragments that are there, and what comes of one more.
-ghost use Rattle.std.specs.Prelude.{◌≡◌, ◌≤◌, ◌<◌, ◌⊎◌, ◌+◌, ◌==◌, [], length, position, unwrap_or, vec_len, vec_capacity};
+ghost use Rattle.std.specs.Prelude.{◌≡◌, ◌≤◌, ◌<◌, ◌⊎◌, ◌+◌, ◌==◌, length, position, unwrap_or, vec_len, vec_capacity};
 ghost use Rattle.std.specs.Prelude.{IfOk, OnOk, OnErr, false};
 ghost use Rattle.std.specs.List.{count_by, remove};
-ghost use Rattle.memory.specs.Memory.{WasRefused};
 ghost use Rattle.fragments.specs.Fragment.{IsFragment, is_broken};
 ghost use Rattle.fragments.specs.Name.{name_of};
 ghost use Rattle.fragments.specs.Whole.{IsReady, reassembled, whole_length};
 ghost use Rattle.fragments.specs.Gathered.{AreKept, IsKept, after, after_end, after_join, begun, dropped_old};
 ghost use Rattle.fragments.specs.Gathered.{effect_of, ended, is_from, is_named, left_first, lost_for, none_there, of_side, taken};
 ghost use Rattle.fragments.specs.Gathered.{with_place, without_first, without_old};
-ghost use Rattle.fragments.specs.Places.{added_at, fragments_at, joined_at, with_at, without_last_at};
-ghost use Rattle.fragments.specs.Memory.{LacksCopy, LacksTaking, LacksWhole};
+ghost use Rattle.fragments.specs.Places.{added_at, fragments_at, joined_at, with_at};
+ghost use Rattle.fragments.specs.Memory.{LacksCopy, LacksTaking, LacksUpTo, LacksWhole};
 
 use crate::Name;
 use crate::copies::Fragment;
@@ -249,52 +248,51 @@ fn add(
     datagram.push(copy)
 }
 
-/// Writes the whole frame of the datagram at a place into an empty list that has the capacity for it.
-fn write_at(frame: &mut Vec<u8>, datagrams: &[Datagram], at: usize)
+/// Writes the whole frame of the datagram at a place and the fragment that completes it over bytes that are as many.
+fn write_at(frame: &mut [u8], datagrams: &[Datagram], at: usize, fragment: &FragmentView<'_>)
     requires at { at < length datagrams.now }
-    requires empty { frame.old.items ≡ [] }
-    requires ready { IsReady (fragments_at at datagrams.now) }
-    requires room { vec_len frame.old + (14 + whole_length (fragments_at at datagrams.now))
-        ≤ vec_capacity frame.old }
-    ensures { frame.new.items ≡ reassembled (fragments_at at datagrams.now) }
+    requires ready { IsReady (with_at at fragment.now.frame.now datagrams.now) }
+    requires long { length frame.old
+        ≡ 14 + whole_length (with_at at fragment.now.frame.now datagrams.now) }
+    ensures { frame.new ≡ reassembled (with_at at fragment.now.frame.now datagrams.now) }
 {
     let datagram = &datagrams[at];
-    write_whole(frame, datagram.fragments());
+    write_whole(frame, datagram.fragments(), fragment);
 }
 
-/// Takes the last fragment of the datagram at a place away.
-fn take_last(datagrams: &mut Vec<Datagram>, at: usize)
-    requires { at < vec_len datagrams.old }
-    ensures { datagrams.new.items ≡ without_last_at at datagrams.old.items }
+/// Gives a list so many bytes, whichever they are. Takes memory for those that it lacks; fails where there isn't enough, and
+/// changes nothing then.
+fn give_length(list: &mut Vec<u8>, count: usize) -> Result<(), AllocError>
+    ensures len { OnOk result (length list.new.items ≡ count) }
+    ensures err { OnErr result (list.new.items ≡ list.old.items) }
+    ensures refused { OnErr result (LacksUpTo count) }
 {
-    let datagram = &mut datagrams[at];
-    datagram.pop();
+    memory::reserve(list, count.saturating_sub(list.len()))?;
+    match list.resize(count, 0) {
+        Ok(()) => Ok(()),
+        Err(_full) => unreachable!(),
+    }
 }
 
-/// Makes the whole frame of a datagram and the fragment that completes it, and leaves the datagram as it was. Fails where
-/// there isn't enough memory, and changes nothing then.
+/// Makes the whole frame of a datagram and the fragment that completes it. Fails where there isn't enough memory, and changes
+/// nothing then.
 fn make_whole(
-    datagrams: &mut Vec<Datagram>,
+    datagrams: &[Datagram],
     at: usize,
     fragment: &FragmentView<'_>,
     whole: &mut Vec<u8>,
 ) -> Result<(), AllocError>
-    requires at { at < vec_len datagrams.old }
-    requires ready { IsReady (with_at at fragment.now.frame.now datagrams.old.items) }
-    ensures datagrams { datagrams.new.items ≡ datagrams.old.items }
+    requires at { at < length datagrams.now }
+    requires ready { IsReady (with_at at fragment.now.frame.now datagrams.now) }
     ensures whole { OnOk result (whole.new.items
-        ≡ reassembled (with_at at fragment.now.frame.now datagrams.old.items)) }
+        ≡ reassembled (with_at at fragment.now.frame.now datagrams.now)) }
     ensures err { OnErr result (whole.new.items ≡ whole.old.items) }
-    ensures refused { OnErr result (LacksCopy fragment.now.frame.now ⊎ WasRefused
-        (14 + whole_length (with_at at fragment.now.frame.now datagrams.old.items))) }
+    ensures refused { OnErr result
+        (LacksUpTo (14 + whole_length (with_at at fragment.now.frame.now datagrams.now))) }
 {
-    let alloc = *datagrams.allocator();
     let length = length_at(datagrams, at, fragment);
-    let mut frame = memory::with_room(alloc, ETHERNET + length)?;
-    add(datagrams, at, fragment)?;
-    write_at(&mut frame, datagrams, at);
-    take_last(datagrams, at);
-    *whole = frame;
+    give_length(whole, ETHERNET + length)?;
+    write_at(whole, datagrams, at, fragment);
     Ok(())
 }
 

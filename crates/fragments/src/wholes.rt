@@ -1,15 +1,17 @@
 //! The whole frame that the fragments of a datagram make.
-ghost use Rattle.std.specs.Prelude.{◌≡◌, ◌≤◌, ◌+◌, ◌++◌, [], length, take, drop, map, replicate, vec_len, vec_capacity};
-ghost use Rattle.std.specs.List.{AllByRecursion, range_with_len};
+ghost use Rattle.std.specs.Prelude.{◌≡◌, ◌≤◌, ◌+◌, ◌++◌, [], ◌∷◌, length, take};
+ghost use Rattle.std.specs.List.{AllByRecursion, list_any};
 ghost use Rattle.frames.specs.Bytes.{Puts};
-ghost use Rattle.fragments.specs.Fragment.{carried, end_of, first_of};
-ghost use Rattle.fragments.specs.Whole.{IsComplete, IsReady, byte_at, first_fragment, last_fragment, payload_again, payload_end};
+ghost use Rattle.ipv4.specs.Header.{header_of, options_of};
+ghost use Rattle.fragments.specs.Fragment.{carried, end_of, first_of, ipv4_in};
+ghost use Rattle.fragments.specs.Header.{header_with};
+ghost use Rattle.fragments.specs.Over.{written_over};
+ghost use Rattle.fragments.specs.Whole.{IsComplete, IsReady, first_fragment, is_marked, payload_again, payload_end};
 ghost use Rattle.fragments.specs.Whole.{reassembled, whole_fields, whole_length, whole_service};
 
-use crate::appending::{append_reserved, append_zeros};
 use crate::copies::Fragment;
-use crate::datagrams::{is_one_marked, place_of_first, place_of_last};
-use crate::headers::{Fields, summed};
+use crate::datagrams::{is_one_marked, place_of_first};
+use crate::headers::{Fields, layout, summed};
 use crate::views::FragmentView;
 
 /// The reserved bit, the one flag that a whole packet keeps.
@@ -18,56 +20,73 @@ const RESERVED: u16 = 0x8000;
 /// The last two bits of a type of service, where congestion was met (RFC 3168).
 const CONGESTION: u8 = 3;
 
-/// Returns the fragment with offset 0.
-fn first_fragment(fragments: &[Fragment]) -> FragmentView<'_>
-    requires { IsComplete fragments.now }
-    ensures { result.frame.now ≡ first_fragment fragments.now }
+/// The bytes of an Ethernet header.
+const ETHERNET: usize = 14;
+
+/// The place of the options in a frame.
+const OPTIONS: usize = ETHERNET + layout::FIXED;
+
+/// Returns the fragment with offset 0, of these and the one that completes them.
+fn first_with<'a>(there: &'a [Fragment], new: &FragmentView<'a>) -> FragmentView<'a>
+    requires { IsComplete (there.now ++ new.now.frame.now ∷ []) }
+    ensures { result.frame.now ≡ first_fragment (there.now ++ new.now.frame.now ∷ []) }
 {
-    match place_of_first(fragments) {
-        Some(at) => fragments[at].view(),
-        None => unreachable!(),
+    match place_of_first(there) {
+        Some(at) => there[at].view(),
+        None => *new,
     }
 }
 
-/// Returns the end of the payload.
-#[tactic(auto, unfolding(crate::specs::Whole::payload_end))]
-fn payload_end(fragments: &[Fragment]) -> usize
-    requires { IsComplete fragments.now }
-    ensures { result ≡ payload_end fragments.now }
+/// Whether one of these fragments and one more met congestion.
+fn is_marked_with(there: &[Fragment], new: &FragmentView<'_>) -> bool
+    ensures { result ≡ list_any is_marked (there.now ++ new.now.frame.now ∷ []) }
 {
-    match place_of_last(fragments) {
-        Some(at) => fragments[at].view().end(),
-        None => unreachable!(),
-    }
+    is_one_marked(there) || new.is_marked()
 }
 
 #[tactic(auto, unfolding(crate::specs::Whole::whole_service))]
-fn service(fragments: &[Fragment], first: &FragmentView<'_>) -> u8
-    requires { first.now.frame.now ≡ first_fragment fragments.now }
-    ensures { result ≡ whole_service fragments.now }
+fn service(there: &[Fragment], new: &FragmentView<'_>, first: &FragmentView<'_>) -> u8
+    requires { first.now.frame.now
+        ≡ first_fragment (there.now ++ new.now.frame.now ∷ []) }
+    ensures { result ≡ whole_service (there.now ++ new.now.frame.now ∷ []) }
 {
     let service = first.type_of_service();
-    if is_one_marked(fragments) {
+    if is_marked_with(there, new) {
         service / 4 * 4 + CONGESTION
     } else {
         service
     }
 }
 
-/// Returns the fields of the whole packet's header that aren't those of the first fragment.
-#[tactic(auto, unfolding(crate::specs::Whole::whole_fields, crate::specs::Whole::first_header_length))]
-fn fields(fragments: &[Fragment], first: &FragmentView<'_>, end: usize) -> Fields
-    requires first { first.now.frame.now ≡ first_fragment fragments.now }
-    requires end { end ≡ payload_end fragments.now }
-    requires short { whole_length fragments.now ≤ 65535 }
-    ensures { result ≡ whole_fields fragments.now }
+/// Returns the fields of the whole packet's header that aren't those of the first fragment. The packet has `total` bytes.
+#[tactic(auto, unfolding(crate::specs::Whole::whole_fields))]
+fn fields(
+    there: &[Fragment],
+    new: &FragmentView<'_>,
+    first: &FragmentView<'_>,
+    total: usize,
+) -> Fields
+    requires first { first.now.frame.now
+        ≡ first_fragment (there.now ++ new.now.frame.now ∷ []) }
+    requires total { total ≡ whole_length (there.now ++ new.now.frame.now ∷ []) }
+    requires short { total ≤ 65535 }
+    ensures { result ≡ whole_fields (there.now ++ new.now.frame.now ∷ []) }
 {
     Fields {
-        service: service(fragments, first),
-        total: (first.header_length() + end) as u16,
+        service: service(there, new, first),
+        total: total as u16,
         identification: first.identification(),
         flags: first.flags_word() / RESERVED * RESERVED,
     }
+}
+
+/// Writes bytes at a place.
+#[inline(always)]
+fn put_bytes(frame: &mut [u8], at: usize, bytes: &[u8])
+    requires { at + length bytes.now ≤ length frame.old }
+    ensures { Puts at bytes.now frame.old frame.new }
+{
+    frame[at..at + bytes.len()].copy_from_slice(bytes);
 }
 
 /// Writes the bytes that a fragment carries into the payload, at their place.
@@ -79,12 +98,11 @@ fn put(payload: &mut [u8], fragment: &FragmentView<'_>)
     payload[fragment.first()..fragment.end()].copy_from_slice(fragment.carried());
 }
 
-/// Writes the bytes that fragments carry into a payload of zeros. Where several carry a byte, that of the first one stays.
-fn fill(payload: &mut [u8], fragments: &[Fragment])
-    requires within { AllByRecursion (λ f. end_of f ≤ length payload.old) fragments.now }
-    requires zeros { payload.old ≡ replicate (length payload.old) 0 }
-    ensures { payload.new
-        ≡ map (byte_at fragments.now) (range_with_len 0 (length payload.old)) }
+/// Writes the bytes that fragments carry over those of a payload. Where several carry a byte, that of the first one stays,
+/// and where none carries it, what was there.
+fn put_all(payload: &mut [u8], fragments: &[Fragment])
+    requires { AllByRecursion (λ f. end_of f ≤ length payload.old) fragments.now }
+    ensures { payload.new ≡ written_over payload.old fragments.now }
 {
     let mut left = fragments;
     while let Some((fragment, before)) = left.split_last() {
@@ -93,50 +111,56 @@ fn fill(payload: &mut [u8], fragments: &[Fragment])
     }
 }
 
-/// Writes the bytes that fragments carry into the zeros at the end of a list, from a place on.
-fn fill_tail(list: &mut Vec<u8>, start: usize, fragments: &[Fragment])
-    requires start { start ≤ vec_len list.old }
-    requires within { AllByRecursion (λ f. end_of f ≤ length (drop start list.old.items))
-        fragments.now }
-    requires zeros { drop start list.old.items
-        ≡ replicate (length (drop start list.old.items)) 0 }
-    ensures { list.new.items ≡ take start list.old.items ++ map (byte_at fragments.now)
-        (range_with_len 0 (length (drop start list.old.items))) }
+/// Writes the payload over bytes that are as many.
+#[inline(always)]
+fn fill(payload: &mut [u8], there: &[Fragment], new: &FragmentView<'_>)
+    requires ready { IsReady (there.now ++ new.now.frame.now ∷ []) }
+    requires long { length payload.old ≡ payload_end (there.now ++ new.now.frame.now ∷ []) }
+    ensures { payload.new ≡ payload_again (there.now ++ new.now.frame.now ∷ []) }
 {
-    let (_before, payload) = list.split_at_mut(start);
-    fill(payload, fragments);
+    put(payload, new);
+    put_all(payload, there);
 }
 
-/// Appends the payload of the whole packet to a list that has the capacity for it.
-fn append_payload(list: &mut Vec<u8>, fragments: &[Fragment], end: usize)
-    requires end { end ≡ payload_end fragments.now }
-    requires within { AllByRecursion (λ f. end_of f ≤ end) fragments.now }
-    requires room { vec_len list.old + end ≤ vec_capacity list.old }
-    ensures { list.new.items ≡ list.old.items ++ payload_again fragments.now }
+/// Writes the payload over the bytes from a place on.
+#[inline(always)]
+fn fill_from(frame: &mut [u8], start: usize, there: &[Fragment], new: &FragmentView<'_>)
+    requires ready { IsReady (there.now ++ new.now.frame.now ∷ []) }
+    requires long { start + payload_end (there.now ++ new.now.frame.now ∷ [])
+        ≡ length frame.old }
+    ensures { frame.new ≡ take start frame.old
+        ++ payload_again (there.now ++ new.now.frame.now ∷ []) }
 {
-    let start = list.len();
-    append_zeros(list, end);
-    fill_tail(list, start, fragments);
+    fill(&mut frame[start..], there, new);
 }
 
-/// Writes the whole frame that the fragments of a datagram make into an empty list that has the capacity for it.
-#[tactic(auto, unfolding(crate::specs::Whole::reassembled, crate::specs::Header::header_with))]
-pub(crate) fn write_whole(frame: &mut Vec<u8>, fragments: &[Fragment])
-    requires empty { frame.old.items ≡ [] }
-    requires ready { IsReady fragments.now }
-    requires room { vec_len frame.old + (14 + whole_length fragments.now)
-        ≤ vec_capacity frame.old }
-    ensures { frame.new.items ≡ reassembled fragments.now }
+/// Writes Ethernet header, IPv4 header and options over a frame's first bytes.
+#[inline(always)]
+#[tactic(auto, unfolding(crate::specs::Header::header_with))]
+fn put_headers(frame: &mut [u8], first: &FragmentView<'_>, fields: Fields)
+    requires { 14 + (header_of (ipv4_in first.now.frame.now)).header_length ≤ length frame.old }
+    ensures front { let packet = ipv4_in first.now.frame.now
+        in take (14 + (header_of packet).header_length) frame.new
+        ≡ take 14 first.now.frame.now ++ header_with fields packet (options_of packet) }
+    ensures len { length frame.new ≡ length frame.old }
 {
-    let first = first_fragment(fragments);
-    let end = payload_end(fragments);
-    let header = summed(
-        first.packet(),
-        fields(fragments, &first, end),
-        first.options(),
-    );
-    append_reserved(frame, first.ethernet());
-    append_reserved(frame, &header);
-    append_reserved(frame, first.options());
-    append_payload(frame, fragments, end);
+    let header = summed(first.packet(), fields, first.options());
+    put_bytes(frame, 0, first.ethernet());
+    put_bytes(frame, ETHERNET, &header);
+    put_bytes(frame, OPTIONS, first.options());
+}
+
+/// Writes the whole frame that the fragments of a datagram and the one that completes them make, over bytes that are as
+/// many.
+#[tactic(auto, unfolding(crate::specs::Whole::reassembled))]
+pub(crate) fn write_whole(frame: &mut [u8], there: &[Fragment], new: &FragmentView<'_>)
+    requires ready { IsReady (there.now ++ new.now.frame.now ∷ []) }
+    requires long { length frame.old
+        ≡ 14 + whole_length (there.now ++ new.now.frame.now ∷ []) }
+    ensures { frame.new ≡ reassembled (there.now ++ new.now.frame.now ∷ []) }
+{
+    let first = first_with(there, new);
+    let total = frame.len() - ETHERNET;
+    put_headers(frame, &first, fields(there, new, &first, total));
+    fill_from(frame, ETHERNET + first.header_length(), there, new);
 }

@@ -1,7 +1,9 @@
-use Rattle.std.proofs.Common.{◌≤◌, ℕ, List, [], length, ap, ◌∙◌, sym, subst}
+use Rattle.std.proofs.Common.{◌≤◌, ◌+◌, ℕ, List, [], length, ap, ◌∙◌, sym, subst}
 use Rattle.fragments.specs.Gathered.{Datagram, effect_of, is_named}
 use Rattle.fragments.specs.Name.{name_of}
-use Rattle.fragments.specs.Places.{fragments_at}
+use Rattle.fragments.specs.Memory.{LacksUpTo}
+use Rattle.fragments.specs.Places.{fragments_at, with_at}
+use Rattle.fragments.specs.Whole.{IsReady, whole_length}
 use Rattle.fragments.proofs.Joining.{few-there, left-contradicts, left-too_long, left-waits, ready-at}
 use Rattle.fragments.proofs.Placing.{first-at}
 use Rattle.fragments.proofs.Takings.{lacks-join, on_err}
@@ -21,6 +23,7 @@ pub make_whole-requires-clause-ready : goal.make_whole-requires-clause-ready
 make_whole-requires-clause-ready c =
     let f = c.args.fragment.now.frame.now in
     let ds = c.args.datagrams.now.items in
+    subst (λ (xs : List Datagram). IsReady (with_at c.args.at f xs)) (sym c.deref-in-Completes.ensures.value)
     (ready-at c.args.at f ds (any_datagram f) c.args.fragment.now.fragment c.requires.unbroken c.requires.kept c.requires.at
     (ap (λ (xs : List Datagram). effect_of (fragments_at c.args.at xs) f) (sym c.deref.ensures.value) ∙ sym c.effect_at.ensures ∙ c.in-Completes.is)).0
 
@@ -31,7 +34,7 @@ returns-in_err-make_whole-in-Completes-clause-refused c =
     on_err c.from_residual-in_err-make_whole-in-Completes.result
     (lacks-join c.args.at f ds c.args.fragment.now.fragment c.requires.unbroken c.requires.kept c.requires.at
     (ap (λ (xs : List Datagram). effect_of (fragments_at c.args.at xs) f) (sym c.deref.ensures.value) ∙ sym c.effect_at.ensures ∙ c.in-Completes.is)
-    c.in_err-make_whole-in-Completes.ensures.refused)
+    (subst (λ (xs : List Datagram). LacksUpTo (14 + whole_length (with_at c.args.at f xs))) c.deref-in-Completes.ensures.value c.in_err-make_whole-in-Completes.ensures.refused))
 
 pub returns-in-Contradicts-clause-left : goal.returns-in-Contradicts-clause-left
 returns-in-Contradicts-clause-left c =

@@ -1,31 +1,22 @@
-use Rattle.std.proofs.Common.{List, ℕ, length, ap, subst, arith}
-use Rattle.frames.specs.Bytes.{Puts}
+use Rattle.std.proofs.Common.{◌≤◌, ℕ, List, length, sym, subst, arith, ap, ◌∙◌}
+use Rattle.std.specs.List.{AllByRecursion}
 use Rattle.fragments.specs.Fragment.{carried, end_of, first_of}
-use Rattle.fragments.proofs.Filling.{fill-begins, fill-ends, fill-goes, fill-long, fill-within}
+use Rattle.fragments.proofs.Filling.{filled-all, length-put, within-both}
 use Rattle.fragments.proofs.wholes.fill.Goals as goal
 
-pub loop-fragment-init : goal.loop-fragment-init
-loop-fragment-init c = fill-begins (length c.args.payload.now) c.args.fragments.now c.args.payload.now c.requires.zeros
-
 pub put-requires : goal.put-requires
-put-requires c =
-    let n = length c.args.payload.now in
-    let all = c.args.fragments.now in
-    let left = c.loop-fragment.left.now in
-    let f = c.in-Some.fragment.now in
-    let within = fill-within n all left c.in-Some.before.now f c.loop-fragment.payload c.requires.within c.loop-fragment.invariant c.in-Some.ensures.cases.0 in
-    omega (arith, within, fill-long n all left c.loop-fragment.payload c.loop-fragment.invariant, ap (λ (g : List ℕ). end_of g) c.view.ensures)
+put-requires c = omega (arith, c.requires.long, (within-both _ c.args.there.now c.args.new.now.frame.now c.requires.ready.within).last)
 
-pub loop-fragment-preserved : goal.loop-fragment-preserved
-loop-fragment-preserved c =
-    let n = length c.args.payload.now in
-    let all = c.args.fragments.now in
-    let left = c.loop-fragment.left.now in
-    let f = c.in-Some.fragment.now in
-    let old = c.loop-fragment.payload in
-    let new = c.put.new.payload in
-    fill-goes n all left c.in-Some.before.now f old new c.requires.within c.loop-fragment.invariant c.in-Some.ensures.cases.0
-    (subst (λ (g : List ℕ). Puts (first_of g) (carried g) old new) c.view.ensures c.put.ensures)
+pub put_all-requires : goal.put_all-requires
+put_all-requires c =
+    let was = c.args.payload.now in
+    let new = c.args.new.now.frame.now in
+    let both = within-both _ c.args.there.now new c.requires.ready.within in
+    subst (λ (n : ℕ). AllByRecursion (λ (f : List ℕ). end_of f ≤ n) c.args.there.now)
+    (sym (ap length c.put.ensures ∙ length-put (first_of new) (carried new) was (omega (arith, c.requires.long, both.last)) ∙ c.requires.long)) both.each
 
 pub returns : goal.returns
-returns c = fill-ends (length c.args.payload.now) c.args.fragments.now c.loop-fragment.left.now c.loop-fragment.payload c.loop-fragment.invariant c.in_default.ensures.cases
+returns c =
+    let new = c.args.new.now.frame.now in
+    let both = within-both _ c.args.there.now new c.requires.ready.within in
+    filled-all c.args.payload.now c.put.new.payload c.put_all.new.payload new c.args.there.now c.requires.ready c.requires.long (omega (arith, c.requires.long, both.last)) c.put.ensures c.put_all.ensures
