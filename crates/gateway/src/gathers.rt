@@ -335,7 +335,7 @@ fn end_datagram(fragments: &mut Fragments, frame: Arrived<'_>)
 /// this time of the clock, those of which fragments are missing for too long.
 #[inline(always)]
 fn end_parts(fragments: &mut Fragments, event: Event<'_>, arrival: Arrival, moment: u64)
-    requires { EndsPart arrival event.entry }
+    requires { EndsPart arrival event }
     ensures { fragments.new ≡ record fragments.old {
       gathering = left_after moment event.entry arrival fragments.old.gathering;
       counts = fragments.new.counts;
