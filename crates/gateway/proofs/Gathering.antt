@@ -1,13 +1,10 @@
 -- What comes of a frame that comes in, by how it is read, and of a fragment beside those that are there.
-use Rattle.std.proofs.Common.{◌≡◌, ◌≤◌, ◌<◌, ℕ, Bool, true, false, cond, nat_lt, Option, Some, None, unwrap_or, List, [], length, refl, sym, ap, subst, ◌∙◌, arith}
+use Rattle.std.proofs.Common.{◌≡◌, ◌≤◌, ◌<◌, ℕ, Bool, true, false, cond, nat_lt, Option, Some, None, unwrap_or, List, [], length, refl, sym, ap, ◌∙◌, arith}
 use Rattle.std.proofs.lemmas.Bool.Decides.{nat_tests}
-use Rattle.std.proofs.lemmas.List.{append-nil}
 use Rattle.frames.specs.declared.ethernet.TheConstants.{LONGEST}
 use Rattle.nat_types.specs.declared.gateways.Side.{Side}
 use Rattle.nat_types.specs.declared.gateways.Side.TheVariants.{Inside, Outside}
-use Rattle.output.specs.Output.{Output}
 use Rattle.packet_rules.specs.declared.reasons.Reason.TheVariants.{Fragment, ShortFrame}
-use Rattle.fragments.specs.Memory.{LacksTaking}
 use Rattle.fragments.specs.declared.gatherings.Came.{Came}
 use Rattle.fragments.specs.declared.gatherings.Came.TheVariants.{Refused, Held, Whole}
 use Rattle.fragments.specs.Gathered.{Datagram, Gathered, Taking, after, after_end, after_join, ended, left_by, of_side, taken, there_of}
@@ -16,11 +13,11 @@ use Rattle.spec_step.specs.declared.events.Outcome.TheVariants.{Dropped, Waiting
 use Rattle.spec_step.specs.Shown.{Shown}
 use Rattle.spec_step.specs.Verdict.{reading_on, verdict}
 use Rattle.spec_gateway.specs.State.{GatewayState}
-use Rattle.spec_gateway.specs.Arrivals.{Arrival, arrival, fragment_arrives, frame_arrives, gathering_of, is_gathered, is_part, nothing_arrives, outcome_part, part_arrives}
+use Rattle.spec_gateway.specs.Arrivals.{Arrival, arrival, fragment_arrives, frame_arrives, is_gathered, is_part, nothing_arrives, outcome_part, part_arrives}
 use Rattle.spec_gateway.specs.Steps.{frame_event}
 use Rattle.spec_step.specs.declared.events.Event.TheVariants.{Frame}
 use Rattle.gateway.specs.Arrivals.{IsEnded, IsWhole}
-use Rattle.gateway.specs.Gateway.{GoesOn, part_of}
+use Rattle.gateway.specs.Gateway.{part_of}
 use Rattle.fragments.specs.Fragment.{IsFragment}
 use Rattle.std.specs.Borrow.{Bor}
 
@@ -42,7 +39,7 @@ unfolding arrival
 arrival-short s side bytes short =
     ap (λ (b : Bool). cond b (nothing_arrives s ShortFrame) (cond (is_part (reading_on s.shown side bytes)) (part_of s side bytes) (frame_arrives s side bytes))) (within (length bytes) short)
 
-pub arrival-part : (s : GatewayState) (side : Side) (bytes : List ℕ) → length bytes ≤ 1514 → is_part (reading_on s.shown side bytes) ≡ true → arrival s side bytes ≡ part_of s side bytes
+arrival-part : (s : GatewayState) (side : Side) (bytes : List ℕ) → length bytes ≤ 1514 → is_part (reading_on s.shown side bytes) ≡ true → arrival s side bytes ≡ part_of s side bytes
 arrival-part s side bytes short part =
     arrival-short s side bytes short ∙ ap (λ (b : Bool). cond b (part_of s side bytes) (frame_arrives s side bytes)) part
 
@@ -55,7 +52,7 @@ pub arrival-dropped : (s : GatewayState) (side : Side) (bytes : List ℕ) → le
 arrival-dropped s side bytes short part drops = arrival-part s side bytes short part ∙ ap (fragment_arrives s side bytes) drops
 
 -- ---- what is there afterwards
-pub of-there : (side : Side) (g : Gathered) → of_side side (there_of g) ≡ of_side side g
+of-there : (side : Side) (g : Gathered) → of_side side (there_of g) ≡ of_side side g
 of-there Inside g = refl
 of-there Outside g = refl
 
@@ -64,7 +61,7 @@ after-quiet Inside t g none = ap (λ (o : Option (List ℕ)). let x : Gathered =
 after-quiet Outside t g none = ap (λ (o : Option (List ℕ)). let x : Gathered = record { inside = g.inside; outside = left_by o t.left g.outside; whole = []; lost = None } in x) none
 
 -- where a whole frame is made, the fragments that were there stay at first
-pub join-stays : (side : Side) (t : Taking) (g : Gathered) (whole : List ℕ) → t.made ≡ Some whole → there_of (after_join side t g) ≡ there_of g
+join-stays : (side : Side) (t : Taking) (g : Gathered) (whole : List ℕ) → t.made ≡ Some whole → there_of (after_join side t g) ≡ there_of g
 join-stays Inside t g whole made = ap (λ (o : Option (List ℕ)). let x : Gathered = record { inside = left_by o t.left g.inside; outside = g.outside; whole = []; lost = None } in x) made
 join-stays Outside t g whole made = ap (λ (o : Option (List ℕ)). let x : Gathered = record { inside = g.inside; outside = left_by o t.left g.outside; whole = []; lost = None } in x) made
 
@@ -76,10 +73,6 @@ after-whole Inside frame t g whole made left =
 after-whole Outside frame t g whole made left =
     ap (λ (o : Option (List ℕ)). let x : Gathered = record { inside = g.inside; outside = ended frame (left_by o t.left g.outside); whole = []; lost = None } in x) made
     ∙ ap (λ (ds : List Datagram). let x : Gathered = record { inside = g.inside; outside = ds; whole = []; lost = None } in x) (sym left)
-
--- ---- a step that takes nothing
-pub stands-still : (g : Shown) (told : Output) → GoesOn g told g told
-stands-still g told = record { networks_are = refl; id_is = refl; sent = []; sent_are = sym (append-nil told.frames) }
 
 -- ---- a fragment that is gathered
 module _ (shown : Shown) (g : Gathered) (n : ℕ) (side : Side) (b : Bor (List ℕ)) where
@@ -131,6 +124,3 @@ module _ (shown : Shown) (g : Gathered) (n : ℕ) (side : Side) (b : Bor (List �
         stays = join-stays side t g makes.whole makes.made;
         left = ap (λ (a : Arrival). a.gathered) brings ∙ sym (after-whole side b.now t g makes.whole makes.made makes.left);
       }
-
-  pub part-lacks : LacksTaking b.now t.made → LacksTaking b.now (gathering_of s side b.now).made
-  part-lacks lacks = subst (λ (ds : List Datagram). LacksTaking b.now (taken shown.moment b.now ds).made) (sym (of-there side g)) lacks

@@ -9,7 +9,7 @@ ghost use Rattle.spec_gateway.specs.Arrivals.{is_gathered, is_part};
 ghost use Rattle.spec_gateway.specs.Arrivals.{is_translated_protocol, may_pass};
 ghost use Rattle.spec_gateway.specs.Steps.{gathered_after, outcome_of, whole_event};
 ghost use Rattle.forwarder.specs.Forwarder.{shown_of};
-ghost use Rattle.gateway.specs.Arrivals.{ComesTo, EndsPart, StandsAs, left_after};
+ghost use Rattle.gateway.specs.Arrivals.{ComesTo, EndsPart, StandsFor, after_event};
 ghost use Rattle.gateway.specs.Gateway.{IsInOrder, IsTaken, state_of};
 ghost use Rattle.gateway.specs.Lacks.{LacksGathering, LacksMemory, LacksPart};
 ghost use Rattle.gateway.specs.Parts.{looks_cut};
@@ -293,7 +293,7 @@ fn arrive(
 /// Returns the event that is taken: the whole frame that was put together, or the event itself.
 #[inline(always)]
 fn event_taken<'a>(fragments: &'a Fragments, event: Event<'a>, arrival: Arrival) -> Event<'a>
-    ensures { StandsAs event.entry fragments.now.gathering arrival result }
+    ensures { StandsFor event.entry fragments.now.gathering arrival result }
 {
     match arrival {
         Arrival::Whole(side) => Event::Frame(side, fragments.gathering.whole()),
@@ -337,7 +337,7 @@ fn end_datagram(fragments: &mut Fragments, frame: Arrived<'_>)
 fn end_parts(fragments: &mut Fragments, event: Event<'_>, arrival: Arrival, moment: u64)
     requires { EndsPart arrival event }
     ensures { fragments.new ≡ record fragments.old {
-      gathering = left_after moment event.entry arrival fragments.old.gathering;
+      gathering = after_event moment event.entry arrival fragments.old.gathering;
       counts = fragments.new.counts;
     } }
 {

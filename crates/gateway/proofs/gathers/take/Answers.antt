@@ -6,7 +6,7 @@ use Rattle.spec_gateway.specs.State.{GatewayState}
 use Rattle.spec_gateway.specs.Steps.{gathered_after, whole_event}
 use Rattle.forwarder.specs.Forwarder.{shown_of}
 use Rattle.gateway.specs.declared.gathers.Arrival.{Arrival}
-use Rattle.gateway.specs.Arrivals.{left_after}
+use Rattle.gateway.specs.Arrivals.{after_event}
 use Rattle.gateway.specs.Gateway.{IsTaken, state_of}
 use Rattle.gateway.proofs.Arriving.{Goes, goes, goes-lacks, goes-taken}
 use Rattle.gateway.proofs.Lending.{on-err}
@@ -68,7 +68,7 @@ returns-clause-taken c =
     let shown2 : Shown = shown_of c.step.new.forwarder in
     let told = c.args.page.now.told in
     let told2 = c.step.new.page.told in
-    let g2 : Gathered = left_after shown2.moment event a g in
+    let g2 : Gathered = after_event shown2.moment event a g in
     let x : Goes s event g a whole = goes s event g a whole c.in_default.not-Ended c.in_ok-arrival.ensures.arrival c.event_taken-whole.ensures in
     let same : state_of c.step.new.forwarder c.end_parts.new.fragments ≡ record { shown = shown2; gathered = there_of g2; numbered = s.numbered } =
     ap (state_of c.step.new.forwarder) c.end_parts.ensures
