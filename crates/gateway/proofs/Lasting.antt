@@ -36,8 +36,9 @@ use Rattle.spec_step.specs.declared.turns.Turn.TheVariants.{Leaves, Returns, Sta
 use Rattle.spec_step.specs.GivingWay.{TakesTurn, left, returned, turn_of}
 use Rattle.spec_step.specs.Routers.{BothAct, RouterActs}
 use Rattle.spec_step.specs.Shown.{GatewayAndOutput, Shown, id_of, is_apart, is_running, is_up, scene, station_on, with_notes, with_station}
-use Rattle.spec_step.specs.Steps.{Does, FrameDoes, ended_on, stopped, ticked, word_by, word_refusal}
+use Rattle.spec_step.specs.Steps.{Does, FrameDoes, IsStepOn, ended_on, stopped, ticked, word_by, word_refusal}
 use Rattle.spec_step.specs.Verdict.{reading_on}
+use Rattle.gateway.specs.Arrivals.{clock_by}
 use Rattle.gateway.proofs.Staying.{IsAsOn, Stays, answered-capacity, flow-stays, released-stays, row-stays, station-stays, stays-here, stays-then, echo-stays, error-stays, refused-stays}
 
 -- an equal pair of gateway and output
@@ -278,6 +279,21 @@ ended-event (Tick now) done = ticked-by done (is_due_on_tick (handed_in done.sho
 ended-event Stop done = answer-stays done
 ended-event (PeerOff n) done = answer-stays done
 ended-event (SideIs side up) done = stays-here done.shown
+
+-- the clock after a step, which only a tick moves
+pub step-moment : (s : GatewayAndOutput) (event : Event) (s2 : GatewayAndOutput) → IsStepOn s event s2 → s2.shown.moment ≡ clock_by s.shown.moment event
+step-moment s event s2 step =
+    let own = does-stays s event step.done step.does in
+    let end = stays-as step.done.shown (ended_on event step.done) s2 step.sends (ended-event event step.done) in
+    end.moment ∙ (own.moment ∙ begun-moment s event)
+  where
+    begun-moment : (s : GatewayAndOutput) (event : Event) → (begun_by s event).shown.moment ≡ clock_by s.shown.moment event
+    begun-moment s (Frame side bytes) = refl
+    begun-moment s (Comes bytes) = refl
+    begun-moment s (Tick now) = refl
+    begun-moment s Stop = refl
+    begun-moment s (PeerOff n) = refl
+    begun-moment s (SideIs side up) = refl
 
 -- the clock of a step, and what the step leaves as it was
 pub record Lasts (g g2 : Shown) : Type 0 where

@@ -1,4 +1,5 @@
 mod Apart
+mod Arriving
 mod Beginning
 mod Gathering
 mod Hearing

@@ -1,3 +1,4 @@
+pub mod Arrivals
 pub mod Cues
 pub mod Gateway
 pub mod Rooms

@@ -25,15 +25,6 @@ is_of_side Stop = false
 is_of_side (PeerOff boot) = false
 is_of_side (Side side up) = true
 
--- whether an event is neither a frame nor a tick: such events don't touch fragments
-abbrev pub is_plain : Event → Bool
-is_plain (Frame side bytes) = false
-is_plain (Datagram bytes) = true
-is_plain (Tick now) = false
-is_plain Stop = true
-is_plain (PeerOff boot) = true
-is_plain (Side side up) = true
-
 -- a frame has at most 14 + 65,535 bytes
 abbrev pub IsShort : Event → Type 0
 IsShort (Frame side bytes) = length bytes.now ≤ 65549

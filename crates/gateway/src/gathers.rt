@@ -1,23 +1,21 @@
 //! Fragments that come in: they are put together, and the whole frame is taken in their place.
-ghost use Rattle.std.specs.Prelude.{◌≡◌, ◌≤◌, ◌⊎◌, IfOk, IsOk, OnErr, OnOk, Some, false, length, true};
+ghost use Rattle.std.specs.Prelude.{◌≡◌, ◌≤◌, IfOk, IsOk, OnErr, OnOk, false, length, true};
 ghost use Rattle.fragments.specs.Fragment.{IsFragment};
 ghost use Rattle.fragments.specs.Gathered.{after_end, none_there, of_side, without_old};
 ghost use Rattle.frames.specs.Frame.{frame_of};
-ghost use Rattle.spec_step.specs.declared.events.Event.TheVariants.{Tick as TickEvent};
-ghost use Rattle.spec_step.specs.declared.events.Outcome.TheVariants.{Done};
-ghost use Rattle.spec_step.specs.Verdict.{reading_on, verdict};
-ghost use Rattle.spec_gateway.specs.Arrivals.{arrival, is_gathered, is_part};
+ghost use Rattle.spec_step.specs.declared.events.Event.TheVariants.{Frame as FrameEvent};
+ghost use Rattle.spec_step.specs.Verdict.{reading_on};
+ghost use Rattle.spec_gateway.specs.Arrivals.{is_gathered, is_part};
 ghost use Rattle.spec_gateway.specs.Arrivals.{is_translated_protocol, may_pass};
-ghost use Rattle.spec_gateway.specs.Steps.{Takes, frame_event, gathered_after, outcome_of};
-ghost use Rattle.spec_gateway.specs.Steps.{whole_event};
-ghost use Rattle.forwarder.specs.Forwarder.{scene_on, shown_of};
-ghost use Rattle.gateway.specs.Gateway.{GoesOn, IsInOrder, IsTaken, part_of, state_of};
-ghost use Rattle.gateway.specs.Lacks.{LacksMemory, LacksPart, LacksStep, LacksWhole};
+ghost use Rattle.spec_gateway.specs.Steps.{gathered_after, outcome_of, whole_event};
+ghost use Rattle.forwarder.specs.Forwarder.{shown_of};
+ghost use Rattle.gateway.specs.Arrivals.{ComesTo, EndsPart, StandsFor, after_event};
+ghost use Rattle.gateway.specs.Gateway.{IsInOrder, IsTaken, state_of};
+ghost use Rattle.gateway.specs.Lacks.{LacksGathering, LacksMemory, LacksPart};
 ghost use Rattle.gateway.specs.Parts.{looks_cut};
-ghost use Rattle.gateway.specs.Rooms.{is_of_side, is_plain};
+ghost use Rattle.gateway.specs.Rooms.{is_of_side};
 
 use crate::counts::{Counts, FragmentCounts};
-use crate::ticks::clock_after;
 use crate::{NoMemory, steps};
 use addresses::{Ip, Mac};
 use byteorder::{BigEndian, ByteOrder};
@@ -99,6 +97,17 @@ pub(crate) struct Arrived<'a> {
     pub(crate) bytes: &'a [u8],
 }
 
+/// What comes of an event.
+#[derive(Clone, Copy)]
+enum Arrival {
+    /// The event itself is taken.
+    Plain,
+    /// The whole frame that was put together is taken in its place, as one that came in on this side.
+    Whole(Side),
+    /// Nothing is taken.
+    Ended(Outcome),
+}
+
 /// Whether a frame looks as one that carries a fragment, by the flags and the offset of its packet.
 #[inline(always)]
 fn looks_cut(bytes: &[u8]) -> bool
@@ -172,73 +181,27 @@ fn count_part(fragments: &mut Fragments, side: Side, came: Came)
     fragments.counts.came(side, came, lost);
 }
 
-/// Takes the whole frame that was made of a frame's fragment and those that were there, and ends
-/// their datagram. Fails where there isn't enough memory; the fragments that were there stay then.
-fn take_joined(
-    alloc: Global,
-    forwarder: &mut Forwarder,
+/// Finds out what comes of a fragment beside those that are there of its datagram. Any that isn't put
+/// together with others is dropped. Fails where there isn't enough memory; nothing has changed then.
+fn join_part(
+    forwarder: &Forwarder,
     fragments: &mut Fragments,
-    page: &mut OutputBuffer,
     frame: Arrived<'_>,
-) -> Result<Outcome, NoMemory>
-    requires gateway { IsInOrder (shown_of forwarder.old) }
-    requires part { IsFragment frame.bytes.now }
-    ensures outcome { IfOk result (λ o. o
-        ≡ verdict (shown_of forwarder.old) frame.entry.side fragments.old.gathering.whole) }
-    ensures takes { OnOk result (Takes (shown_of forwarder.old) page.old.told
-        (frame_event frame.entry.side (Some fragments.old.gathering.whole))
-        (shown_of forwarder.new) page.new.told) }
-    ensures goes_on { OnOk result (GoesOn (shown_of forwarder.old) page.old.told
-        (shown_of forwarder.new) page.new.told) }
-    ensures fragments { OnOk result (fragments.new ≡ record fragments.old {
-      gathering = after_end frame.entry.side frame.entry.bytes.now fragments.old.gathering;
-      counts = fragments.new.counts;
-    }) }
-    ensures gateway { IsInOrder (shown_of forwarder.new) }
-    ensures err { OnErr result (scene_on forwarder.new page.new
-        ≡ scene_on forwarder.old page.old) }
-    ensures unmoved { OnErr result (fragments.new ≡ fragments.old) }
-    ensures lacks { OnErr result (LacksWhole (shown_of forwarder.old) page.old
-        (frame_event frame.entry.side (Some fragments.old.gathering.whole))) }
-{
-    let whole = Event::Frame(frame.side, fragments.gathering.whole());
-    let outcome = steps::step(alloc, forwarder, page, whole)?;
-    fragments.gathering.end(frame.side, frame.bytes);
-    count_part(fragments, frame.side, Came::Whole);
-    Ok(outcome)
-}
-
-/// Takes a fragment beside those that are there of its datagram, and where it makes them whole the
-/// whole frame. Any that isn't put together with others is dropped. Fails where there isn't enough
-/// memory; nothing has changed then.
-fn take_part(
-    alloc: Global,
-    forwarder: &mut Forwarder,
-    fragments: &mut Fragments,
-    page: &mut OutputBuffer,
-    frame: Arrived<'_>,
-) -> Result<Outcome, NoMemory>
-    requires gateway { IsInOrder (shown_of forwarder.old) }
-    requires part { is_part (reading_on (shown_of forwarder.old) frame.side frame.bytes.now)
+) -> Result<Arrival, NoMemory>
+    requires part { is_part (reading_on (shown_of forwarder.now) frame.side frame.bytes.now)
         ≡ true }
-    ensures outcome { let s = state_of forwarder.old fragments.old
-        in IfOk result (λ o. o ≡ (part_of s frame.entry.side frame.entry.bytes.now).outcome) }
-    ensures taken { let s = state_of forwarder.old fragments.old
-        in let arrival = part_of s frame.entry.side frame.entry.bytes.now
-        in OnOk result (IsTaken s page.old.told (frame_event frame.entry.side arrival.frame)
-        arrival.gathered (state_of forwarder.new fragments.new) page.new.told) }
-    ensures gateway { IsInOrder (shown_of forwarder.new) }
-    ensures err { OnErr result (state_of forwarder.new fragments.new
-        ≡ state_of forwarder.old fragments.old) }
-    ensures untold { OnErr result (page.new.told ≡ page.old.told) }
-    ensures lacks { let s = state_of forwarder.old fragments.old
-        in let arrival = part_of s frame.entry.side frame.entry.bytes.now
-        in OnErr result (LacksPart s frame.entry.side frame.entry.bytes.now
-        ⊎ LacksWhole s.shown page.old (frame_event frame.entry.side arrival.frame)) }
+    requires short { length frame.bytes.now ≤ 1514 }
+    ensures arrival { let s = state_of forwarder.now fragments.old
+        in IfOk result (ComesTo s (FrameEvent frame.entry.side frame.entry.bytes)
+        fragments.new.gathering) }
+    ensures numbered { fragments.new.numbered ≡ fragments.old.numbered }
+    ensures err { OnErr result (fragments.new ≡ fragments.old) }
+    ensures lacks { OnErr result (LacksPart (state_of forwarder.now fragments.old)
+        frame.entry.side frame.entry.bytes.now) }
 {
     recall_part(forwarder, frame);
     if !is_gathered(forwarder, frame) {
-        return Ok(Outcome::Dropped(Reason::Fragment));
+        return Ok(Arrival::Ended(Outcome::Dropped(Reason::Fragment)));
     }
     match fragments
         .gathering
@@ -246,83 +209,96 @@ fn take_part(
     {
         Came::Refused => {
             count_part(fragments, frame.side, Came::Refused);
-            Ok(Outcome::Dropped(Reason::Fragment))
+            Ok(Arrival::Ended(Outcome::Dropped(Reason::Fragment)))
         }
         Came::Held => {
             count_part(fragments, frame.side, Came::Held);
-            Ok(Outcome::Waiting)
+            Ok(Arrival::Ended(Outcome::Waiting))
         }
-        Came::Whole => take_joined(alloc, forwarder, fragments, page, frame),
+        Came::Whole => Ok(Arrival::Whole(frame.side)),
     }
 }
 
-/// Takes a frame that looks as one that carries a fragment.
+/// Finds out what comes of a frame that looks as one that carries a fragment.
 #[cold]
-fn take_alike(
-    alloc: Global,
-    forwarder: &mut Forwarder,
+fn arrive_alike(
+    forwarder: &Forwarder,
     fragments: &mut Fragments,
-    page: &mut OutputBuffer,
     frame: Arrived<'_>,
-) -> Result<Outcome, NoMemory>
-    requires gateway { IsInOrder (shown_of forwarder.old) }
+) -> Result<Arrival, NoMemory>
     requires short { length frame.bytes.now ≤ 1514 }
-    ensures outcome { let s = state_of forwarder.old fragments.old
-        in IfOk result (λ o. o ≡ (arrival s frame.entry.side frame.entry.bytes.now).outcome) }
-    ensures taken { let s = state_of forwarder.old fragments.old
-        in let a = arrival s frame.entry.side frame.entry.bytes.now
-        in OnOk result (IsTaken s page.old.told (frame_event frame.entry.side a.frame)
-        a.gathered (state_of forwarder.new fragments.new) page.new.told) }
-    ensures gateway { IsInOrder (shown_of forwarder.new) }
-    ensures err { OnErr result (state_of forwarder.new fragments.new
-        ≡ state_of forwarder.old fragments.old) }
-    ensures untold { OnErr result (page.new.told ≡ page.old.told) }
-    ensures lacks { let s = state_of forwarder.old fragments.old
-        in let a = arrival s frame.entry.side frame.entry.bytes.now
-        in OnErr result (LacksPart s frame.entry.side frame.entry.bytes.now
-        ⊎ LacksWhole s.shown page.old (frame_event frame.entry.side a.frame)) }
+    ensures arrival { let s = state_of forwarder.now fragments.old
+        in IfOk result (ComesTo s (FrameEvent frame.entry.side frame.entry.bytes)
+        fragments.new.gathering) }
+    ensures numbered { fragments.new.numbered ≡ fragments.old.numbered }
+    ensures err { OnErr result (fragments.new ≡ fragments.old) }
+    ensures lacks { OnErr result (LacksPart (state_of forwarder.now fragments.old)
+        frame.entry.side frame.entry.bytes.now) }
 {
     if is_part(forwarder, frame) {
-        return take_part(alloc, forwarder, fragments, page, frame);
+        return join_part(forwarder, fragments, frame);
     }
-    let whole = Event::Frame(frame.side, frame.bytes);
-    steps::step(alloc, forwarder, page, whole)
+    Ok(Arrival::Plain)
 }
 
-/// Takes a frame that came in.
+/// Finds out what comes of a frame.
 #[inline(always)]
-fn take_frame(
-    alloc: Global,
-    forwarder: &mut Forwarder,
+fn arrive_frame(
+    forwarder: &Forwarder,
     fragments: &mut Fragments,
-    page: &mut OutputBuffer,
     frame: Arrived<'_>,
-) -> Result<Outcome, NoMemory>
-    requires gateway { IsInOrder (shown_of forwarder.old) }
-    ensures outcome { let s = state_of forwarder.old fragments.old
-        in IfOk result (λ o. o ≡ (arrival s frame.entry.side frame.entry.bytes.now).outcome) }
-    ensures taken { let s = state_of forwarder.old fragments.old
-        in let a = arrival s frame.entry.side frame.entry.bytes.now
-        in OnOk result (IsTaken s page.old.told (frame_event frame.entry.side a.frame)
-        a.gathered (state_of forwarder.new fragments.new) page.new.told) }
-    ensures gateway { IsInOrder (shown_of forwarder.new) }
-    ensures err { OnErr result (state_of forwarder.new fragments.new
-        ≡ state_of forwarder.old fragments.old) }
-    ensures untold { OnErr result (page.new.told ≡ page.old.told) }
-    ensures lacks { let s = state_of forwarder.old fragments.old
-        in let a = arrival s frame.entry.side frame.entry.bytes.now
-        in OnErr result (LacksPart s frame.entry.side frame.entry.bytes.now
-        ⊎ LacksWhole s.shown page.old (frame_event frame.entry.side a.frame)) }
+) -> Result<Arrival, NoMemory>
+    ensures arrival { let s = state_of forwarder.now fragments.old
+        in IfOk result (ComesTo s (FrameEvent frame.entry.side frame.entry.bytes)
+        fragments.new.gathering) }
+    ensures numbered { fragments.new.numbered ≡ fragments.old.numbered }
+    ensures err { OnErr result (fragments.new ≡ fragments.old) }
+    ensures lacks { OnErr result (LacksPart (state_of forwarder.now fragments.old)
+        frame.entry.side frame.entry.bytes.now) }
 {
     if frame.bytes.len() > LONGEST {
-        return Ok(Outcome::Dropped(Reason::ShortFrame));
+        return Ok(Arrival::Ended(Outcome::Dropped(Reason::ShortFrame)));
     }
     if looks_cut(frame.bytes) {
-        return take_alike(alloc, forwarder, fragments, page, frame);
+        return arrive_alike(forwarder, fragments, frame);
     }
     recall_part(forwarder, frame);
-    let whole = Event::Frame(frame.side, frame.bytes);
-    steps::step(alloc, forwarder, page, whole)
+    Ok(Arrival::Plain)
+}
+
+/// Finds out what comes of an event: a frame that carries a fragment is put together with the others
+/// of its datagram. Fails where there isn't enough memory; nothing has changed then.
+#[inline(always)]
+fn arrive(
+    forwarder: &Forwarder,
+    fragments: &mut Fragments,
+    event: Event<'_>,
+) -> Result<Arrival, NoMemory>
+    ensures arrival { IfOk result (ComesTo (state_of forwarder.now fragments.old) event.entry
+        fragments.new.gathering) }
+    ensures numbered { fragments.new.numbered ≡ fragments.old.numbered }
+    ensures err { OnErr result (fragments.new ≡ fragments.old) }
+    ensures lacks { OnErr result
+        (LacksGathering (state_of forwarder.now fragments.old) event.entry) }
+    ensures plugged { is_of_side event.entry ≡ true → IsOk result }
+{
+    match event {
+        Event::Frame(side, bytes) => arrive_frame(forwarder, fragments, Arrived { side, bytes }),
+        Event::Tick(_) | Event::Datagram(_) | Event::Stop | Event::PeerOff(_) | Event::Side(..) => {
+            Ok(Arrival::Plain)
+        }
+    }
+}
+
+/// Returns the event that is taken: the whole frame that was put together, or the event itself.
+#[inline(always)]
+fn event_taken<'a>(fragments: &'a Fragments, event: Event<'a>, arrival: Arrival) -> Event<'a>
+    ensures { StandsFor event.entry fragments.now.gathering arrival result }
+{
+    match arrival {
+        Arrival::Whole(side) => Event::Frame(side, fragments.gathering.whole()),
+        Arrival::Plain | Arrival::Ended(_) => event,
+    }
 }
 
 /// Gives up the datagrams of which fragments are missing for too long, at the time of a clock.
@@ -342,58 +318,38 @@ fn drop_old(fragments: &mut Fragments, moment: u64)
     counts.gave_up(Side::Outside, outside.saturating_sub(outside_left));
 }
 
-/// Takes a tick, and gives up the datagrams of which fragments are missing for too long.
-fn step_tick(
-    alloc: Global,
-    forwarder: &mut Forwarder,
-    fragments: &mut Fragments,
-    page: &mut OutputBuffer,
-    now: u64,
-) -> Result<Outcome, NoMemory>
-    requires gateway { IsInOrder (shown_of forwarder.old) }
-    ensures outcome { IfOk result (λ o. o ≡ Done) }
-    ensures taken { let s = state_of forwarder.old fragments.old
-        in OnOk result (IsTaken s page.old.told (Some (TickEvent now))
-        (gathered_after s (TickEvent now)) (state_of forwarder.new fragments.new)
-        page.new.told) }
-    ensures gateway { IsInOrder (shown_of forwarder.new) }
-    ensures err { OnErr result (state_of forwarder.new fragments.new
-        ≡ state_of forwarder.old fragments.old) }
-    ensures untold { OnErr result (page.new.told ≡ page.old.told) }
-    ensures lacks { OnErr result
-        (LacksStep (shown_of forwarder.old) page.old (TickEvent now)) }
+/// Ends the datagram of a frame's fragment whose whole frame was taken.
+#[cold]
+fn end_datagram(fragments: &mut Fragments, frame: Arrived<'_>)
+    requires { IsFragment frame.bytes.now }
+    ensures { fragments.new ≡ record fragments.old {
+      gathering = after_end frame.entry.side frame.entry.bytes.now fragments.old.gathering;
+      counts = fragments.new.counts;
+    } }
 {
-    let moment = clock_after(forwarder.moment, now);
-    let outcome = steps::step(alloc, forwarder, page, Event::Tick(now))?;
-    drop_old(fragments, moment);
-    Ok(outcome)
+    fragments.gathering.end(frame.side, frame.bytes);
+    count_part(fragments, frame.side, Came::Whole);
 }
 
-/// Takes an event that is neither a frame nor a tick.
-fn take_plain(
-    alloc: Global,
-    forwarder: &mut Forwarder,
-    fragments: &Fragments,
-    page: &mut OutputBuffer,
-    event: Event<'_>,
-) -> Result<Outcome, NoMemory>
-    requires gateway { IsInOrder (shown_of forwarder.old) }
-    requires plain { is_plain event ≡ true }
-    ensures outcome { IfOk result (λ o. o
-        ≡ outcome_of (state_of forwarder.old fragments.now) event.entry) }
-    ensures taken { let s = state_of forwarder.old fragments.now
-        in OnOk result (IsTaken s page.old.told (whole_event s event.entry)
-        (gathered_after s event.entry) (state_of forwarder.new fragments.now) page.new.told) }
-    ensures gateway { IsInOrder (shown_of forwarder.new) }
-    ensures err { OnErr result (state_of forwarder.new fragments.now
-        ≡ state_of forwarder.old fragments.now) }
-    ensures untold { OnErr result (page.new.told ≡ page.old.told) }
-    ensures lacks { OnErr result
-        (LacksMemory (state_of forwarder.old fragments.now) page.old event.entry) }
-    ensures plugged { is_of_side event.entry ≡ true → IsOk result }
+/// Ends what an event that was taken ends: the datagram whose whole frame was taken, or at a tick, at
+/// this time of the clock, those of which fragments are missing for too long.
+#[inline(always)]
+fn end_parts(fragments: &mut Fragments, event: Event<'_>, arrival: Arrival, moment: u64)
+    requires { EndsPart arrival event }
+    ensures { fragments.new ≡ record fragments.old {
+      gathering = after_event moment event.entry arrival fragments.old.gathering;
+      counts = fragments.new.counts;
+    } }
 {
-    let _ = &fragments.gathering;
-    steps::step(alloc, forwarder, page, event)
+    match event {
+        Event::Tick(_) => drop_old(fragments, moment),
+        Event::Frame(side, bytes) => {
+            if let Arrival::Whole(_) = arrival {
+                end_datagram(fragments, Arrived { side, bytes });
+            }
+        }
+        Event::Datagram(_) | Event::Stop | Event::PeerOff(_) | Event::Side(..) => {}
+    }
 }
 
 /// Takes an event, and a frame that carries a fragment with the others of its datagram. What is sent
@@ -420,14 +376,12 @@ pub(crate) fn take(
         (LacksMemory (state_of forwarder.old fragments.old) page.old event.entry) }
     ensures plugged { is_of_side event.entry ≡ true → IsOk result }
 {
-    match event {
-        Event::Frame(side, bytes) => {
-            let frame = Arrived { side, bytes };
-            take_frame(alloc, forwarder, fragments, page, frame)
-        }
-        Event::Tick(now) => step_tick(alloc, forwarder, fragments, page, now),
-        Event::Datagram(_) | Event::Stop | Event::PeerOff(_) | Event::Side(..) => {
-            take_plain(alloc, forwarder, fragments, page, event)
-        }
+    let arrival = arrive(forwarder, fragments, event)?;
+    if let Arrival::Ended(outcome) = arrival {
+        return Ok(outcome);
     }
+    let whole = event_taken(fragments, event, arrival);
+    let outcome = steps::step(alloc, forwarder, page, whole)?;
+    end_parts(fragments, event, arrival, forwarder.moment);
+    Ok(outcome)
 }
