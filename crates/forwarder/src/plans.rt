@@ -111,7 +111,7 @@ impl Forwarder {
     pub(crate) fn fits_at(&self, exit: Side, size: Size) -> bool
         ensures { result ≡ fits_at (shown_of self.now) exit size }
     {
-        size.length <= usize::from(mtu_at(&self.networks, exit))
+        size.length <= mtu_at(&self.networks, exit)
             || (self.networks.pass && !size.unbroken)
     }
 

@@ -118,6 +118,14 @@ impl<'a> Ipv4View<'a> {
         type_of_service(self.bytes)
     }
 
+    /// Returns the bytes of header and payload, as they stand in the header.
+    #[inline(always)]
+    pub(crate) fn total(&self) -> u16
+        ensures { result ≡ (header_of self.now.bytes.now).total_length }
+    {
+        BigEndian::read_u16(&self.bytes[field::TOTAL_LENGTH])
+    }
+
     /// Returns the bytes of header and payload.
     pub fn total_length(&self) -> usize
         ensures value { result ≡ (header_of self.now.bytes.now).total_length }

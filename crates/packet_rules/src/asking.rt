@@ -63,7 +63,7 @@ pub(crate) fn asked(packet: &Ipv4View<'_>) -> Asked
         source: packet.source(),
         destination: packet.destination(),
         size: Size {
-            length: 20 + packet.payload().len(),
+            length: (20 + packet.payload().len()) as u16,
             unbroken: packet.is_unbroken(),
         },
     }
