@@ -253,6 +253,7 @@ fn add(
 }
 
 /// Writes the whole frame of the datagram at a place and the fragment that completes it over bytes that are as many.
+#[inline(always)]
 fn write_at(frame: &mut [u8], datagrams: &[Datagram], at: usize, fragment: &FragmentView<'_>)
     requires at { at < length datagrams.now }
     requires ready { IsReady (with_at at fragment.now.frame.now datagrams.now) }
@@ -266,6 +267,7 @@ fn write_at(frame: &mut [u8], datagrams: &[Datagram], at: usize, fragment: &Frag
 
 /// Gives a list so many bytes, whichever they are. Takes memory for those that it lacks; fails where there isn't enough, and
 /// changes nothing then.
+#[inline(always)]
 fn give_length(list: &mut Vec<u8>, count: usize) -> Result<(), AllocError>
     ensures len { OnOk result (length list.new.items ≡ count) }
     ensures err { OnErr result (list.new.items ≡ list.old.items) }
