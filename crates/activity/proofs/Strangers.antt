@@ -1,16 +1,16 @@
 -- What a passive packet leaves as it was.
-use Rattle.std.proofs.Common.{◌≡◌, ℕ, ◌+◌, Bool, true, false, cond, not, ◌&&◌, ◌||◌, List, ◌∷◌, refl, ap, ◌∙◌}
+use Rattle.std.proofs.Common.{◌≡◌, ℕ, Bool, true, false, cond, not, ◌&&◌, ◌||◌, List, ◌∷◌, refl, ap, ◌∙◌}
 use Rattle.std.specs.List.{list_all}
 use Rattle.addresses.specs.declared.transport.Protocol.{Protocol}
 use Rattle.addresses.specs.declared.transport.Protocol.TheVariants.{Icmp, Tcp, Udp}
 use Rattle.activity.specs.declared.packets.Packet.{Packet}
 use Rattle.activity.specs.declared.packets.Way.TheVariants.{Outward, Inward}
 use Rattle.activity.specs.declared.TheConstants.{QUERY_REST, UDP_REST, ESTABLISHED_REST}
-use Rattle.activity.specs.Packets.{same_way, can_begin, is_passive}
+use Rattle.activity.specs.Packets.{same_way, is_passive}
 use Rattle.activity.specs.Places.{is_nowhere, put_at}
 use Rattle.activity.specs.Sessions.{has_rested}
-use Rattle.activity.specs.Kept.{all_passed, has_session, session_place, with_session}
-use Rattle.activity.specs.Lives.{Course, History, Activity, with_packet, has_course, courses, course_place, first_course, longer, has_passed, is_crowded, is_empty, is_idle, is_loose, last_of, last_set, looks_idle, is_loose_at, last_after, life_carried}
+use Rattle.activity.specs.Kept.{all_passed, session_place, with_session}
+use Rattle.activity.specs.Lives.{History, Activity, with_packet, has_course, courses, course_place, first_course, longer, has_passed, is_crowded, is_empty, is_idle, is_loose, last_of, looks_idle, is_loose_at, last_after, life_carried}
 
 -- a segment inward whose remote has no session is loose
 pub stranger-loose : (older : List Packet) (p : Packet) → p.way ≡ Inward → has_course p.remote (courses older) ≡ false → is_loose older p ≡ true

@@ -14,7 +14,7 @@ use Rattle.activity.specs.declared.sessions.Class.TheVariants.{Opening, Establis
 use Rattle.activity.specs.declared.sessions.Marks.{Marks}
 use Rattle.activity.specs.declared.sessions.Session.{Session}
 use Rattle.activity.specs.declared.TheConstants.{QUERY_REST, UDP_REST, TRANSITORY_REST, ESTABLISHED_REST}
-use Rattle.activity.specs.Packets.{same_way, same_remote, is_fin, is_plain, is_loose_by, is_passive, sets_last, does_count}
+use Rattle.activity.specs.Packets.{same_way, same_remote, is_fin, is_plain, is_loose_by, sets_last, does_count}
 use Rattle.activity.specs.Sessions.{is_closed, is_opening, first_class, rest_of, has_rested}
 use Rattle.activity.specs.Places.{place_by, put_at, is_nowhere}
 use Rattle.activity.specs.Kept.{all_passed, has_session, session_place, with_session}
@@ -83,8 +83,8 @@ abbrev pub is_empty : {A : Type 0} → List A → Bool
 is_empty [] = true
 is_empty (x ∷ xs) = false
 
--- A segment is loose beside these sessions, behind these packets of the pair's life: its remote has none of them, and it
--- goes inward, or has RST and isn't the first packet.
+-- A segment is loose beside these sessions, behind these packets of the pair's life: its remote has none of them, and
+-- it goes inward, or has RST and isn't the first packet.
 abbrev pub is_loose_beside : List Course → List Packet → Packet → Bool
 is_loose_beside cs older p = is_loose_by (has_course p.remote cs) (not (is_empty older)) p
 

@@ -24,8 +24,8 @@ is_fin flags = flags.fin
 abbrev pub is_plain : TcpFlags → Bool
 is_plain flags = not (flags.rst || (flags.syn && not flags.ack))
 
--- A segment begins a session where its remote has none: it goes outward, and it has no RST or is the first packet of the
--- pair's life. `carried` says whether the pair carried a packet before it in this life.
+-- A segment begins a session where its remote has none: it goes outward, and it has no RST or is the first packet of
+-- the pair's life. `carried` says whether the pair carried a packet before it in this life.
 abbrev pub can_begin : Bool → Packet → Bool
 can_begin carried p = same_way p.way Outward && not (p.flags.rst && carried)
 

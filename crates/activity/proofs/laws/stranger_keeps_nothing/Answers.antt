@@ -1,3 +1,4 @@
+use Rattle.activity.proofs.Pasts.{counts-is}
 use Rattle.activity.proofs.Strangers.{stranger-loose, passive-idle, inward-idle, loose-courses, loose-crowded, kept-idle, kept-sessions}
 use Rattle.addresses.specs.declared.transport.Protocol.TheVariants.{Tcp}
 use Rattle.activity.proofs.laws.stranger_keeps_nothing.Goals as goal
@@ -11,4 +12,5 @@ returns c = record {
   crowded = λ past packet. loose-crowded past.packets packet;
   kept_idle = kept-idle;
   kept_sessions = kept-sessions;
+  kept_counts = counts-is;
 }
