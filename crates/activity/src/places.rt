@@ -67,7 +67,8 @@ fn is_known(kept: &[PackedSession], remote: Remote) -> bool
 /// whether the pair carried a packet before it since its life began.
 #[tactic(auto, using(crate::proofs::Packing::known_seen))]
 pub(crate) fn is_loose(kept: &[PackedSession], has_carried: bool, packet: Packet) -> bool
-    ensures { result ≡ is_loose_by (has_session packet.remote (all_sessions kept.now)) has_carried packet }
+    ensures { result ≡ is_loose_by (has_session packet.remote (all_sessions kept.now))
+        has_carried packet }
 {
     !can_begin(has_carried, packet) && !is_known(kept, packet.remote)
 }
