@@ -11,4 +11,4 @@ pub use Rattle.activity.proofs.Pasts.{loose-is, counts-is}
 -- a life that agrees with a past is idle where the past is
 pub use Rattle.activity.proofs.Pasts.{looks-is}
 -- An idle pair has rested since each use.
-pub use Rattle.activity.proofs.Resting.{accounts-came, accounts-renewed, accounts-anew, accounts-later, accounts-more, accounts-idle, accounts-unused, rested-later}
+pub use Rattle.activity.proofs.Resting.{accounts-came, accounts-renewed, accounts-anew, accounts-later, accounts-more, accounts-kept, accounts-idle, accounts-unused, rested-later}

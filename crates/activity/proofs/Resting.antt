@@ -13,10 +13,11 @@ use Rattle.activity.specs.declared.TheConstants.{QUERY_REST, UDP_REST, TRANSITOR
 use Rattle.activity.specs.Packets.{same_remote, sets_last, does_count}
 use Rattle.activity.specs.Places.{changed_at, put_at, is_nowhere}
 use Rattle.activity.specs.Sessions.{has_rested, rest_of}
-use Rattle.activity.specs.Lives.{Course, History, came, with_packet, renewed, courses, course_place, is_crowded, is_empty, is_idle, is_unused, is_loose, counts, has_passed, first_course, longer, class_of, last_of, last_set}
+use Rattle.activity.specs.Lives.{Course, History, Activity, Agrees, came, with_packet, renewed, courses, course_place, is_crowded, is_empty, is_idle, is_unused, is_loose, counts, counts_at, has_passed, first_course, longer, class_of, last_of, last_set}
 use Rattle.activity.specs.Rests.{CameBy, CameBetween, AllRested, AllBefore, IsAmong, WasCarried, HaveRested, LiesBehind, AccountsFor, counted, with_use}
 use Rattle.activity.specs.Lives.{least_rest}
 use Rattle.activity.proofs.Items.{known-within, passed-within}
+use Rattle.activity.proofs.Pasts.{counts-is}
 
 -- where the newest of the packets has rested, all have
 all-since : (rest now last : ℕ) (packets : List Packet) → CameBy last packets → last + rest ≤ now → AllRested rest now packets
@@ -200,6 +201,12 @@ accounts-more protocol since past uses p h a = record {
     by at true (inl here) = inl (inl here)
     by at true (inr is) = old at true (a.accounted at is)
     by at false is = old at false (a.accounted at is)
+
+-- the same by what is kept
+pub accounts-kept : (protocol : Protocol) (since : ℕ) (past : History) (life : Activity) (uses : List ℕ) (p : Packet) → since ≤ p.at → Agrees protocol past life → AccountsFor protocol since past uses
+    → AccountsFor protocol p.at (with_packet p past) (cond (counts_at protocol life p) (p.at ∷ uses) uses)
+accounts-kept protocol since past life uses p h agrees a =
+    subst (λ b. AccountsFor protocol p.at (with_packet p past) (cond b (p.at ∷ uses) uses)) (sym (counts-is protocol past life p agrees)) (accounts-more protocol since past uses p h a)
 
 -- what was carried and counts was carried by now
 carried-by : (protocol : Protocol) (begun now at : ℕ) (packets : List Packet) → CameBetween begun now packets → WasCarried at (counted protocol packets) → at ≤ now
