@@ -1,12 +1,12 @@
 -- For which neighbours a request becomes due at a moment: for the sender of an ARP packet alone.
-use Rattle.std.proofs.Common.{◌≡◌, ◌⊎◌, inl, inr, ℕ, ◌-◌, Bool, true, false, not, cond, eqb, ◌&&◌, ◌||◌, nat_lt, nat_le, Option, List, [], ◌∷◌, ◌++◌, length, map, drop, is_some, refl, sym, ap, ◌∙◌, arith}
+use Rattle.std.proofs.Common.{◌≡◌, ◌⊎◌, inl, inr, ℕ, ◌-◌, Bool, true, false, not, cond, eqb, ◌&&◌, ◌||◌, nat_lt, nat_le, List, [], ◌∷◌, ◌++◌, length, map, drop, is_some, refl, sym, ◌∙◌, arith}
 use Rattle.std.specs.List.{filter, list_any}
 use Rattle.std.proofs.lemmas.Bool.{eqb-true, or_cases}
 use Rattle.std.proofs.lemmas.List.Folds.{list_any-append}
 use Rattle.addresses.specs.declared.ethernet.Mac.{Mac}
 use Rattle.addresses.specs.declared.internet.Ip.{Ip}
 use Rattle.arp.specs.declared.caches.CacheEntry.{CacheEntry}
-use Rattle.arp.specs.Neighbours.{Neighbours, all_sent, asks_at, entries_of, entries_taught, fixed_mac, has_entry, is_old, learnt_asks, learnt_sent, new_entry, renewed_entry, sent_at, sent_entry, sent_if, taught, wants_asking, with_newcomer, with_renewal, without, without_least, without_unsent}
+use Rattle.arp.specs.Neighbours.{Neighbours, all_sent, asks_at, entries_of, entries_taught, fixed_mac, has_entry, is_old, learnt_asks, learnt_sent, new_entry, renewed_entry, sent_at, sent_entry, taught, wants_asking, with_newcomer, with_renewal, without, without_least, without_unsent}
 use Rattle.arp.proofs.Logs.{true-both}
 
 or-left : (a b : Bool) → a ≡ true → (a || b) ≡ true
@@ -83,7 +83,7 @@ asks-sent-in host a now (e ∷ es) is = by (eqb e.address.0 a) (asks-sent-in hos
     by true rest is = at (or_cases (eqb e.address.0 host && wants_asking now (sent_entry now e)) (learnt_asks host now (learnt_sent a now es)) is)
       where
         at : ((eqb e.address.0 host && wants_asking now (sent_entry now e)) ≡ true) ⊎ (learnt_asks host now (learnt_sent a now es) ≡ true) → (mine || learnt_asks host now es) ≡ true
-        at (inl one) = absurd (let yes = (true-both (eqb e.address.0 host) (wants_asking now (sent_entry now e)) one).1 in let no = wants-once now e in cc)
+        at (inl one) = absurd (let due = (true-both (eqb e.address.0 host) (wants_asking now (sent_entry now e)) one).1 in let done = wants-once now e in cc)
         at (inr more) = or-right mine (learnt_asks host now es) (rest more)
     by false rest is = at (or_cases mine (learnt_asks host now (learnt_sent a now es)) is)
       where

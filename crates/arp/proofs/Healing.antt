@@ -11,7 +11,7 @@ use Rattle.addresses.specs.declared.internet.Ip.{Ip}
 use Rattle.arp.specs.declared.caches.CacheEntry.{CacheEntry}
 use Rattle.arp.specs.declared.caches.Neighbour.{Neighbour}
 use Rattle.arp.specs.Healing.{Call, Heard, SentTo, IsAfterPacket, after_call, after_calls, is_of_other}
-use Rattle.arp.specs.Neighbours.{Neighbours, all_sent, asks_at, entries_of, entries_taught, fixed_mac, has_entry, learnt_asks, learnt_mac, learnt_sent, mac_at, new_entry, renewed_entry, sent_at, sent_entry, sent_if, taught, wants_asking, with_newcomer, with_renewal, without, without_least, without_unsent}
+use Rattle.arp.specs.Neighbours.{Neighbours, all_sent, asks_at, entries_of, entries_taught, fixed_mac, has_entry, learnt_asks, learnt_mac, learnt_sent, mac_at, new_entry, renewed_entry, sent_entry, taught, wants_asking, with_newcomer, with_renewal, without, without_least, without_unsent}
 use Rattle.arp.proofs.Logs.{true-both}
 
 -- what is kept of a list by a test, of its first item and the rest

@@ -1,5 +1,5 @@
 -- A log and its index still agree after each change of both.
-use Rattle.std.proofs.Common.{◌≡◌, ◌≤◌, ◌<◌, ◌+◌, ◌-◌, ℕ, suc, Bool, true, false, cond, eqb, Result, Ok, Err, IfOk, IfErr, Option, Some, None, List, [], ◌∷◌, ◌++◌, length, get_or, set, take, refl, ◌∙◌, sym, ap, subst, arith}
+use Rattle.std.proofs.Common.{◌≡◌, ◌≤◌, ◌<◌, ◌+◌, ℕ, Bool, true, false, cond, eqb, Result, Ok, Err, IfOk, IfErr, Option, Some, None, List, [], ◌∷◌, ◌++◌, length, get_or, set, take, refl, ◌∙◌, sym, ap, subst, arith}
 use Rattle.std.specs.List.{insert, remove}
 use Rattle.std.specs.List.Sorted.{IsSearchInRange, IsBinarySearchResult, IsNonDecreasingBy}
 use Rattle.std.specs.Ordering.{nat_cmp, ordering_index}
@@ -10,10 +10,10 @@ use Rattle.std.proofs.lemmas.List.{length-map, map-set, set-get_or, length-appen
 use Rattle.std.proofs.lemmas.List.Edits.{length-insert, length-remove}
 use Rattle.arp.specs.declared.caches.CacheEntry.{CacheEntry}
 use Rattle.arp.specs.declared.learnt.Spot.{Spot}
-use Rattle.arp.specs.Neighbours.{without}
+use Rattle.arp.specs.Neighbours.{has_entry, without}
 use Rattle.arp.specs.Log.{kept, entry_addresses, spot_addresses, tally, IsRising, IsAt, IsGapFor, place_without, IsIndexed}
-use Rattle.arp.proofs.Tallies.{tally-at, tally-insert, tally-remove, gap-remove, rising-insert, rising-remove}
-use Rattle.arp.proofs.Logs.{kept-append, tally-push, length-without, tally-without, tally-out, length-out, front-clear}
+use Rattle.arp.proofs.Tallies.{tally-at, tally-gap, tally-insert, tally-remove, gap-remove, rising-insert, rising-remove}
+use Rattle.arp.proofs.Logs.{kept-append, tally-push, length-without, tally-without, tally-out, length-out, front-clear, has-none, has-some}
 
 pub spots-length : (i j : List Spot) → spot_addresses i ≡ spot_addresses j → length i ≡ length j
 spots-length i j same = sym (length-map i (λ s. s.address.0)) ∙ ap length same ∙ length-map j (λ s. s.address.0)
@@ -59,6 +59,13 @@ indexed-renewed log log' start index index' a e i old named at entries len front
 -- an address that is in the index is in the log once
 pub indexed-once : (log : List (Option CacheEntry)) (start : ℕ) (index : List Spot) (a i : ℕ) → IsIndexed log start index → IsAt (spot_addresses index) a i → tally a (entry_addresses (kept log)) ≡ 1
 indexed-once log start index a i old at = old.same a ∙ tally-at (spot_addresses index) old.rising a i at
+
+-- an address has an entry where a search of the index finds it, and else none
+pub has-known : (log : List (Option CacheEntry)) (start : ℕ) (index : List Spot) (a i : ℕ) → IsIndexed log start index → IsAt (spot_addresses index) a i → has_entry a (kept log) ≡ true
+has-known log start index a i old at = has-some a (kept log) (omega (arith, indexed-once log start index a i old at))
+
+pub has-unknown : (log : List (Option CacheEntry)) (start : ℕ) (index : List Spot) (a i : ℕ) → IsIndexed log start index → IsGapFor (spot_addresses index) a i → has_entry a (kept log) ≡ false
+has-unknown log start index a i old gap = has-none a (kept log) (old.same a ∙ tally-gap (spot_addresses index) a i gap)
 
 -- they agree after an entry of another address was added
 pub indexed-added : (log : List (Option CacheEntry)) (start : ℕ) (index : List Spot) (e : CacheEntry) (s : Spot) (i : ℕ) → IsIndexed log start index → length index < 1024 → s.address.0 ≡ e.address.0 → IsGapFor (spot_addresses index) e.address.0 i → IsIndexed (log ++ Some e ∷ []) start (insert index i s)

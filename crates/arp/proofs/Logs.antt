@@ -1,5 +1,5 @@
 -- The entries of a log after a place is emptied or an entry is appended, and the entry that leaves a full cache.
-use Rattle.std.proofs.Common.{◌≡◌, ◌≤◌, ◌<◌, ◌+◌, ℕ, zero, suc, Bool, true, false, ◌&&◌, ◌||◌, not, cond, eqb, Option, Some, None, MatchOption, IfSome, List, [], ◌∷◌, ◌++◌, length, drop, get_or, set, take, refl, sym, ap, arith}
+use Rattle.std.proofs.Common.{◌≡◌, ◌≤◌, ◌<◌, ◌+◌, ℕ, zero, suc, Bool, true, false, ◌&&◌, ◌||◌, not, cond, eqb, Option, Some, None, MatchOption, IfSome, List, [], ◌∷◌, ◌++◌, length, drop, get_or, set, take, refl, ◌∙◌, sym, ap, arith}
 use Rattle.std.proofs.lemmas.Bool.{eqb-true}
 use Rattle.std.proofs.lemmas.Bool.Decides.{nat_tests}
 use Rattle.std.proofs.lemmas.List.{map-append, take_more}
@@ -7,7 +7,7 @@ use Rattle.std.proofs.lemmas.List.Folds.{list_all-append}
 use Rattle.std.specs.List.{filter}
 use Rattle.std.specs.Prelude.{is_some}
 use Rattle.arp.specs.declared.caches.CacheEntry.{CacheEntry}
-use Rattle.arp.specs.Neighbours.{all_sent, entries_of, has_entry, learnt_mac, without, without_least, without_unsent}
+use Rattle.arp.specs.Neighbours.{all_sent, entries_of, has_entry, learnt_mac, without, without_unsent}
 use Rattle.arp.specs.Log.{kept, is_of, valid_mac, entry_addresses, tally, IsFirst, IsFirstUnsent, IsLeaving, IsPlaceOf}
 use Rattle.arp.proofs.Tallies.{tally-append}
 
@@ -168,8 +168,8 @@ kept-unsent (Some d ∷ log) zero e first =
     by d.sent (ap (λ (c : CacheEntry). c.sent) same ∙ first.unsent)
   where
     by : (b : Bool) → b ≡ false → ((b && all_sent (kept log)) ≡ false) × (kept log ≡ cond b (d ∷ without_unsent (kept log)) (kept log))
-    by true no = absurd (cc)
-    by false no = (refl, refl)
+    by true is = absurd (cc)
+    by false is = (refl, refl)
 kept-unsent (None ∷ log) (suc i) e first = kept-unsent log i e (record { within = omega (arith, first.within); is = first.is; unsent = first.unsent; before = first.before })
 kept-unsent (Some d ∷ log) (suc i) e first = by d.sent before.0 (kept-unsent log i e (record { within = omega (arith, first.within); is = first.is; unsent = first.unsent; before = before.1 }))
   where
@@ -177,8 +177,8 @@ kept-unsent (Some d ∷ log) (suc i) e first = by d.sent before.0 (kept-unsent l
     before = true-both d.sent (all_sent (kept (take i log))) first.before
 
     by : (b : Bool) → b ≡ true → (all_sent (kept log) ≡ false) × (kept (set log i None) ≡ without_unsent (kept log)) → ((b && all_sent (kept log)) ≡ false) × (d ∷ kept (set log i None) ≡ cond b (d ∷ without_unsent (kept log)) (kept log))
-    by true yes rest = (rest.0, ap (λ (ds : List CacheEntry). d ∷ ds) rest.1)
-    by false yes rest = absurd (cc)
+    by true is rest = (rest.0, ap (λ (ds : List CacheEntry). d ∷ ds) rest.1)
+    by false is rest = absurd (cc)
 
 pub unsent-leaves : (log : List (Option CacheEntry)) (i : ℕ) (e : CacheEntry) → IsFirstUnsent log i e → IsLeaving log i e
 unsent-leaves log i e first =

@@ -5,7 +5,7 @@ use Rattle.addresses.specs.declared.ethernet.Mac.{Mac}
 use Rattle.addresses.specs.declared.internet.Ip.{Ip}
 use Rattle.arp.specs.declared.caches.Neighbour.{Neighbour}
 use Rattle.arp.specs.declared.caches.CacheEntry.{CacheEntry}
-use Rattle.arp.specs.Neighbours.{Neighbours, fixed_mac, learnt_mac, mac_at, or_else, new_entry, renewed_entry, entries_of, entries_taught, has_entry, taught, with_newcomer, without, without_least, without_unsent, all_sent}
+use Rattle.arp.specs.Neighbours.{Neighbours, fixed_mac, learnt_mac, mac_at, or_else, new_entry, renewed_entry, entries_of, entries_taught, has_entry, taught, with_newcomer, without_least, without_unsent, all_sent}
 use Rattle.arp.specs.Macs.{AllSix, KnowsMacs}
 
 same-mac : (a mac : Mac) → (let o : Option Mac = Some a in o) ≡ Some mac → a ≡ mac

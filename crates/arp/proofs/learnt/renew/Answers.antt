@@ -1,6 +1,5 @@
-use Rattle.std.proofs.Common.{◌≡◌, ◌∷◌, [], Some, refl, sym, ◌∙◌, subst, arith}
+use Rattle.std.proofs.Common.{◌≡◌, ◌∷◌, [], Some, refl, arith}
 use Rattle.std.proofs.lemmas.List.{length-append}
-use Rattle.arp.specs.Log.{spot_addresses, IsAt}
 use Rattle.arp.proofs.Logs.{kept-append}
 use Rattle.arp.proofs.Indexed.{indexed-once, indexed-renewed, noted}
 use Rattle.arp.proofs.learnt.renew.Goals as goal
@@ -20,3 +19,9 @@ returns-in-Some-clause-holds c =
       log_room = rw (c.push.ensures.capacity, c.take_out.ensures.capacity) c.requires.holds.log_room;
       index_room = c.requires.holds.index_room;
     }
+
+pub returns-in_default-clause-entries : goal.returns-in_default-clause-entries
+returns-in_default-clause-entries c = absurd (omega (arith, c.in_default.ensures.entry, indexed-once c.args.learnt.now.log.items c.args.learnt.now.start c.args.learnt.now.index.items c.args.address.0 c.args.at c.requires.holds.indexed c.requires.at))
+
+pub returns-in_default-clause-holds : goal.returns-in_default-clause-holds
+returns-in_default-clause-holds c = absurd (omega (arith, c.in_default.ensures.entry, indexed-once c.args.learnt.now.log.items c.args.learnt.now.start c.args.learnt.now.index.items c.args.address.0 c.args.at c.requires.holds.indexed c.requires.at))

@@ -1,4 +1,4 @@
-use Rattle.std.proofs.Common.{◌≡◌, ◌∷◌, [], None, get_or, sym, subst, ap, ◌∙◌}
+use Rattle.std.proofs.Common.{◌≡◌, None, get_or, sym, subst, ◌∙◌}
 use Rattle.std.proofs.lemmas.List.{get_or_default}
 use Rattle.arp.specs.Log.{kept, entry_addresses, tally, IsPlaceOf}
 use Rattle.arp.proofs.Logs.{entry-taken, kept-clear, front-clear, without-none}

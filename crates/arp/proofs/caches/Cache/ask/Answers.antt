@@ -1,4 +1,3 @@
-use Rattle.arp.specs.Neighbours.{Neighbours}
 use Rattle.arp.specs.Log.{kept}
 use Rattle.arp.proofs.Sent.{sent-six-in}
 use Rattle.arp.proofs.caches.Cache.ask.Goals as goal
