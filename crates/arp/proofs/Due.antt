@@ -6,7 +6,7 @@ use Rattle.std.proofs.lemmas.List.Folds.{list_any-append}
 use Rattle.addresses.specs.declared.ethernet.Mac.{Mac}
 use Rattle.addresses.specs.declared.internet.Ip.{Ip}
 use Rattle.arp.specs.declared.caches.CacheEntry.{CacheEntry}
-use Rattle.arp.specs.Neighbours.{Neighbours, all_sent, asks_at, entries_of, entries_taught, fixed_mac, has_entry, is_old, learnt_asks, learnt_sent, new_entry, renewed_entry, sent_at, sent_entry, taught, wants_asking, with_newcomer, with_renewal, without, without_least, without_unsent}
+use Rattle.arp.specs.Neighbours.{Neighbours, all_sent, asks_at, entries_of, entries_taught, fixed_mac, has_entry, is_old, learnt_asks, learnt_sent, new_entry, renewed_entry, sent_at, sent_entry, taught, wants_asking, with_newcomer, with_renewal, without, after_one_left, without_unsent}
 use Rattle.arp.proofs.Logs.{true-both}
 
 or-left : (a b : Bool) → a ≡ true → (a || b) ≡ true
@@ -149,7 +149,7 @@ module _ (host now : ℕ) (ip : Ip) (mac : Mac) (other : eqb ip.0 host ≡ false
 
       by : (b c : Bool) → list_any due (let ds : List CacheEntry = cond b (with_renewal ip.0 mac now es) (cond c (with_newcomer (new_entry ip mac now) es) es) in ds) ≡ true → list_any due es ≡ true
       by true c is = any-filter due (λ e. not (eqb e.address.0 ip.0)) es (among-first (without ip.0 es) (map (renewed_entry mac now) (entries_of ip.0 es)) (none-renewed es) is)
-      by false true is = any-room due (nat_lt (length es) 1024) (all_sent es) es (among-first (cond (nat_lt (length es) 1024) es (without_least es)) (new_entry ip mac now ∷ []) alone is)
+      by false true is = any-room due (nat_lt (length es) 1024) (all_sent es) es (among-first (cond (nat_lt (length es) 1024) es (after_one_left es)) (new_entry ip mac now ∷ []) alone is)
       by false false is = is
 
 pub asks-taught : (host now : ℕ) (ip : Ip) (mac : Mac) (for_us : Bool) (known : Neighbours) → eqb ip.0 host ≡ false → asks_at host now (taught ip mac for_us now known) ≡ true → asks_at host now known ≡ true

@@ -11,7 +11,7 @@ use Rattle.addresses.specs.declared.internet.Ip.{Ip}
 use Rattle.arp.specs.declared.caches.CacheEntry.{CacheEntry}
 use Rattle.arp.specs.declared.caches.Neighbour.{Neighbour}
 use Rattle.arp.specs.Healing.{Call, Heard, SentTo, IsAfterPacket, after_call, after_calls, is_of_other}
-use Rattle.arp.specs.Neighbours.{Neighbours, all_sent, asks_at, entries_of, entries_taught, fixed_mac, has_entry, learnt_asks, learnt_mac, learnt_sent, mac_at, new_entry, renewed_entry, sent_entry, taught, wants_asking, with_newcomer, with_renewal, without, without_least, without_unsent}
+use Rattle.arp.specs.Neighbours.{Neighbours, all_sent, asks_at, entries_of, entries_taught, fixed_mac, has_entry, learnt_asks, learnt_mac, learnt_sent, mac_at, new_entry, renewed_entry, sent_entry, taught, wants_asking, with_newcomer, with_renewal, without, after_one_left, without_unsent}
 use Rattle.arp.proofs.Logs.{true-both}
 
 -- what is kept of a list by a test, of its first item and the rest
@@ -172,7 +172,7 @@ module _ (a : ℕ) (e : CacheEntry) where
   newcomer d es other was = one-or-none a e room (with_newcomer d es) same (room-made (nat_lt (length es) 1024) (all_sent es) a e es was)
     where
       room : List CacheEntry
-      room = cond (nat_lt (length es) 1024) es (without_least es)
+      room = cond (nat_lt (length es) 1024) es (after_one_left es)
 
       alone : entries_of a (d ∷ []) ≡ []
       alone = rw other refl

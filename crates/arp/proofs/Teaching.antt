@@ -1,11 +1,11 @@
 -- Whether an address has an entry after an ARP packet of it.
-use Rattle.std.proofs.Common.{◌≡◌, ℕ, Bool, true, false, not, cond, eqb, ◌||◌, nat_lt, List, [], ◌∷◌, length, map, refl, ap, ◌∙◌, arith}
+use Rattle.std.proofs.Common.{◌≡◌, ℕ, Bool, true, false, not, cond, eqb, ◌||◌, nat_lt, List, [], ◌∷◌, length, map, refl, sym, ap, ◌∙◌, arith}
 use Rattle.std.proofs.lemmas.Bool.Decides.{nat_tests}
 use Rattle.std.proofs.lemmas.List.Folds.{list_any-append}
 use Rattle.addresses.specs.declared.ethernet.Mac.{Mac}
 use Rattle.addresses.specs.declared.internet.Ip.{Ip}
 use Rattle.arp.specs.declared.caches.CacheEntry.{CacheEntry}
-use Rattle.arp.specs.Neighbours.{entries_of, entries_taught, has_entry, new_entry, renewed_entry, with_newcomer, with_renewal, without, without_least}
+use Rattle.arp.specs.Neighbours.{entries_of, entries_taught, has_entry, new_entry, renewed_entry, with_newcomer, with_renewal, without, after_one_left}
 
 has-without : (a : ℕ) (es : List CacheEntry) → has_entry a (without a es) ≡ false
 has-without a [] = refl
@@ -45,6 +45,9 @@ has-taught address mac for_us now es = by (has_entry address.0 es) for_us refl
         ∙ has-renewed a mac now es
         ∙ is
     by false true is =
-        list_any-append (λ (e : CacheEntry). eqb e.address.0 a) (cond (nat_lt (length es) 1024) es (without_least es)) (new_entry address mac now ∷ [])
-        ∙ or-true (has_entry a (cond (nat_lt (length es) 1024) es (without_least es))) (eqb a a) itself
+        list_any-append (λ (e : CacheEntry). eqb e.address.0 a) (cond (nat_lt (length es) 1024) es (after_one_left es)) (new_entry address mac now ∷ [])
+        ∙ or-true (has_entry a (cond (nat_lt (length es) 1024) es (after_one_left es))) (eqb a a) itself
     by false false is = is
+
+pub has-after : (address : Ip) (mac : Mac) (for_us : Bool) (now : ℕ) (es ds : List CacheEntry) (r : Bool) → ds ≡ entries_taught address mac for_us now es → r ≡ (has_entry address.0 es || for_us) → r ≡ has_entry address.0 ds
+has-after address mac for_us now es ds r entries teaches = teaches ∙ sym (ap (has_entry address.0) entries ∙ has-taught address mac for_us now es)

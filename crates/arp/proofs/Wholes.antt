@@ -5,7 +5,7 @@ use Rattle.addresses.specs.declared.ethernet.Mac.{Mac}
 use Rattle.addresses.specs.declared.internet.Ip.{Ip}
 use Rattle.arp.specs.declared.caches.Neighbour.{Neighbour}
 use Rattle.arp.specs.declared.caches.CacheEntry.{CacheEntry}
-use Rattle.arp.specs.Neighbours.{Neighbours, fixed_mac, learnt_mac, mac_at, or_else, new_entry, renewed_entry, entries_of, entries_taught, has_entry, taught, with_newcomer, without_least, without_unsent, all_sent}
+use Rattle.arp.specs.Neighbours.{Neighbours, fixed_mac, learnt_mac, mac_at, or_else, new_entry, renewed_entry, entries_of, entries_taught, has_entry, taught, with_newcomer, after_one_left, without_unsent, all_sent}
 use Rattle.arp.specs.Macs.{AllSix, KnowsMacs}
 
 same-mac : (a mac : Mac) → (let o : Option Mac = Some a in o) ≡ Some mac → a ≡ mac
@@ -65,13 +65,16 @@ renewed-six mac now (e ∷ es) six = (six, renewed-six mac now es six)
 
 newcomer-six : (e : CacheEntry) (es : List CacheEntry) → length e.mac.0 ≡ 6 → AllSix (λ e. e.mac) es → AllSix (λ e. e.mac) (with_newcomer e es)
 newcomer-six e es six all =
-    append-six (λ (x : CacheEntry). x.mac) _ (e ∷ []) (if-six (nat_lt (length es) 1024) es (without_least es) all (if-six (all_sent es) (drop 1 es) (without_unsent es) (drop-six 1 es all) (unsent-six es all))) (six, tt)
+    append-six (λ (x : CacheEntry). x.mac) _ (e ∷ []) (if-six (nat_lt (length es) 1024) es (after_one_left es) all (if-six (all_sent es) (drop 1 es) (without_unsent es) (drop-six 1 es all) (unsent-six es all))) (six, tt)
 
 pub taught-six-in : (address : Ip) (mac : Mac) (for_us : Bool) (now : ℕ) (es : List CacheEntry) → length mac.0 ≡ 6 → AllSix (λ e. e.mac) es → AllSix (λ (e : CacheEntry). e.mac) (entries_taught address mac for_us now es)
 taught-six-in address mac for_us now es six all =
     if-six (has_entry address.0 es) _ _
     (append-six (λ (x : CacheEntry). x.mac) _ _ (filter-six (λ e. not (e.address.0 == address.0)) es all) (renewed-six mac now (entries_of address.0 es) six))
     (if-six for_us _ es (newcomer-six (new_entry address mac now) es six all) all)
+
+pub six-after : (address : Ip) (mac : Mac) (for_us : Bool) (now : ℕ) (es ds : List CacheEntry) → ds ≡ entries_taught address mac for_us now es → length mac.0 ≡ 6 → AllSix (λ e. e.mac) es → AllSix (λ (e : CacheEntry). e.mac) ds
+six-after address mac for_us now es ds entries six all = rw entries (taught-six-in address mac for_us now es six all)
 
 -- all known hardware addresses have six bytes after an ARP packet with one of six
 pub taught-six : (address : Ip) (mac : Mac) (for_us : Bool) (now : ℕ) (known : Neighbours) → KnowsMacs known → length mac.0 ≡ 6 → KnowsMacs (taught address mac for_us now known)

@@ -6,7 +6,7 @@ use Rattle.arp.specs.declared.caches.CacheEntry.{CacheEntry}
 use Rattle.arp.specs.declared.learnt.TheConstants.{PLACES}
 use Rattle.arp.specs.declared.learnt.Learnt.{Learnt}
 use Rattle.arp.specs.declared.learnt.Spot.{Spot}
-use Rattle.arp.specs.Neighbours.{all_sent, sent_entry, wants_asking, without_least}
+use Rattle.arp.specs.Neighbours.{all_sent, sent_entry, wants_asking, after_one_left}
 
 -- the entries of the places that aren't empty
 abbrev pub kept : List (Option CacheEntry) → List CacheEntry
@@ -85,7 +85,7 @@ pub record IsFirstUnsent (log : List (Option CacheEntry)) (i : ℕ) (e : CacheEn
 pub record IsLeaving (log : List (Option CacheEntry)) (i : ℕ) (e : CacheEntry) : Type 0 where
   pub within : i < length log
   pub is : slice_index_or log i None ≡ Some e
-  pub rest : kept (slice_set log i None) ≡ without_least (kept log)
+  pub rest : kept (slice_set log i None) ≡ after_one_left (kept log)
 
 -- a log and its index agree: the index has each entry's address once, in order, and the places before the start are
 -- empty

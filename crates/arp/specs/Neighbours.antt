@@ -57,16 +57,16 @@ without_unsent (e ∷ entries) = if e.sent then e ∷ without_unsent entries els
 
 -- the entries after one left: the oldest by which no packet was sent since it was learnt, or the oldest of all where
 -- there is none
-abbrev pub without_least : List CacheEntry → List CacheEntry
-without_least entries = if all_sent entries then drop 1 entries else without_unsent entries
+abbrev pub after_one_left : List CacheEntry → List CacheEntry
+after_one_left entries = if all_sent entries then drop 1 entries else without_unsent entries
 
 -- the entries after a new one came, before which one left where there were 1,024
 abbrev pub with_newcomer : CacheEntry → List CacheEntry → List CacheEntry
 with_newcomer entry entries =
-    (if nat_lt (length entries) ENTRIES then entries else without_least entries) ++ entry ∷ []
+    (if nat_lt (length entries) ENTRIES then entries else after_one_left entries) ++ entry ∷ []
 
--- the entries after an ARP packet of that sender. A packet that isn't for the interface (`for_us`) renews, and adds none
--- (RFC 826, "Packet Reception").
+-- the entries after an ARP packet of that sender. `for_us`: it asks for the interface or answers it, or a packet waits for
+-- its sender. Another packet renews the entry that is there, and adds none (RFC 826, "Packet Reception").
 abbrev pub entries_taught : Ip → Mac → Bool → ℕ → List CacheEntry → List CacheEntry
 entries_taught address mac for_us now entries =
     if has_entry address.0 entries then with_renewal address.0 mac now entries
@@ -130,7 +130,7 @@ abbrev pub asks_at : ℕ → ℕ → Neighbours → Bool
 asks_at address now known =
     not (is_some (fixed_mac address known.fixed)) && learnt_asks address now known.learnt
 
--- the neighbours after a packet was sent to that address. One to a fixed neighbour is sent by no learnt entry.
+-- the neighbours after a packet was sent to that address. A packet to a fixed neighbour is sent by no learnt entry.
 abbrev pub sent_at : ℕ → ℕ → Neighbours → Neighbours
 sent_at address now known =
     if is_some (fixed_mac address known.fixed) then known

@@ -89,9 +89,10 @@ impl Cache {
     }
 
     /// Renews a neighbour at the time `now`, in centiseconds, by an ARP packet that it sent. Where
-    /// its address has no entry, learns it if the packet is for the interface (`for_us`). Returns
-    /// whether the address has an entry now. Of 1,024 entries of other addresses the oldest by
-    /// which no packet was sent leaves, or the oldest where there is none, valid or not.
+    /// its address has no entry, learns it if the packet is for the interface (`for_us`): if it asks
+    /// for the interface or answers it, or if a packet waits for its sender. Returns whether the
+    /// address has an entry now. Of 1,024 entries of other addresses the oldest by which no packet
+    /// was sent leaves, or the oldest where there is none, valid or not.
     pub fn learn(&mut self, address: Ip, mac: Mac, for_us: bool, now: u64) -> bool
         ensures after { self.new ≡ taught address mac for_us now self.old }
         ensures teaches { result ≡ (has_entry address.0 self.old.learnt || for_us) }

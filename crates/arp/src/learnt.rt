@@ -2,8 +2,9 @@
 //! address.
 ghost use Rattle.std.specs.Prelude.{◌≡◌, ◌≤◌, ◌++◌, ◌∷◌, [], ◌<◌, ◌||◌, ℕ, Some, true, false, take, length, vec_len, vec_capacity, IfOk, IfErr, IfSome, OnErr, MatchOption};
 ghost use Rattle.std.specs.List.{insert, remove};
-ghost use Rattle.arp.specs.Neighbours.{all_sent, entries_of, entries_taught, has_entry, is_old, learnt_asks, learnt_mac, learnt_sent, new_entry, renewed_entry, sent_entry, wants_asking, with_newcomer, with_renewal, without, without_least};
+ghost use Rattle.arp.specs.Neighbours.{all_sent, entries_of, entries_taught, has_entry, is_old, learnt_asks, learnt_mac, learnt_sent, new_entry, renewed_entry, sent_entry, wants_asking, with_newcomer, with_renewal, without, after_one_left};
 ghost use Rattle.arp.specs.Log.{kept, is_of, valid_mac, entry_addresses, spot_addresses, tally, IsRising, IsAt, IsGapFor, IsPlaceOf, IsFirst, IsFirstUnsent, IsLeaving, IsLearnt, place_without, place_asks, place_sent};
+ghost use Rattle.arp.specs.Macs.{AllSix};
 ghost use Rattle.arp.specs.Memory.{LacksLearnt};
 
 use crate::caches::{ASKED_AFTER, CacheEntry, ENTRIES, RENEWED_AFTER, VALID_FOR};
@@ -57,6 +58,9 @@ pub fn learn(learnt: &mut Learnt, address: Ip, mac: Mac, for_us: bool, now: u64)
     ensures entries { kept learnt.new.log.items
         ≡ entries_taught address mac for_us now (kept learnt.old.log.items) }
     ensures teaches { result ≡ (has_entry address.0 (kept learnt.old.log.items) || for_us) }
+    ensures has { result ≡ has_entry address.0 (kept learnt.new.log.items) }
+    ensures six { length mac.0 ≡ 6 → AllSix (λ e. e.mac) (kept learnt.old.log.items)
+        → AllSix (λ e. e.mac) (kept learnt.new.log.items) }
     ensures holds { IsLearnt learnt.new }
 {
     make_room(learnt);
@@ -337,7 +341,7 @@ fn supplant(learnt: &mut Learnt, at: usize, entry: CacheEntry)
     requires some { 0 < length learnt.old.index.items }
     requires at { IsGapFor (spot_addresses learnt.old.index.items) entry.address.0 at }
     ensures entries { kept learnt.new.log.items
-        ≡ without_least (kept learnt.old.log.items) ++ entry ∷ [] }
+        ≡ after_one_left (kept learnt.old.log.items) ++ entry ∷ [] }
     ensures holds { IsLearnt learnt.new }
 {
     if let Some((first, oldest)) = first_entry(&learnt.log, learnt.start) {
