@@ -1,0 +1,2 @@
+mod Grammar
+pub mod Routes
