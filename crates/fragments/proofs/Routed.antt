@@ -3,7 +3,7 @@ use Rattle.std.proofs.Common.{◌≡◌, ℕ, zero, suc, ◌<◌, ◌≤◌, Boo
 use Rattle.std.proofs.lemmas.Bool.Decides.{nat_tests}
 use Rattle.std.proofs.lemmas.List.{drop_at, length-append, length-take-le}
 use Rattle.ipv4.specs.Options.{has_source_route, is_source_route, option_size}
-use Rattle.ipv4.proofs.Routes.{route-first, route-goes}
+use Rattle.ipv4.proofs.Offered.{route-first, route-goes}
 use Rattle.fragments.specs.Options.{later_from, later_options, option_later}
 use Rattle.fragments.proofs.Later.{size-within, some-size}
 

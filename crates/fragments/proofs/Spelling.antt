@@ -44,6 +44,11 @@ pub length-header : (fields : Fields) (packet options : List ℕ) → length (he
 unfolding header_with fixed_summed
 length-header fields packet options = omega arith
 
+-- the options of a packet whose header was written
+pub options-written : (fields : Fields) (packet options payload : List ℕ) → (header_of packet).header_length ≡ 20 + length options → options_of (header_with fields packet options ++ payload) ≡ options
+unfolding header_with fixed_summed
+options-written fields packet options payload size = take_at options payload ((header_of packet).header_length - 20) (omega (arith, size))
+
 -- the first 20 bytes and the options have a right checksum
 right-header : (fields : Fields) (packet options : List ℕ) → (header_of packet).version ≡ 4 → IsRight (header_with fields packet options)
 unfolding header_with fixed_summed
@@ -57,7 +62,7 @@ spelled fields packet options payload is =
     let size : length written ≡ (header_of packet).header_length = length-header fields packet options ∙ sym is.header in
     let total : (header_of bytes).total_length ≡ fields.total = word-written fields.total is.fits in
     let behind : 20 + length options - 20 ≡ length options = omega arith in
-    let options_are : options_of bytes ≡ options = take_at options payload ((header_of packet).header_length - 20) (omega (arith, is.header)) in
+    let options_are : options_of bytes ≡ options = options-written fields packet options payload is.header in
     record {
       service = refl;
       identification = word-written fields.identification is.identification;

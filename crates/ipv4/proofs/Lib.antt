@@ -1,2 +1,3 @@
 mod Grammar
-pub mod Routes
+mod Routes
+pub mod Offered

@@ -17,13 +17,13 @@ abbrev pub is_source_route : ℕ → Bool
 is_source_route kind = (kind == 0x83) || (kind == 0x89)
 
 -- of the options that begin behind so many bytes, one is a source route
-abbrev pub is_routed_behind : ℕ → List ℕ → Bool
-is_routed_behind skipped [] = false
-is_routed_behind (suc skipped) (byte ∷ rest) = is_routed_behind skipped rest
-is_routed_behind zero (kind ∷ rest) =
+abbrev pub has_route_behind : ℕ → List ℕ → Bool
+has_route_behind skipped [] = false
+has_route_behind (suc skipped) (byte ∷ rest) = has_route_behind skipped rest
+has_route_behind zero (kind ∷ rest) =
     let size = option_size (kind ∷ rest) in
-    is_source_route kind || (not (size == 0) && is_routed_behind (size - 1) rest)
+    is_source_route kind || (not (size == 0) && has_route_behind (size - 1) rest)
 
 -- one of a header's options is a source route
 unfoldable pub has_source_route : List ℕ → Bool
-has_source_route options = is_routed_behind 0 options
+has_source_route options = has_route_behind 0 options
