@@ -24,9 +24,12 @@ size-there kind second long long2 high some fits = grind (arith, nat_tests)
 size-two : (kind second long : ℕ) → nat_le 128 kind ≡ true → 0 < size_in kind second long → 2 ≤ size_in kind second long
 size-two kind second long high some = grind (arith, nat_tests)
 
+size-none : (kind long : ℕ) → nat_le 128 kind ≡ true → size_in kind 0 long ≡ 0
+size-none kind long high = grind (arith, nat_tests)
+
 -- it is as long whatever stands behind it
 copied-size : (kind : ℕ) (rest more : List ℕ) → nat_le 128 kind ≡ true → 0 < option_size (kind ∷ rest) → option_size (take (option_size (kind ∷ rest)) (kind ∷ rest) ++ more) ≡ option_size (kind ∷ rest)
-copied-size kind [] more high some = absurd (omega (arith, size-two kind 0 1 high some))
+copied-size kind [] more high some = absurd (omega (arith, some, size-none kind 1 high))
 copied-size kind (second ∷ rest) more high some = by (option_size (kind ∷ second ∷ rest)) (size-two kind second (length (kind ∷ second ∷ rest)) high some) refl
   where
     by : (size : ℕ) → 2 ≤ size → option_size (kind ∷ second ∷ rest) ≡ size → option_size (take size (kind ∷ second ∷ rest) ++ more) ≡ size
