@@ -1,5 +1,5 @@
 -- The tests of an IPv4 header, and what they say where none fails.
-use Rattle.std.proofs.Common.{◌≡◌, ◌≤◌, ◌<◌, ◌%◌, ℕ, Bool, true, false, not, ◌||◌, ◌==◌, nat_lt, List, [], ◌∷◌, length, take, arith, Option, None, ◌↔◌}
+use Rattle.std.proofs.Common.{◌≡◌, ◌≤◌, ◌<◌, ◌%◌, ℕ, Bool, false, not, ◌||◌, ◌==◌, nat_lt, List, [], ◌∷◌, length, take, arith, Option, None, ◌↔◌}
 use Rattle.std.proofs.lemmas.Bool.Decides.{nat_tests}
 use Rattle.sums.specs.Sum.{word_sum}
 use Rattle.ipv4.specs.Header.{IsIpv4, has_wrong_sum, header_of, ipv4_refusal, options_of}

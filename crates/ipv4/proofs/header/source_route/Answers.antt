@@ -1,4 +1,4 @@
-use Rattle.std.proofs.Common.{◌≡◌, ◌≤◌, nat_lt, false, ◌∙◌, sym, arith}
+use Rattle.std.proofs.Common.{◌≡◌, nat_lt, false, ◌∙◌, sym, arith}
 use Rattle.std.proofs.lemmas.Bool.Decides.{nat_tests}
 use Rattle.ipv4.proofs.Routes.{route-short}
 use Rattle.ipv4.proofs.header.source_route.Goals as goal
