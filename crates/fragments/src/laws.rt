@@ -69,8 +69,8 @@ pub fn whole_again()
         → reassembled others ≡ identified identification frame }
 {}
 
-/// A packet is cut into at most 128 fragments with right headers without a source route, of at most `mtu` bytes of IPv4. Each
-/// but the last carries as many bytes as a multiple of 8 allows.
+/// A packet is cut into at most 128 fragments with right headers without a source route, of at most `mtu` bytes of IPv4.
+/// Each but the last carries as many bytes as a multiple of 8 allows.
 pub fn cut_law()
     ensures few { (mtu identification : ℕ) (frame : List ℕ)
         → IsCut mtu identification frame → piece_count mtu (ipv4_in frame) ≤ 128 }
