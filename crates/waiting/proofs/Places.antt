@@ -194,11 +194,11 @@ shares-push kept w (Pair endpoint) for place is address = by (is_for_host addres
     f v = cond (is_for_host address v.wait) 1 0
 
     by : (b : Bool) → is_for_host address w.wait ≡ b → host_count address (kept ++ w ∷ []) ≤ 16
-    by true yes =
-        let same : endpoint.address.0 ≡ address = eqb-true _ _ (ap (is_for_host address) (sym for) ∙ yes) in
+    by true is_of =
+        let same : endpoint.address.0 ≡ address = eqb-true _ _ (ap (is_for_host address) (sym for) ∙ is_of) in
         let few : host_count address kept < 16 = subst (λ (a : ℕ). host_count a kept < 16) same (pair-room kept endpoint place).1 in
-        omega (arith, rw yes at (sum_by_push f kept w), few)
-    by false no = omega (arith, rw no at (sum_by_push f kept w), is.shares address)
+        omega (arith, rw is_of at (sum_by_push f kept w), few)
+    by false isnt = omega (arith, rw isnt at (sum_by_push f kept w), is.shares address)
 shares-push kept w (Hop side host) for place is address =
     let none : is_for_host address w.wait ≡ false = ap (is_for_host address) for in
     let room = hop-room (nat_lt (hop_count kept) 64) kept refl is in
