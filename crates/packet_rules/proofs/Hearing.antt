@@ -18,7 +18,7 @@ use Rattle.packet_rules.proofs.Passing.{IsApart, unless-passes, ok-passes, both-
 
 -- an advertisement from an address is the peer's
 abbrev IsPeers : Peer → Message → Ip → Type 0
-IsPeers peer advert from = (from.0 ≡ peer.ip.0) × ((advert.interval ≡ peer.interval) × ((advert.priority ≡ peer.priority) ⊎ (advert.priority ≡ 0)))
+IsPeers peer advert from = (from.0 ≡ peer.ip.0) × (advert.interval ≡ peer.interval) × ((advert.priority ≡ peer.priority) ⊎ (advert.priority ≡ 0))
 
 -- what is read is the peer's, where it is an advertisement
 abbrev IsHeard : Peer → Reading → Type 0
@@ -39,7 +39,7 @@ counted : (peer : Peer) (advert : Message) (from : Ip) → counts (Some peer) fr
 counted peer advert from is =
     let source = both-true (from.0 == peer.ip.0) _ is in
     let values = both-true ((advert.priority == peer.priority) || (advert.priority == 0)) (advert.interval == peer.interval) source.1 in
-    (same-number _ _ source.0, (same-number _ _ values.1, either-number advert.priority peer.priority 0 values.0))
+    (same-number _ _ source.0, same-number _ _ values.1, either-number advert.priority peer.priority 0 values.0)
 
 -- an advertisement that passes is the peer's
 heard : (network : Network) (packet : List ℕ) (peer : Peer) (advert : Message) (from : Ip) → network.peer ≡ Some peer → advert_reading network packet ≡ Ok (Advert advert from) → IsPeers peer advert from
