@@ -110,7 +110,7 @@ abbrev pub with_neighbour : Interface → ArpPacket → Bool → ℕ → Interfa
 with_neighbour station p waited_for now = record station {
   neighbours =
       taught p.sender_ip p.sender_mac (may_come_in station p waited_for) now
-          station.neighbours;
+      station.neighbours;
 }
 
 -- the interface after it heard an ARP packet
