@@ -1,5 +1,5 @@
 -- With the peer's advertisements alone, what is read as an advertisement is the peer's.
-use Rattle.std.proofs.Common.{◌≡◌, ◌⊎◌, inl, inr, ℕ, Bool, true, false, cond, ◌==◌, ◌&&◌, ◌||◌, not, is_none, Option, Some, None, Result, Ok, List, refl, sym, ap, ◌∙◌, subst}
+use Rattle.std.proofs.Common.{◌≡◌, ◌⊎◌, inl, inr, ℕ, Bool, true, false, cond, ◌==◌, ◌&&◌, ◌||◌, not, is_none, Some, Result, Ok, List, refl, sym, ap, ◌∙◌, subst}
 use Rattle.addresses.specs.declared.internet.Ip.{Ip}
 use Rattle.frames.specs.Frame.{frame_of}
 use Rattle.ipv4.specs.Header.{header_of, payload_of}
