@@ -6,6 +6,7 @@ use Rattle.sums.specs.Sum.{checksum_of, IsRight}
 use Rattle.addresses.specs.declared.internet.Ip.{Ip}
 use Rattle.frames.specs.Frame.{frame_of}
 use Rattle.ipv4.specs.Header.{IsIpv4, header_of, payload_of, ipv4_refusal}
+use Rattle.ipv4.proofs.Offered.{route-none}
 use Rattle.vrrp_packet.specs.declared.Advert.{Advert as Message}
 use Rattle.vrrp_packet.specs.Message.{advert_refusal, IsAdvert, IsWritable, advert_of, advert_bytes}
 use Rattle.packet_rules.specs.declared.networks.Network.{Network}
@@ -52,6 +53,7 @@ packet-ipv4 source advert = record {
   holds_header = omega arith;
   there = omega arith;
   sum = header-right source;
+  no_source_route = route-none;
   last = refl;
   first = refl;
 }
@@ -88,9 +90,9 @@ packet-read c network peer priority interval writable fits router other counted 
     let named = same-number _ _ (ap (λ (a : Message). a.router) read.1 ∙ sym router) in
     let foreign = other-number _ _ (λ e. other (sym e ∙ source)) in
     let heard =
-        ap (counts peer.peer (header_of packet).source) read.1
-        ∙ ap (λ s. counts peer.peer s own) source
-        ∙ counted
+    ap (counts peer.peer (header_of packet).source) read.1
+    ∙ ap (λ s. counts peer.peer s own) source
+    ∙ counted
     in
     ok-reading _ _ own _ network.own_ip (two-true _ _ none (two-true _ _ named (two-true _ _ foreign heard))) read.1 source
 

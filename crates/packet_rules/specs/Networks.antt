@@ -7,7 +7,7 @@ use Rattle.addresses.specs.declared.transport.Protocol.{Protocol}
 use Rattle.addresses.specs.declared.transport.Protocol.TheVariants.{Icmp}
 use Rattle.addresses.specs.declared.internet.Ip.{Ip}
 use Rattle.nat_types.specs.declared.gateways.GatewayId.{GatewayId}
-use Rattle.nat_types.specs.declared.gateways.GatewayId.TheVariants.{Zero, One}
+use Rattle.nat_types.specs.Same.{other}
 use Rattle.nat_types.specs.declared.gateways.Side.{Side}
 use Rattle.nat_types.specs.declared.gateways.Side.TheVariants.{Inside, Outside}
 use Rattle.settings.specs.declared.gateway_settings.GatewaySettings.{GatewaySettings}
@@ -33,28 +33,23 @@ abbrev pub network_of : Networks → Side → Network
 network_of networks Inside = networks.inside
 network_of networks Outside = networks.outside
 
--- the other gateway
-abbrev pub other_of : GatewayId → GatewayId
-other_of Zero = One
-other_of One = Zero
-
 -- what the other gateway's advertisements have where this is its address, if they alone count
 abbrev pub peer_at : Settings → GatewaySettings → Ip → Option Peer
-peer_at settings other ip =
+peer_at settings there ip =
     (if settings.vrrp.peer_only
-    then Some (record { ip = ip; priority = other.priority; interval = other.interval })
+    then Some (record { ip = ip; priority = there.priority; interval = there.interval })
     else None)
 
 -- the two networks of one gateway, by the settings
 abbrev pub networks_of : Settings → GatewayId → Networks
-networks_of settings id = let other = gateway_of settings (other_of id) in record {
+networks_of settings id = let there = gateway_of settings (other id) in record {
   inside = record {
     interface = settings.inside;
     own_mac = (gateway_of settings id).inside_mac;
     own_ip = (gateway_of settings id).inside_ip;
     outside_ip = settings.outside.virtual_ip;
     icmp = settings.icmp;
-    peer = peer_at settings other other.inside_ip;
+    peer = peer_at settings there there.inside_ip;
   };
   outside = record {
     interface = settings.outside;
@@ -62,7 +57,7 @@ networks_of settings id = let other = gateway_of settings (other_of id) in recor
     own_ip = (gateway_of settings id).outside_ip;
     outside_ip = settings.outside.virtual_ip;
     icmp = settings.icmp;
-    peer = peer_at settings other other.outside_ip;
+    peer = peer_at settings there there.outside_ip;
   };
   router = settings.router;
   pass = settings.fragments.pass;

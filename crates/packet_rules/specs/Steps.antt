@@ -18,7 +18,7 @@ use Rattle.arp.specs.Packet.{arp_refusal, packet_of}
 use Rattle.vrrp_packet.specs.declared.Advert.{Advert as Message}
 use Rattle.vrrp_packet.specs.Message.{advert_refusal, advert_of}
 use Rattle.packet_rules.specs.declared.reasons.Reason.{Reason}
-use Rattle.packet_rules.specs.declared.reasons.Reason.TheVariants.{ShortFrame, NotMine, BadHeader, BadLength, BadHeaderSum, Fragment, TtlOver, NotUdpTcp, BadTransport, BadArp, BadAdvert, NotUp, NoBinding}
+use Rattle.packet_rules.specs.declared.reasons.Reason.TheVariants.{ShortFrame, NotMine, BadHeader, BadLength, BadHeaderSum, Fragment, TtlOver, NotUdpTcp, BadTransport, BadArp, BadAdvert, NotUp, NoBinding, SourceRoute}
 use Rattle.packet_rules.specs.declared.readings.Reading.{Reading}
 use Rattle.packet_rules.specs.declared.readings.Reading.TheVariants.{Arp, Advert, Packet, Error, Asked}
 use Rattle.packet_rules.specs.declared.networks.Network.{Network}
@@ -39,6 +39,7 @@ reason_of fault.TheVariants.BadHeaderSum = BadHeaderSum
 reason_of fault.TheVariants.Fragment = Fragment
 reason_of fault.TheVariants.NotUdpTcp = NotUdpTcp
 reason_of fault.TheVariants.BadTransport = BadTransport
+reason_of fault.TheVariants.SourceRoute = SourceRoute
 
 -- the reason for a fault of an ICMP message; NotAsked drops no packet, since a packet that is no Echo to the box goes
 -- on to the next step
@@ -80,8 +81,8 @@ unfoldable pub is_vrrp : List ℕ → Bool
 is_vrrp packet =
     ((header_of packet).protocol == 112) && ((header_of packet).destination == 0xe0000012)
 
--- 5. an advertisement from an address counts: of every gateway, or of the peer alone, which has its address, its priority
--- or 0, and its interval
+-- 5. an advertisement from an address counts: of every gateway, or of the peer alone: it comes from the peer's address,
+-- and has its priority or 0, and its interval
 abbrev pub counts : Option Peer → ℕ → Message → Bool
 counts None source advert = true
 counts (Some peer) source advert =

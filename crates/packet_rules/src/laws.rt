@@ -91,8 +91,8 @@ pub fn frames_law()
         → is_error_frame (advert_frame network priority interval) ≡ false }
 {}
 
-/// Where the peer's advertisements alone count, an advertisement that is read has its address, its interval, and its priority
-/// or 0.
+/// States that where the peer's advertisements alone count, an advertisement that is read has the peer's address, its
+/// interval, and its priority or 0.
 pub fn peer_alone()
     ensures { (side : SideValue) (network : NetworkValue) (active up : Bool) (frame : List ℕ)
         (advert : AdvertValue) (from : IpValue) (peer : PeerValue) → network.peer ≡ Some peer
@@ -104,7 +104,8 @@ pub fn peer_alone()
 /// States that the other gateway reads at its interface what a router advertises, where that counts there.
 pub fn advert_law()
     ensures { (side : SideValue) (network peer : NetworkValue) (active : Bool)
-        (priority interval : ℕ) → IsWritable (own_advert network priority interval) → network.own_ip.0 < 2 ^ 32
+        (priority interval : ℕ) → IsWritable (own_advert network priority interval)
+        → network.own_ip.0 < 2 ^ 32
         → peer.interface.virtual_router ≡ network.interface.virtual_router
         → peer.own_ip.0 ≢ network.own_ip.0
         → counts peer.peer network.own_ip.0 (own_advert network priority interval) ≡ true

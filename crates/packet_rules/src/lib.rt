@@ -20,7 +20,7 @@ mod translations;
 
 pub use adverts::{append_advert, append_gratuitous};
 pub use answering::{may_answer, mtu_at, next_hop_back};
-pub use arping::{answer_to, append_answer, append_request, is_learnt};
+pub use arping::{answer_to, append_answer, append_request, is_for_us, is_learnt};
 pub use asking::append_echo_reply;
 pub use complaints::{COMPLAINT_FRAME, Complaint, append_complaint, complaint_of, exit_for};
 pub use errors::{append_passed, endpoint_inside, error_direction, key_inside};

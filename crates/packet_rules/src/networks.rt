@@ -110,7 +110,7 @@ fn networks_at(settings: &Settings, id: GatewayId) -> Networks
     ensures { result ≡ networks_of settings.now id }
 {
     let own = settings.gateway(id);
-    let other = settings.gateway(id.other());
+    let there = settings.gateway(id.other());
     Networks {
         inside: Network {
             interface: settings.inside,
@@ -118,7 +118,7 @@ fn networks_at(settings: &Settings, id: GatewayId) -> Networks
             own_ip: own.inside_ip,
             outside_ip: settings.outside.virtual_ip,
             icmp: settings.icmp,
-            peer: peer_at(settings, other, other.inside_ip),
+            peer: peer_at(settings, there, there.inside_ip),
         },
         outside: Network {
             interface: settings.outside,
@@ -126,7 +126,7 @@ fn networks_at(settings: &Settings, id: GatewayId) -> Networks
             own_ip: own.outside_ip,
             outside_ip: settings.outside.virtual_ip,
             icmp: settings.icmp,
-            peer: peer_at(settings, other, other.outside_ip),
+            peer: peer_at(settings, there, there.outside_ip),
         },
         router: settings.router,
         pass: settings.fragments.pass,
@@ -134,16 +134,16 @@ fn networks_at(settings: &Settings, id: GatewayId) -> Networks
 }
 
 /// Returns what the other gateway's advertisements have where this is its address, if they alone count.
-fn peer_at(settings: &Settings, other: &GatewaySettings, ip: Ip) -> Option<Peer>
-    ensures { result ≡ peer_at settings.now other.now ip }
+fn peer_at(settings: &Settings, there: &GatewaySettings, ip: Ip) -> Option<Peer>
+    ensures { result ≡ peer_at settings.now there.now ip }
 {
     if !settings.vrrp.peer_only {
         return None;
     }
     Some(Peer {
         ip,
-        priority: other.priority,
-        interval: other.interval,
+        priority: there.priority,
+        interval: there.interval,
     })
 }
 

@@ -33,6 +33,7 @@ fn reason_for(fault: Ipv4Fault) -> Reason
         Ipv4Fault::Fragment => Reason::Fragment,
         Ipv4Fault::NotUdpTcp => Reason::NotUdpTcp,
         Ipv4Fault::BadTransport => Reason::BadTransport,
+        Ipv4Fault::SourceRoute => Reason::SourceRoute,
     }
 }
 
@@ -130,7 +131,8 @@ fn counts(peer: Option<Peer>, source: Ip, advert: &Advert) -> bool
 /// advertisements count.
 fn is_from_peer(network: &Network, source: Ip, advert: &Advert) -> bool
     ensures { result ≡ ((advert.now.router == network.now.interface.virtual_router)
-        && (not (source.0 == network.now.own_ip.0) && counts network.now.peer source.0 advert.now)) }
+        && (not (source.0 == network.now.own_ip.0)
+        && counts network.now.peer source.0 advert.now)) }
 {
     advert.router == network.interface.virtual_router
         && source != network.own_ip
