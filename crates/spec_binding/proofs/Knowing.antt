@@ -1,10 +1,9 @@
 -- What entries with their lives know of the uses of their pairs, after each change of both.
-use Rattle.std.proofs.Common.{◌≡◌, ℕ, suc, ◌+◌, ◌≤◌, nat_le, Bool, true, false, cond, ◌&&◌, Option, Some, None, inl, inr, List, [], ◌∷◌, length, map, refl, sym, ap, subst, ◌∙◌, arith}
+use Rattle.std.proofs.Common.{◌≡◌, ℕ, suc, ◌+◌, ◌≤◌, nat_le, Bool, true, false, cond, Option, Some, None, inl, inr, List, [], ◌∷◌, length, map, refl, sym, ap, subst, ◌∙◌, arith}
 use Rattle.std.specs.List.{insert}
 use Rattle.std.specs.Option.{option_map}
 use Rattle.std.proofs.lemmas.Bool.{both_ways, cases_Bool, cond-true, cond-false, false_from_ne_true, le-leb, leb-true}
 use Rattle.std.proofs.lemmas.List.{length-map}
-use Rattle.addresses.specs.declared.transport.Protocol.{Protocol}
 use Rattle.nat_types.specs.Same.{same_key}
 use Rattle.nat_types.proofs.Offered.{key-eq, key-true}
 use Rattle.nat_types.specs.declared.pairs.EntryState.{EntryState}
@@ -12,7 +11,7 @@ use Rattle.nat_types.specs.declared.pairs.EntryState.TheVariants as state
 use Rattle.nat_types.specs.declared.pairs.Key.{Key}
 use Rattle.nat_types.specs.declared.pairs.Pair.{Pair}
 use Rattle.activity.specs.declared.packets.Packet.{Packet}
-use Rattle.activity.specs.Lives.{History, Activity, came, life_begun, life_carried, life_renewed, renewed, with_packet}
+use Rattle.activity.specs.Lives.{Activity, came, life_begun, life_carried, life_renewed, renewed, with_packet}
 use Rattle.activity.specs.Rests.{HaveRested}
 use Rattle.activity.specs.Lives.{least_rest}
 use Rattle.activity.proofs.Offered.{agrees-came, agrees-renewed, agrees-carried, accounts-came, accounts-renewed, accounts-anew, accounts-later, accounts-kept, rested-later}

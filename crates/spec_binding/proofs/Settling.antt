@@ -37,7 +37,7 @@ use Rattle.spec_binding.specs.declared.changes.Want.TheVariants as want
 use Rattle.spec_binding.specs.Books.{Book, IsBook, empty_book, is_lone, is_paired, is_synced, load_of}
 use Rattle.spec_binding.specs.Ledgers.{Ledger, bare_ledger, lone_ledger, carried_ledger, go_on_all, ledger_after, release_all, lives_after, lives_loaded, may_ask, restarted_ledger, rests_for, taken_ledger}
 use Rattle.spec_binding.specs.Resets.{back_in, begun_anew, restart_notes, retaken}
-use Rattle.spec_binding.specs.Rows.{after, alone_row, answered, carry_row, changed, idle_row, is_full, sought_row, load_taken, load_what, noted_by, quiet, release_row, released_row, row, row_of, taken_what, unsynced_after, unsynced_what, use_row, used_row, wish, wish_by, wish_of}
+use Rattle.spec_binding.specs.Rows.{after, alone_row, answered, changed, idle_row, is_full, sought_row, load_taken, load_what, noted_by, quiet, release_row, released_row, row, row_of, taken_what, unsynced_after, unsynced_what, use_row, used_row, wish, wish_by, wish_of}
 use Rattle.spec_binding.specs.Uses.{Accounts, KnowUses, counted_notes, use_counts, uses_after, uses_of}
 use Rattle.spec_binding.proofs.Accounting.{rested-listed, reversed-join, reversed-more, stays-accounts}
 use Rattle.spec_binding.proofs.Keeping.{alone-row-keeps, idle-keeps, unpaired}
