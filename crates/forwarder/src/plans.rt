@@ -75,6 +75,17 @@ pub(crate) fn if_fits(fits: bool, plan: Plan) -> Result<Plan, Reason>
     }
 }
 
+/// Returns what comes of a packet that is too long for the side at which it would leave.
+#[cold]
+fn if_too_long(plan: Result<Plan, Reason>) -> Result<Plan, Reason>
+    ensures { result ≡ and_then plan (if_fits false) }
+{
+    match plan {
+        Ok(plan) => if_fits(false, plan),
+        Err(reason) => Err(reason),
+    }
+}
+
 impl Forwarder {
     /// Returns the plan of a packet, or why it is dropped. Nothing changes.
     #[inline(always)]
@@ -82,10 +93,14 @@ impl Forwarder {
         ensures { result ≡ plan_of (shown_of self.now) side packet.flow packet.size }
     {
         match self.way_of(side, packet.flow) {
-            Ok(way) => match self.plan_on(packet.flow, way) {
-                Ok(plan) => if_fits(self.fits_at(way.exit(), packet.size), plan),
-                Err(reason) => Err(reason),
-            },
+            Ok(way) => {
+                let plan = self.plan_on(packet.flow, way);
+                if self.fits_at(way.exit(), packet.size) {
+                    plan
+                } else {
+                    if_too_long(plan)
+                }
+            }
             Err(reason) => Err(reason),
         }
     }
@@ -111,7 +126,7 @@ impl Forwarder {
     pub(crate) fn fits_at(&self, exit: Side, size: Size) -> bool
         ensures { result ≡ fits_at (shown_of self.now) exit size }
     {
-        size.length <= usize::from(mtu_at(&self.networks, exit))
+        size.length <= mtu_at(&self.networks, exit)
             || (self.networks.pass && !size.unbroken)
     }
 

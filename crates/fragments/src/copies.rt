@@ -2,6 +2,7 @@
 ghost use Rattle.std.specs.Prelude.{◌≡◌, length, IfOk, OnErr};
 ghost use Rattle.memory.specs.Memory.{WasRefused};
 
+use crate::spares::Spares;
 use crate::views::FragmentView;
 use std::alloc::{AllocError, Global};
 use std::marker::Model;
@@ -24,14 +25,24 @@ impl Model for Fragment {
 }
 
 impl Fragment {
-    /// Returns a copy of a fragment, or an `AllocError` when out of memory.
-    pub(crate) fn copy(alloc: Global, view: &FragmentView<'_>) -> Result<Fragment, AllocError>
+    /// Returns a copy of a fragment, in a spare buffer where there is one. Fails where there isn't enough memory.
+    #[inline(always)]
+    pub(crate) fn copy(
+        spares: &mut Spares,
+        alloc: Global,
+        view: &FragmentView<'_>,
+    ) -> Result<Fragment, AllocError>
         ensures frame { IfOk result (λ f. f ≡ view.now.frame.now) }
         ensures refused { OnErr result (WasRefused (length view.now.frame.now)) }
     {
-        let mut frame = memory::with_room(alloc, view.frame.len())?;
-        memory::append(&mut frame, view.frame)?;
+        let frame = spares.copy_of(alloc, view.frame)?;
         Ok(Fragment { frame })
+    }
+
+    /// Returns the buffer of a fragment that is kept no longer.
+    pub(crate) fn into_buffer(self) -> Vec<u8> {
+        let Fragment { frame } = self;
+        frame
     }
 
     pub(crate) fn view(&self) -> FragmentView<'_>

@@ -118,7 +118,7 @@ impl Cutter {
         ensures next { drop k (pieces mtu frame.now)
             ≡ result.now ∷ drop (k + 1) (pieces mtu frame.now) }
     {
-        if is_long(frame, mtu) {
+        if k > 0 || is_long(frame, mtu) {
             write_piece(&mut self.piece, frame, mtu, k);
             &self.piece
         } else {

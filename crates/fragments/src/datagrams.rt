@@ -92,6 +92,16 @@ impl Datagram {
         self.fragments.as_slice()
     }
 
+    /// Returns the fragments of a datagram that ended.
+    pub(crate) fn into_fragments(self) -> Vec<Fragment> {
+        let Datagram {
+            name: _,
+            since: _,
+            fragments,
+        } = self;
+        fragments
+    }
+
     /// Appends a fragment, or answers an `AllocError` when out of memory and leaves the datagram as it was.
     pub(crate) fn push(&mut self, fragment: Fragment) -> Result<(), AllocError>
         ensures ok { OnOk result (self.new

@@ -14,6 +14,7 @@ ghost use Rattle.fragments.specs.Memory.{LacksCopy, LacksTaking, LacksUpTo, Lack
 use crate::Name;
 use crate::copies::Fragment;
 use crate::datagrams::{Datagram, Effect, effect_of, length_with};
+use crate::spares::{Buffers, Spares};
 use crate::views::FragmentView;
 use crate::wholes::write_whole;
 use addresses::Ip;
@@ -84,8 +85,8 @@ impl Outcome {
 pub struct Gathering {
     inside: Vec<Datagram>,
     outside: Vec<Datagram>,
-    /// The whole frame that was made last.
-    whole: Vec<u8>,
+    /// The whole frame that was made last, and memory for fragments to come.
+    buffers: Buffers,
     /// Why the fragment that came last gave a datagram up, where it did.
     lost: Option<Loss>,
 }
@@ -98,14 +99,14 @@ impl Model for Gathering {
     ghost view = { λ g. record {
       inside = g.inside.items;
       outside = g.outside.items;
-      whole = g.whole.items;
+      whole = g.buffers.whole.items;
       lost = g.lost;
     } };
 
     ghost invariant = { λ g. IsKept (record {
       inside = g.inside.items;
       outside = g.outside.items;
-      whole = g.whole.items;
+      whole = g.buffers.whole.items;
       lost = g.lost;
     }) };
 }
@@ -150,16 +151,17 @@ fn give_up_from(datagrams: &mut Vec<Datagram>, source: Ip)
     }
 }
 
-/// Takes the datagram of a frame's fragment off.
+/// Takes the datagram of a frame's fragment off, and keeps its memory as spare.
 #[tactic(auto, unfolding(crate::specs::Gathered::ended))]
-fn give_up_named(datagrams: &mut Vec<Datagram>, frame: &[u8])
+fn give_up_named(datagrams: &mut Vec<Datagram>, spares: &mut Spares, frame: &[u8])
     requires { IsFragment frame.now }
     ensures { datagrams.new.items ≡ ended frame.now datagrams.old.items }
 {
     let name = FragmentView::new(frame).trimmed().name();
     match place_of(datagrams, &name) {
         Some(at) => {
-            let _ = datagrams.remove(at);
+            let ended = datagrams.remove(at);
+            spares.keep(ended.into_fragments());
         }
         None => {}
     }
@@ -188,6 +190,7 @@ fn make_place(datagrams: &mut Vec<Datagram>, source: Ip) -> Option<Loss>
 /// memory, and changes nothing then.
 fn begin(
     datagrams: &mut Vec<Datagram>,
+    spares: &mut Spares,
     fragment: &FragmentView<'_>,
     name: Name,
     now: u64,
@@ -201,8 +204,8 @@ fn begin(
     ensures refused { OnErr result (LacksCopy fragment.now.frame.now) }
 {
     let alloc = *datagrams.allocator();
-    let copy = Fragment::copy(alloc, fragment)?;
-    let mut fragments = Vec::new(alloc);
+    let copy = Fragment::copy(spares, alloc, fragment)?;
+    let mut fragments = spares.list(alloc);
     memory::push(&mut fragments, copy)?;
     memory::reserve(datagrams, 1)?;
     let lost = make_place(datagrams, name.source);
@@ -232,6 +235,7 @@ fn length_at(datagrams: &[Datagram], at: usize, fragment: &FragmentView<'_>) -> 
 /// Puts a fragment behind those of its datagram. Fails where there isn't enough memory, and changes nothing then.
 fn add(
     datagrams: &mut Vec<Datagram>,
+    spares: &mut Spares,
     at: usize,
     fragment: &FragmentView<'_>,
 ) -> Result<(), AllocError>
@@ -243,12 +247,13 @@ fn add(
     ensures refused { OnErr result (LacksCopy fragment.now.frame.now) }
 {
     let alloc = *datagrams.allocator();
-    let copy = Fragment::copy(alloc, fragment)?;
+    let copy = Fragment::copy(spares, alloc, fragment)?;
     let datagram = &mut datagrams[at];
     datagram.push(copy)
 }
 
 /// Writes the whole frame of the datagram at a place and the fragment that completes it over bytes that are as many.
+#[inline(always)]
 fn write_at(frame: &mut [u8], datagrams: &[Datagram], at: usize, fragment: &FragmentView<'_>)
     requires at { at < length datagrams.now }
     requires ready { IsReady (with_at at fragment.now.frame.now datagrams.now) }
@@ -262,6 +267,7 @@ fn write_at(frame: &mut [u8], datagrams: &[Datagram], at: usize, fragment: &Frag
 
 /// Gives a list so many bytes, whichever they are. Takes memory for those that it lacks; fails where there isn't enough, and
 /// changes nothing then.
+#[inline(always)]
 fn give_length(list: &mut Vec<u8>, count: usize) -> Result<(), AllocError>
     ensures len { OnOk result (length list.new.items ≡ count) }
     ensures err { OnErr result (list.new.items ≡ list.old.items) }
@@ -302,7 +308,7 @@ fn join(
     datagrams: &mut Vec<Datagram>,
     at: usize,
     fragment: &FragmentView<'_>,
-    whole: &mut Vec<u8>,
+    buffers: &mut Buffers,
 ) -> Result<Outcome, AllocError>
     requires kept { AreKept datagrams.old.items }
     requires unbroken { is_broken fragment.now.frame.now ≡ false }
@@ -315,11 +321,11 @@ fn join(
     ensures left { OnOk result (datagrams.new.items
         ≡ left_first (joined_at at fragment.now.frame.now datagrams.old.items)
         datagrams.old.items) }
-    ensures whole { OnOk result (whole.new.items
+    ensures whole { OnOk result (buffers.new.whole.items
         ≡ unwrap_or (joined_at at fragment.now.frame.now datagrams.old.items).made
-        whole.old.items) }
+        buffers.old.whole.items) }
     ensures err { OnErr result (datagrams.new.items ≡ datagrams.old.items) }
-    ensures err_whole { OnErr result (whole.new.items ≡ whole.old.items) }
+    ensures err_whole { OnErr result (buffers.new.whole.items ≡ buffers.old.whole.items) }
     ensures refused { OnErr result (LacksCopy fragment.now.frame.now
         ⊎ LacksWhole (joined_at at fragment.now.frame.now datagrams.old.items).made) }
 {
@@ -334,11 +340,11 @@ fn join(
             Ok(Outcome::refused(Some(Loss::Oversized)))
         }
         Effect::Waits => {
-            add(datagrams, at, fragment)?;
+            add(datagrams, &mut buffers.spares, at, fragment)?;
             Ok(Outcome::held(None))
         }
         Effect::Completes => {
-            make_whole(datagrams, at, fragment, whole)?;
+            make_whole(datagrams, at, fragment, &mut buffers.whole)?;
             Ok(Outcome {
                 came: Came::Whole,
                 lost: None,
@@ -352,7 +358,7 @@ fn join(
 #[tactic(auto, unfolding(crate::specs::Gathered::taken))]
 fn take_in(
     datagrams: &mut Vec<Datagram>,
-    whole: &mut Vec<u8>,
+    buffers: &mut Buffers,
     frame: &[u8],
     now: u64,
 ) -> Result<Outcome, AllocError>
@@ -364,10 +370,10 @@ fn take_in(
     }) }
     ensures left { OnOk result (datagrams.new.items
         ≡ left_first (taken now frame.now datagrams.old.items) datagrams.old.items) }
-    ensures whole { OnOk result (whole.new.items
-        ≡ unwrap_or (taken now frame.now datagrams.old.items).made whole.old.items) }
+    ensures whole { OnOk result (buffers.new.whole.items
+        ≡ unwrap_or (taken now frame.now datagrams.old.items).made buffers.old.whole.items) }
     ensures err { OnErr result (datagrams.new.items ≡ datagrams.old.items) }
-    ensures err_whole { OnErr result (whole.new.items ≡ whole.old.items) }
+    ensures err_whole { OnErr result (buffers.new.whole.items ≡ buffers.old.whole.items) }
     ensures refused { OnErr result
         (LacksTaking frame.now (taken now frame.now datagrams.old.items).made) }
 {
@@ -377,9 +383,9 @@ fn take_in(
     }
     let name = fragment.name();
     match place_of(datagrams, &name) {
-        Some(at) => join(datagrams, at, &fragment, whole),
+        Some(at) => join(datagrams, at, &fragment, buffers),
         None => {
-            let lost = begin(datagrams, &fragment, name, now)?;
+            let lost = begin(datagrams, &mut buffers.spares, &fragment, name, now)?;
             Ok(Outcome::held(lost))
         }
     }
@@ -389,7 +395,7 @@ fn take_in(
 /// where there isn't enough memory, and changes nothing then.
 fn take_at(
     datagrams: &mut Vec<Datagram>,
-    whole: &mut Vec<u8>,
+    buffers: &mut Buffers,
     lost: &mut Option<Loss>,
     frame: &[u8],
     now: u64,
@@ -400,16 +406,16 @@ fn take_at(
         ≡ (taken now frame.now datagrams.old.items).came) }
     ensures left { OnOk result (datagrams.new.items
         ≡ left_first (taken now frame.now datagrams.old.items) datagrams.old.items) }
-    ensures whole { OnOk result (whole.new.items
-        ≡ unwrap_or (taken now frame.now datagrams.old.items).made whole.old.items) }
+    ensures whole { OnOk result (buffers.new.whole.items
+        ≡ unwrap_or (taken now frame.now datagrams.old.items).made buffers.old.whole.items) }
     ensures lost { OnOk result (lost.new ≡ (taken now frame.now datagrams.old.items).lost) }
     ensures err { OnErr result (datagrams.new.items ≡ datagrams.old.items) }
-    ensures err_whole { OnErr result (whole.new.items ≡ whole.old.items) }
+    ensures err_whole { OnErr result (buffers.new.whole.items ≡ buffers.old.whole.items) }
     ensures err_lost { OnErr result (lost.new ≡ lost.old) }
     ensures refused { OnErr result
         (LacksTaking frame.now (taken now frame.now datagrams.old.items).made) }
 {
-    let outcome = take_in(datagrams, whole, frame, now)?;
+    let outcome = take_in(datagrams, buffers, frame, now)?;
     *lost = outcome.lost;
     Ok(outcome.came)
 }
@@ -428,7 +434,7 @@ impl Gathering {
         Gathering {
             inside: Vec::new(alloc),
             outside: Vec::new(alloc),
-            whole: Vec::new(alloc),
+            buffers: Buffers::new(alloc),
             lost: None,
         }
     }
@@ -471,14 +477,14 @@ impl Gathering {
         match side {
             Side::Inside => take_at(
                 &mut self.inside,
-                &mut self.whole,
+                &mut self.buffers,
                 &mut self.lost,
                 frame,
                 now,
             ),
             Side::Outside => take_at(
                 &mut self.outside,
-                &mut self.whole,
+                &mut self.buffers,
                 &mut self.lost,
                 frame,
                 now,
@@ -486,14 +492,15 @@ impl Gathering {
         }
     }
 
-    /// Ends the datagram of a frame's fragment at a side: its fragments that are there are gone.
+    /// Ends the datagram of a frame's fragment at a side: its fragments that are there are gone. Their memory stays, for
+    /// fragments to come: of at most 64 fragments, of frames of at most 1,514 bytes.
     pub fn end(&mut self, side: Side, frame: &[u8])
         requires { IsFragment frame.now }
         ensures { self.new ≡ after_end side frame.now self.old }
     {
         match side {
-            Side::Inside => give_up_named(&mut self.inside, frame),
-            Side::Outside => give_up_named(&mut self.outside, frame),
+            Side::Inside => give_up_named(&mut self.inside, &mut self.buffers.spares, frame),
+            Side::Outside => give_up_named(&mut self.outside, &mut self.buffers.spares, frame),
         }
     }
 
@@ -502,7 +509,7 @@ impl Gathering {
         ensures bytes { result.now ≡ self.now.whole }
         ensures most { length result.now ≤ 65549 }
     {
-        self.whole.as_slice()
+        self.buffers.whole.as_slice()
     }
 
     /// Returns why the fragment of the last `take` gave a datagram up, None where it gave none up.

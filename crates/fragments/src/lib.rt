@@ -12,6 +12,7 @@ mod laws;
 mod names;
 mod numbering;
 mod options;
+mod spares;
 mod views;
 mod wholes;
 

@@ -27,6 +27,7 @@ const ETHERNET: usize = 14;
 const OPTIONS: usize = ETHERNET + layout::FIXED;
 
 /// Returns the fragment with offset 0, of these and the one that completes them.
+#[inline(always)]
 fn first_with<'a>(there: &'a [Fragment], new: &FragmentView<'a>) -> FragmentView<'a>
     requires { IsComplete (there.now ++ new.now.frame.now ∷ []) }
     ensures { result.frame.now ≡ first_fragment (there.now ++ new.now.frame.now ∷ []) }
@@ -38,12 +39,14 @@ fn first_with<'a>(there: &'a [Fragment], new: &FragmentView<'a>) -> FragmentView
 }
 
 /// Whether one of these fragments and one more met congestion.
+#[inline(always)]
 fn is_marked_with(there: &[Fragment], new: &FragmentView<'_>) -> bool
     ensures { result ≡ list_any is_marked (there.now ++ new.now.frame.now ∷ []) }
 {
     is_one_marked(there) || new.is_marked()
 }
 
+#[inline(always)]
 #[tactic(auto, unfolding(crate::specs::Whole::whole_service))]
 fn service(there: &[Fragment], new: &FragmentView<'_>, first: &FragmentView<'_>) -> u8
     requires { first.now.frame.now
@@ -59,6 +62,7 @@ fn service(there: &[Fragment], new: &FragmentView<'_>, first: &FragmentView<'_>)
 }
 
 /// Returns the fields of the whole packet's header that aren't those of the first fragment. The packet has `total` bytes.
+#[inline(always)]
 #[tactic(auto, unfolding(crate::specs::Whole::whole_fields))]
 fn fields(
     there: &[Fragment],

@@ -119,10 +119,11 @@ fn looks_cut(bytes: &[u8]) -> bool
 /// Reminds the prover that a frame that is read as a fragment is one, and looks so; it does nothing
 /// when it runs.
 fn recall_part(forwarder: &Forwarder, frame: Arrived<'_>)
-    ensures part { is_part (reading_on (shown_of forwarder.now) frame.entry.side frame.entry.bytes.now) ≡ true
+    ensures part { is_part
+        (reading_on (shown_of forwarder.now) frame.entry.side frame.entry.bytes.now) ≡ true
         → IsFragment frame.entry.bytes.now }
-    ensures plain { looks_cut frame.entry.bytes.now ≡ false
-        → is_part (reading_on (shown_of forwarder.now) frame.entry.side frame.entry.bytes.now) ≡ false }
+    ensures plain { looks_cut frame.entry.bytes.now ≡ false → is_part
+        (reading_on (shown_of forwarder.now) frame.entry.side frame.entry.bytes.now) ≡ false }
 {
     fragment_grammar();
     let _ = forwarder.moment;

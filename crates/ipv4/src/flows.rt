@@ -10,11 +10,11 @@ use addresses::{Ip, Port, Protocol};
 /// From where to where a packet goes, and by which protocol. An ICMP query has its identifier as both ports.
 #[derive(Clone, Copy, Debug, PartialEq, Eq)]
 pub struct Flow {
-    pub protocol: Protocol,
     pub source: Ip,
-    pub source_port: Port,
     pub destination: Ip,
+    pub source_port: Port,
     pub destination_port: Port,
+    pub protocol: Protocol,
 }
 
 impl Flow {

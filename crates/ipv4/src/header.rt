@@ -18,7 +18,7 @@
 //! 45         00 001e     0001   0000  40     11  8ee1     c0a8010a     c6336407
 //! 4, 5 words -- 30 bytes number flags TTL 64 UDP checksum 192.168.1.10 198.51.100.7
 //! ```
-ghost use Rattle.std.specs.Prelude.{◌≡◌, ◌≤◌, ◌↔◌, length, ◌∷◌, [], IsOk, IfOk, IfErr, None, Some, List, ℕ};
+ghost use Rattle.std.specs.Prelude.{◌≡◌, ◌≤◌, ◌+◌, ◌↔◌, length, ◌∷◌, [], IsOk, IfOk, IfErr, None, Some, List, ℕ};
 ghost use Rattle.std.specs.Result.{result_err};
 ghost use Rattle.byteorder.specs.Endian.{big_bytes};
 ghost use Rattle.addresses.specs.Transport.{protocol_numbered};
@@ -118,6 +118,14 @@ impl<'a> Ipv4View<'a> {
         type_of_service(self.bytes)
     }
 
+    /// Returns the bytes of header and payload, as they stand in the header.
+    #[inline(always)]
+    pub(crate) fn total(&self) -> u16
+        ensures { result ≡ (header_of self.now.bytes.now).total_length }
+    {
+        BigEndian::read_u16(&self.bytes[field::TOTAL_LENGTH])
+    }
+
     /// Returns the bytes of header and payload.
     pub fn total_length(&self) -> usize
         ensures value { result ≡ (header_of self.now.bytes.now).total_length }
@@ -125,6 +133,14 @@ impl<'a> Ipv4View<'a> {
         ensures high { result ≤ length self.now.bytes.now }
     {
         total_length(self.bytes)
+    }
+
+    /// Returns the bytes of the payload and of a header without options.
+    pub fn length_without_options(&self) -> u16
+        ensures { result ≡ FIXED + length (payload_of self.now.bytes.now) }
+    {
+        let options = self.header_length() - field::FIXED;
+        self.total() - options as u16
     }
 
     pub fn identification(&self) -> u16

@@ -12,17 +12,17 @@ use addresses::TcpFlags;
 #[derive(Clone, Copy, Debug, PartialEq, Eq)]
 pub struct Packet {
     pub flow: Flow,
+    pub size: Size,
     /// The flags of a TCP segment. For other protocols the field has no meaning: it is read from the same byte of the
     /// payload.
     pub flags: TcpFlags,
-    pub size: Size,
 }
 
 /// How long a packet is, and whether it may be cut into fragments.
 #[derive(Clone, Copy, Debug, PartialEq, Eq)]
 pub struct Size {
     /// The IPv4 total length: the bytes of header and payload, without padding.
-    pub length: usize,
+    pub length: u16,
     /// Whether the packet has the flag Don't Fragment.
     pub unbroken: bool,
 }
@@ -34,7 +34,7 @@ impl Size {
         ensures { result ≡ size_of view.now.bytes.now }
     {
         Size {
-            length: view.total_length(),
+            length: view.total(),
             unbroken: view.is_unbroken(),
         }
     }
@@ -60,8 +60,8 @@ impl Packet {
     {
         Packet {
             flow,
-            flags: flags(view.payload()),
             size: Size::of(view),
+            flags: flags(view.payload()),
         }
     }
 }

@@ -63,7 +63,7 @@ pub(crate) fn asked(packet: &Ipv4View<'_>) -> Asked
         source: packet.source(),
         destination: packet.destination(),
         size: Size {
-            length: 20 + packet.payload().len(),
+            length: packet.length_without_options(),
             unbroken: packet.is_unbroken(),
         },
     }
@@ -113,7 +113,7 @@ pub(crate) fn own_header(network: &Network, next_mac: Mac) -> [u8; 14]
 fn cutting_of(network: &Network, packet: &Ipv4View<'_>) -> Cutting
     ensures { result ≡ answer_cutting network.now packet.now.bytes.now }
 {
-    if 20 + packet.payload().len() > usize::from(network.interface.mtu) {
+    if packet.length_without_options() > network.interface.mtu {
         Cutting::Allowed(packet.identification())
     } else {
         Cutting::Forbidden

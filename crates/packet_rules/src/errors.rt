@@ -214,5 +214,5 @@ pub fn append_passed(
     let start = list.len();
     append_reserved(list, bytes);
     pass_tail(list, start, packet.flow, networks, translation, next_mac);
-    list.truncate(start + (14 + packet.size.length));
+    list.truncate(start + (14 + usize::from(packet.size.length)));
 }

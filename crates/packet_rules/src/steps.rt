@@ -1,12 +1,13 @@
 //! The first steps of the packet path: which frames are taken, and what they are read as.
-ghost use Rattle.std.specs.Prelude.{◌≡◌, ◌≤◌, IfOk, IfErr, OnOk, length};
+ghost use Rattle.std.specs.Prelude.{◌≡◌, ◌≤◌, IfOk, IfErr, Ok, OnOk, length};
 ghost use Rattle.std.specs.Result.{result_err};
 ghost use Rattle.frames.specs.Frame.{frame_of};
 ghost use Rattle.frames.specs.declared.ethernet.TheConstants.{LONGEST_WHOLE};
 ghost use Rattle.ipv4.specs.Header.{IsIpv4, header_of};
 ghost use Rattle.ipv4.specs.Flow.{packet_of};
 ghost use Rattle.icmp.specs.Packet.{IsErrorPacket, error_packet_of};
-ghost use Rattle.packet_rules.specs.Asked.{IsWhole};
+ghost use Rattle.packet_rules.specs.Asked.{IsWhole, asked_of};
+ghost use Rattle.packet_rules.specs.declared.readings.Reading.TheVariants.{Asked};
 ghost use Rattle.packet_rules.specs.declared.reasons.Reason.TheVariants.{TtlOver};
 ghost use Rattle.packet_rules.specs.Steps.{reason_of, reason_of_icmp, size_refusal, destination_refusal, header_refusal, virtual_refusal, transport_refusal, query_refusal, error_refusal, about_refusal, ttl_refusal, is_vrrp, is_from_peer, arp_reading, advert_reading, transport_reading, query_reading, error_reading, icmp_reading, packet_reading, other_reading, ipv4_reading, body_reading, reading_of, Carries};
 
@@ -141,18 +142,6 @@ fn test_virtual(network: &Network, frame: &EthView<'_>) -> Result<(), Reason>
     }
 }
 
-#[tactic(auto, unfolding(crate::specs::Steps::transport_refusal))]
-#[inline(always)]
-fn read_transport(view: &Ipv4View<'_>) -> Result<Packet, Reason>
-    ensures refusal { result_err result ≡ transport_refusal view.now.bytes.now }
-    ensures packet { IfOk result (λ p. p ≡ packet_of view.now.bytes.now) }
-{
-    match Packet::parse(view) {
-        Ok(packet) => Ok(packet),
-        Err(fault) => Err(reason_for(fault)),
-    }
-}
-
 #[tactic(auto, unfolding(crate::specs::Steps::query_refusal))]
 fn read_query(side: Side, view: &Ipv4View<'_>) -> Result<Packet, Reason>
     ensures refusal { result_err result ≡ query_refusal side view.now.bytes.now }
@@ -190,14 +179,16 @@ fn test_ttl(packet: &Ipv4View<'_>) -> Result<(), Reason>
 }
 
 /// Reads a UDP or TCP packet.
-#[tactic(auto, unfolding(crate::specs::Steps::transport_reading))]
+#[tactic(auto, unfolding(crate::specs::Steps::transport_reading, crate::specs::Steps::transport_refusal, crate::specs::Steps::ttl_refusal))]
 #[inline(always)]
 fn take_transport(view: &Ipv4View<'_>) -> Result<Reading, Reason>
     ensures { result ≡ transport_reading view.now.bytes.now }
 {
-    let packet = read_transport(view)?;
-    test_ttl(view)?;
-    Ok(Reading::Packet(packet))
+    match Packet::parse(view) {
+        Ok(_) if view.ttl() < 2 => Err(Reason::TtlOver),
+        Ok(packet) => Ok(Reading::Packet(packet)),
+        Err(fault) => Err(reason_for(fault)),
+    }
 }
 
 /// Refuses an error unless the packet inside went the other way: a query inside must be of the kind that leaves where
@@ -287,6 +278,14 @@ fn read_other(
     }
 }
 
+/// Reads an Echo to the gateway.
+#[cold]
+fn read_asked(view: &Ipv4View<'_>) -> Result<Reading, Reason>
+    ensures { result ≡ Ok (Asked (asked_of view.now.bytes.now)) }
+{
+    Ok(Reading::Asked(asked(view)))
+}
+
 #[tactic(auto, unfolding(crate::specs::Steps::ipv4_reading))]
 #[inline(always)]
 fn read_ipv4(
@@ -299,7 +298,7 @@ fn read_ipv4(
 {
     let packet = view_packet(frame.body())?;
     if is_asked(network, active, frame, &packet) {
-        Ok(Reading::Asked(asked(&packet)))
+        read_asked(&packet)
     } else {
         read_other(side, network, frame, &packet)
     }

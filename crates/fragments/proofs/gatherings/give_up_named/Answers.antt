@@ -13,8 +13,8 @@ unfolding ended
 returns-in-Some c =
     let all = c.args.datagrams.now.items in
     let named : c.name-name.result ≡ name_of (trimmed c.args.frame.now) = c.name-name.ensures ∙ ap name_of (c.trimmed.ensures ∙ ap trimmed c.new.ensures) in
-    c.remove.ensures.items
-    ∙ sym (named-removed (name_of (trimmed c.args.frame.now)) c.in-Some.at all c.remove.result
+    c.remove-ended.ensures.items
+    ∙ sym (named-removed (name_of (trimmed c.args.frame.now)) c.in-Some.at all c.remove-ended.result
     (subst (λ (n : Name). position (is_named n) all ≡ Some c.in-Some.at) named (rw (← c.deref.ensures.value) (sym c.place_of.ensures ∙ c.in-Some.is))))
 
 pub returns-in-None : goal.returns-in-None

@@ -49,7 +49,7 @@ returns-in-Some-clause-whole c =
     ap (λ (n : Name). position (is_named n) ds) (sym c.name-name.ensures)
     ∙ ap (position (is_named c.name-name.result)) (sym c.deref.ensures.value) ∙ sym c.place_of.ensures ∙ c.in-Some.is in
     let same : joined_at c.in-Some.at f ds ≡ taken c.args.now frame ds = taken-some c.args.now c.in-Some.at frame f ds is fine there in
-    subst (λ (t : Taking). OnOk c.join.result (c.join.new.whole.items ≡ unwrap_or t.made c.args.whole.now.items)) same c.join.ensures.whole
+    subst (λ (t : Taking). OnOk c.join.result (c.join.new.buffers.whole.items ≡ unwrap_or t.made c.args.buffers.now.whole.items)) same c.join.ensures.whole
 
 pub returns-in-Some-clause-refused : goal.returns-in-Some-clause-refused
 returns-in-Some-clause-refused c =
@@ -104,4 +104,4 @@ returns-in_ok-lost-in-None-clause-whole c =
     ap (λ (n : Name). position (is_named n) ds) (sym c.name-name.ensures)
     ∙ ap (position (is_named c.name-name.result)) (sym c.deref.ensures.value) ∙ sym c.place_of.ensures ∙ c.in-None.is in
     let same = taken-none c.args.now frame f ds is fine there in
-    ap (λ (t : Taking). unwrap_or t.made c.args.whole.now.items) same
+    ap (λ (t : Taking). unwrap_or t.made c.args.buffers.now.whole.items) same
