@@ -110,8 +110,7 @@ impl Forwarder {
     pub(crate) fn fits_at(&self, exit: Side, size: Size) -> bool
         ensures { result ≡ fits_at (shown_of self.now) exit size }
     {
-        size.length <= mtu_at(&self.networks, exit)
-            || (self.networks.pass && !size.unbroken)
+        size.length <= mtu_at(&self.networks, exit) || (self.networks.pass && !size.unbroken)
     }
 
     /// Returns the plan of a packet that is too long for the side at which it leaves.
