@@ -119,8 +119,10 @@ impl Forwarder {
         ensures { result
             ≡ and_then (plan_on (shown_of self.now) flow way) (if_fits false) }
     {
-        let plan = self.plan_on(flow, way)?;
-        if_fits(false, plan)
+        match self.plan_on(flow, way) {
+            Ok(plan) => if_fits(false, plan),
+            Err(reason) => Err(reason),
+        }
     }
 
     #[inline(always)]
