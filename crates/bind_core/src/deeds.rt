@@ -306,7 +306,7 @@ pub(crate) fn carry_by(table: &mut Table, is_used: bool, key: Key, packet: Packe
         table.new.lives }
 {
     if is_used {
-        table.carried(key, packet.remote, packet.way, packet.flags, packet.at);
+        table.carried(key, packet);
     }
 }
 

@@ -55,7 +55,8 @@ impl Core {
     }
 
     /// Adds a packet to or from a remote host to what the pair of a key carried, and notes that the
-    /// pair is used. Nothing changes where the pair doesn't translate.
+    /// pair is used, whether the use counts or not (`use_counts` of `spec_binding`). Nothing changes
+    /// where the pair doesn't translate.
     pub fn carried(
         &mut self,
         key: Key,
@@ -75,6 +76,7 @@ impl Core {
           remote = remote;
           way = way;
           flags = flags;
+          inward_refresh = self.old.inward_refresh;
           at = now;
         }
             in ledger_of self.new ≡ carried_ledger key packet (ledger_of self.old) }
@@ -82,6 +84,7 @@ impl Core {
           remote = remote;
           way = way;
           flags = flags;
+          inward_refresh = self.old.inward_refresh;
           at = now;
         }
             in is_some (carry_row (book_of self.old) key).what ≡ true → (past : History)
@@ -104,6 +107,7 @@ impl Core {
             remote,
             way,
             flags,
+            inward_refresh: self.inward_refresh,
             at: now,
         };
         carry_by(&mut self.table, row.what.is_some(), key, packet);

@@ -75,6 +75,7 @@ impl Core {
         ensures capacity { vec_capacity notes.new ≡ vec_capacity notes.old }
         ensures lives { self.new.table.lives
             ≡ lives_of_pairs self.old.table.entries self.old.table.lives }
+        ensures refresh { self.new.inward_refresh ≡ self.old.inward_refresh }
         ensures hashers { self.new.table.hashers ≡ self.old.table.hashers }
         ensures ready { self.new.table.ready ≡ self.old.table.ready }
     {
@@ -120,6 +121,7 @@ impl Core {
         ensures book { let b = book_of self.old
             in book_of self.new ≡ empty_book b.id b.zero b.one b.limit b.alone }
         ensures lives { self.new.table.lives ≡ [] }
+        ensures refresh { self.new.inward_refresh ≡ self.old.inward_refresh }
         ensures hashers { self.new.table.hashers ≡ self.old.table.hashers }
         ensures ready { self.new.table.ready ≡ self.old.table.ready }
     {

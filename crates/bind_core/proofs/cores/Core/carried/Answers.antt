@@ -1,6 +1,9 @@
-use Rattle.std.proofs.Common.{[], sym, ◌∙◌}
+use Rattle.std.proofs.Common.{◌≡◌, Bool, true, is_some, [], sym, ap, subst, ◌∙◌}
+use Rattle.activity.specs.Lives.{with_packet}
+use Rattle.bindings.specs.Table.{IsPast}
+use Rattle.spec_binding.specs.declared.changes.Transition.{Transition}
 use Rattle.spec_binding.specs.Rows.{after, answered, carry_row}
-use Rattle.bind_core.specs.Cores.{book_of}
+use Rattle.bind_core.specs.Cores.{Core, book_of}
 use Rattle.bind_core.specs.View.{core_of}
 use Rattle.bind_core.proofs.Performing.{works-as, carry-quiet, same-carried}
 use Rattle.bind_core.proofs.cores.Core.carried.Goals as goal
@@ -12,3 +15,10 @@ returns-clause-works c = rw (← c.self.view_is) (λ e h n stands.
     works-as c.args.now [] [] (book_of k) e n (after (book_of k) (carry_row (book_of k) c.args.key)) _ (answered e (carry_row (book_of k) c.args.key).answer) e n _ h
     (same-carried k c.carry_by.new.table c.self.inside.cursor c.carry_by.ensures.same ∙ sym quiet.0) (sym quiet.1)
     (c.carry_works.ensures c.args.now (book_of k) e n h c.args.key stands))
+
+pub returns-clause-longer : goal.returns-clause-longer
+returns-clause-longer c = λ used past has.
+    let on : is_some c.carry_row_of-row.result.what ≡ true = ap (λ (r : Transition). is_some r.what) c.carry_row_of-row.ensures ∙ used in
+    let old : IsPast c.self.inside.table c.args.key past = subst (λ (x : Core). IsPast x.table c.args.key past) (sym c.self.view_is) has in
+    subst (λ (refresh : Bool). IsPast c.carry_by.new.table c.args.key (with_packet (record { remote = c.args.remote; way = c.args.way; flags = c.args.flags; inward_refresh = refresh; at = c.args.now }) past))
+    (ap (λ (x : Core). x.inward_refresh) c.self.view_is) (c.carry_by.ensures.longer (c.is_some.ensures ∙ on) past old)
