@@ -250,8 +250,8 @@ pub fn errors_leave_pairs()
 {}
 
 /// A frame of the gateway's own is no use of a pair. A drop with a complaint counts the complaint,
-/// and may set the time at which its next hop was last asked for; nothing else of the gateway
-/// changes. A packet that is too long is taken exactly as such a drop.
+/// and notes at its next hop that a packet was sent to it, and when it was asked for; nothing else
+/// of the gateway changes. A packet that is too long is taken exactly as such a drop.
 pub fn own_leaves_pairs()
     ensures answers { (s : GatewayAndOutput) (side : Side) (bytes : List ℕ) (echo : Echo)
         → LeavesPairs s (echo_taken s side bytes echo) }
