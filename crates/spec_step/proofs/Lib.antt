@@ -5,6 +5,7 @@ mod Asking
 mod AskingParts
 mod Before
 mod Beginning
+mod Behind
 mod Counting
 mod Cutting
 mod Ending
@@ -24,7 +25,6 @@ mod LettingGo
 mod Limits
 mod Lines
 mod Marked
-mod Near
 mod Nobody
 mod Others
 mod Own
