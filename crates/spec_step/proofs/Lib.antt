@@ -6,6 +6,7 @@ mod AskingParts
 mod Before
 mod Beginning
 mod Behind
+mod Changing
 mod Counting
 mod Cutting
 mod Ending
