@@ -1,6 +1,6 @@
 //! The laws of a step of a gateway. Each law is the contract of a function that does nothing.
 
-ghost use Rattle.std.specs.Prelude.{◌≡◌, ◌≢◌, ◌↔◌, Ok, ◌≤◌, ◌<◌, ◌+◌, ◌^◌, ◌∷◌, ◌++◌, ℕ, true, false, [], Bool, List, length, reverse, Err, Some};
+ghost use Rattle.std.specs.Prelude.{◌≡◌, ◌≢◌, ◌↔◌, Ok, ◌≤◌, ◌<◌, ◌+◌, ◌^◌, ◌∷◌, ◌++◌, ℕ, true, false, [], Bool, List, length, reverse, Err, None, Some};
 ghost use Rattle.std.specs.Borrow.{Bor};
 ghost use Rattle.std.specs.List.{AllByRecursion};
 ghost use Rattle.nat_types.specs.declared.gateways.GatewayId.{GatewayId};
@@ -13,6 +13,8 @@ ghost use Rattle.nat_types.specs.declared.pairs.Key.{Key};
 ghost use Rattle.nat_types.specs.declared.records.Record.{Record};
 ghost use Rattle.nat_types.specs.Same.{same};
 ghost use Rattle.addresses.specs.declared.ethernet.Mac.{Mac};
+ghost use Rattle.arp.specs.declared.packets.ArpPacket.{ArpPacket};
+ghost use Rattle.arp.specs.Neighbours.{fixed_mac, mac_at};
 ghost use Rattle.settings.specs.declared.whole.Settings.{Settings};
 ghost use Rattle.frames.specs.Frame.{frame_of};
 ghost use Rattle.icmp.specs.declared.packets.ErrorFlow.{ErrorFlow};
@@ -28,6 +30,7 @@ ghost use Rattle.packet_rules.specs.declared.complaints.Complaint.TheVariants.{T
 ghost use Rattle.packet_rules.specs.declared.networks.Network.{Network};
 ghost use Rattle.packet_rules.specs.declared.networks.Networks.{Networks};
 ghost use Rattle.packet_rules.specs.declared.networks.Peer.{Peer};
+ghost use Rattle.packet_rules.specs.declared.readings.Reading.TheVariants.{Arp};
 ghost use Rattle.packet_rules.specs.declared.reasons.Reason.{Reason};
 ghost use Rattle.packet_rules.specs.declared.reasons.Reason.TheVariants.{Fragment, HostLimit, NoPort, SourceRoute, TooLong};
 ghost use Rattle.packet_rules.specs.declared.translations.Translation.{Translation};
@@ -57,7 +60,7 @@ ghost use Rattle.spec_step.specs.LettingGo.{CanAskForAll, HasRested, IsLetGo, No
 ghost use Rattle.spec_step.specs.LettingGo.{ReleasesAlone};
 ghost use Rattle.spec_step.specs.Others.{AreOthers};
 ghost use Rattle.spec_step.specs.OwnAnswers.{AreWithin, SaysJust, ShowsNothing, all_own_of, own_of};
-ghost use Rattle.spec_step.specs.Parts.{all_idle_done, all_sought_done, all_taken, echo_taken, error_taken, flow_taken, size_in, refused, retaken_by};
+ghost use Rattle.spec_step.specs.Parts.{all_idle_done, all_sought_done, all_taken, echo_taken, error_taken, flow_taken, is_taught, size_in, refused, retaken_by};
 ghost use Rattle.spec_step.specs.PassedOn.{ChangesLittle, HidesAllInside, LeavesPairs, TellsAll};
 ghost use Rattle.spec_step.specs.Rests.{AccountsOn, Rests, most_notes};
 ghost use Rattle.spec_step.specs.Settled.{AreIdle, HaveBegun, IsSettled};
@@ -276,6 +279,24 @@ pub fn other_frames()
     ensures { (s : GatewayAndOutput) (event : Event) (s2 : GatewayAndOutput) → IsStepOn s event s2
         → HasBytes event → IsBook s.shown.ledger.book → KeepsBytes s.shown → IsSetUp s.shown
         → hop_count s.shown.kept ≤ 64 → AreOthers s event s2 }
+{
+    readings_law();
+    frames_law();
+    own_frames_law();
+    tallies_law();
+}
+
+/// The true owner of an address mends what a forged ARP packet did. After a frame with an ARP packet
+/// by which its sender is learnt or renewed, and no neighbour of that address is fixed, packets to the
+/// sender go to the hardware address of that packet.
+pub fn true_owner_heals()
+    ensures { (s : GatewayAndOutput) (side : Side) (bytes : Bor (List ℕ)) (s2 : GatewayAndOutput)
+        (p : ArpPacket) → IsStepOn s (Frame side bytes) s2
+        → IsBook s.shown.ledger.book → KeepsBytes s.shown → IsSetUp s.shown
+        → reading_on s.shown side bytes.now ≡ Ok (Arp p) → is_taught s.shown side p ≡ true
+        → fixed_mac p.sender_ip.0 (station_on s.shown side).neighbours.fixed ≡ None
+        → mac_at p.sender_ip.0 s2.shown.moment (station_on s2.shown side).neighbours
+        ≡ Some p.sender_mac }
 {
     readings_law();
     frames_law();
