@@ -177,38 +177,42 @@ station-fit g Outside station same wired w = (set-up-outside g station same w.0 
 -- what is sent from the scene on in which an interface heard an ARP packet is sent from the scene before
 heard-others : (owes : List Sent → Type 0) (hand : List AtHand) (over : HeldPacket → Bool) (s s2 : GatewayAndOutput) (side : Side) (station : Interface) → station.network ≡ (station_on s.shown side).network
     → Sends-others owes hand over (with_station s.shown side station) (scene (with_station s.shown side station) s.told) s2 → Sends-others owes hand over (with_station s.shown side station) s s2
-heard-others owes hand over s s2 Inside station same x = record {
-  frames = x.frames;
-  frames_are = x.frames_are;
-  notes = x.notes;
-  notes_are = x.notes_are;
-  own = x.own;
-  owed = x.owed;
-  askings = x.askings;
-  due = x.due;
-  others = x.others ∙ ap (λ (fs : List Sent). x.own ++ fs) (requests-same s.shown (with_station s.shown Inside station) (same, refl) x.askings);
-  came = x.came;
-  new = x.new;
-  waiting = x.waiting;
-  gone = x.gone;
-  of_hand = x.of_hand;
-}
-heard-others owes hand over s s2 Outside station same x = record {
-  frames = x.frames;
-  frames_are = x.frames_are;
-  notes = x.notes;
-  notes_are = x.notes_are;
-  own = x.own;
-  owed = x.owed;
-  askings = x.askings;
-  due = x.due;
-  others = x.others ∙ ap (λ (fs : List Sent). x.own ++ fs) (requests-same s.shown (with_station s.shown Outside station) (refl, same) x.askings);
-  came = x.came;
-  new = x.new;
-  waiting = x.waiting;
-  gone = x.gone;
-  of_hand = x.of_hand;
-}
+heard-others owes hand over s s2 Inside station same x =
+    let g = with_station s.shown Inside station in
+    record {
+      frames = x.frames;
+      frames_are = x.frames_are;
+      notes = x.notes;
+      notes_are = x.notes_are;
+      own = x.own;
+      owed = x.owed;
+      askings = x.askings;
+      due = due-more (known_of s2.shown) (MayGoBy g x.notes) (MayGoBy s.shown x.notes) (λ p m. m) g g (λ t host a. a) (λ t host a. a) x.askings x.due;
+      others = x.others ∙ ap (λ (fs : List Sent). x.own ++ fs) (requests-same s.shown g (same, refl) x.askings);
+      came = x.came;
+      new = new-more (known_of s2.shown) (MayGoBy g x.notes) (MayGoBy s.shown x.notes) (λ p m. m) x.came x.new;
+      waiting = x.waiting;
+      gone = x.gone;
+      of_hand = x.of_hand;
+    }
+heard-others owes hand over s s2 Outside station same x =
+    let g = with_station s.shown Outside station in
+    record {
+      frames = x.frames;
+      frames_are = x.frames_are;
+      notes = x.notes;
+      notes_are = x.notes_are;
+      own = x.own;
+      owed = x.owed;
+      askings = x.askings;
+      due = due-more (known_of s2.shown) (MayGoBy g x.notes) (MayGoBy s.shown x.notes) (λ p m. m) g g (λ t host a. a) (λ t host a. a) x.askings x.due;
+      others = x.others ∙ ap (λ (fs : List Sent). x.own ++ fs) (requests-same s.shown g (refl, same) x.askings);
+      came = x.came;
+      new = new-more (known_of s2.shown) (MayGoBy g x.notes) (MayGoBy s.shown x.notes) (λ p m. m) x.came x.new;
+      waiting = x.waiting;
+      gone = x.gone;
+      of_hand = x.of_hand;
+    }
 
 answered-gives : Frames → (s : GatewayAndOutput) (station : Interface) (side : Side) (p : ArpPacket) (o : Option Mac) → length p.sender_mac.0 ≡ 6 → (station_on s.shown side).network ≡ station.network → IsFit s.shown
     → Gives (sent_on side (answers_by station p o)) s (answered_by s side p o)
