@@ -430,7 +430,7 @@ few-retaken id now es = omega (
 )
   where
     retaken_note : Pair → Note
-    retaken_note p = record { by = id; at = now; what = Retaken p }
+    retaken_note p = record { by = id; at = now; what = Retaken p; counts = true }
 
 few-restart : (b : Book) (now : ℕ) → length (restart_notes b now) ≤ length b.entries
 few-restart b now = at (is_synced b.stage)
