@@ -3,6 +3,8 @@ use Rattle.activity.specs.Lives.{Activity, Agrees, with_packet, life_carried}
 use Rattle.slots.specs.Rows.{PortSlots}
 use Rattle.bindings.specs.declared.store.Item.{Item}
 use Rattle.bindings.specs.Stores.{IsTally}
+use Rattle.bindings.specs.Lives.{use_counts_by}
+use Rattle.bindings.proofs.Kept.{life-is}
 use Rattle.bindings.proofs.Timed.{changed-timed}
 use Rattle.bindings.proofs.Stored.{changed-life, item-of_life}
 use Rattle.bindings.proofs.store.Store.carry.Goals as goal
@@ -19,6 +21,10 @@ invariant_of-self c =
       },
       subst (λ es. IsTally es c.self.inside.tally) (sym (changed-life c.self.inside.slots c.put_packet.new.slots c.self.inside.index c.self.inside.found.items c.args.key (life_carried c.args.key.protocol c.args.packet) c.self.invariant.0 c.recall.ensures.order c.put_packet.ensures.some c.put_packet.ensures.none).2) c.self.invariant.2,
     )
+
+pub returns-clause-counts : goal.returns-clause-counts
+returns-clause-counts c =
+    rw (← c.self.view_is) (c.put_packet.ensures.counts ∙ ap (use_counts_by c.args.key c.args.packet) (sym (life-is c.self.inside.slots.rows c.args.key c.self.invariant.0.keyed)))
 
 pub returns-clause-lives : goal.returns-clause-lives
 returns-clause-lives c =
