@@ -320,7 +320,11 @@ pub(crate) fn carry_by(table: &mut Table, is_used: bool, key: Key, packet: Packe
     ensures others { KeepsOthers key table.old.entries table.old.lives table.new.entries
         table.new.lives }
 {
-    is_used && table.carried(key, packet)
+    if is_used {
+        table.carried(key, packet)
+    } else {
+        false
+    }
 }
 
 /// Whether fewer than 65 places are free: with one record more, the answers to a whole datagram
