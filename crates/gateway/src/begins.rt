@@ -189,15 +189,14 @@ fn begin_unsynced(
     let zero = bounds_of(settings.ports.zero);
     let one = bounds_of(settings.ports.one);
     let parts = parts_of(alloc, settings, id, boot)?;
-    let ports = &settings.ports;
     let core = Core::unsynced(
         alloc,
         id,
         zero,
         one,
-        ports.host_limit,
+        settings.ports.host_limit,
         settings.alone,
-        ports.inward_refresh,
+        settings.ports.inward_refresh,
         hashers,
     )?;
     Ok(joined(settings, id, parts, core))
@@ -221,14 +220,13 @@ fn begin_founded(
     let zero = bounds_of(settings.ports.zero);
     let one = bounds_of(settings.ports.one);
     let parts = parts_of(alloc, settings, GatewayId::Zero, boot)?;
-    let ports = &settings.ports;
     let core = Core::founder(
         alloc,
         zero,
         one,
-        ports.host_limit,
+        settings.ports.host_limit,
         settings.alone,
-        ports.inward_refresh,
+        settings.ports.inward_refresh,
         hashers,
     )?;
     let mut forwarder = joined(settings, GatewayId::Zero, parts, core);
