@@ -1,6 +1,6 @@
 //! Packets that go on at once.
 ghost use Rattle.std.specs.Prelude.{◌≡◌, ◌≤◌, ◌+◌, length};
-ghost use Rattle.activity.specs.declared.packets.Packet.{Packet as Carried};
+ghost use Rattle.bind_core.specs.Cores.{packet_at};
 ghost use Rattle.waiting.specs.Packets.{beyond};
 ghost use Rattle.spec_binding.specs.WellFormed.{IsWellFormedEndpoint};
 ghost use Rattle.arp.specs.Neighbours.{asks_at};
@@ -103,14 +103,8 @@ impl Forwarder {
         flags: TcpFlags,
     )
         requires room { HasRoomFor (notes_alone 1) self.old page.old }
-        ensures scene { let packet : Carried = record {
-          remote = remote;
-          way = way;
-          flags = flags;
-          inward_refresh = self.old.core.inward_refresh;
-          at = self.old.moment;
-        }
-            in scene_on self.new page.new ≡ carried_by (scene_on self.old page.old) key packet }
+        ensures scene { let packet = packet_at self.old.core remote way flags self.old.moment in
+            scene_on self.new page.new ≡ carried_by (scene_on self.old page.old) key packet }
         ensures rest { self.new ≡ record self.old { core = self.new.core } }
         ensures refresh { self.new.core.inward_refresh ≡ self.old.core.inward_refresh }
         ensures spends { Spends (notes_alone 1) self.old page.old self.new page.new }
