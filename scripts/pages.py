@@ -35,7 +35,7 @@ README_LINES = 60
 PLACE = re.compile(r"`(?:crates/)?(\w+)/((?:src|specs|proofs)/[\w/.]*)`")
 NAME_OF = re.compile(r"((?:`\w+`(?:, | and )?)+) of `(\w+)`")
 CALL = re.compile(r"`([A-Z]\w+)::(\w+)`")
-KEY = re.compile(r"`(?:ports|inside|outside|icmp|fragments|gateway_[01I]|neighbour)\.(\w+)`")
+KEY = re.compile(r"`(?:ports|inside|outside|icmp|fragments|vrrp|gateway_[01I]|neighbour)\.(\w+)`")
 
 
 def links_check(top):
