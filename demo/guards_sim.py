@@ -1,5 +1,7 @@
 """What a stranger or a single host does to a box by `natpair sim`, whose clock can stand at any moment."""
 
+import itertools
+
 from benches import HOSTS, REMOTES, End, Scripted
 from packets import (ACK, ICMP, IPV4, REPLY, RST, SYN, TCP, UDP, Header, Station, arp_request, ethernet, icmp, ipv4, is_ipv4,
                      tcp, udp)
@@ -13,7 +15,7 @@ STRANGE_PORTS = range(7, 12)
 FLOWS, MINUTE, FEW, KNOCK_EACH = 120, 6_000, range(20_000, 20_010), 20_000
 # More stations than a box keeps neighbours, of which each asks for the box.
 CROWD = 2_200
-LOOSE, STRICT, RECORD = (bytes((kind, 7, 4)) + bytes((198, 51, 100, 7)) + b"\0" for kind in (0x83, 0x89, 0x07))
+LOOSE, STRICT, RECORD = (bytes((kind, 7, 4, 198, 51, 100, 7, 0)) for kind in (0x83, 0x89, 0x07))
 
 
 class Run(Scripted):
@@ -51,7 +53,8 @@ def told_time(centiseconds):
 
 
 def kept_by(program, settings_file, protocol, each, course=(), first=(), answer=None):
-    """How long a pair was there that a stranger's packet came to each so often, for a day: until the last that passed."""
+    """How long a pair was there that a stranger's packet came to each so often, for a day: until the first that didn't pass.
+    Others came at first. The host may answer each."""
     run = Run(program, settings_file)
     port = begin(run, protocol, course)
     for source in first:
@@ -64,8 +67,8 @@ def kept_by(program, settings_file, protocol, each, course=(), first=(), answer=
         if answer:
             packet = ipv4(HOST.station.address, STRANGER.station.address, TCP, tcp(HOST.place, STRANGER.place, answer, b""))
             run.put("inside", ethernet(run.own_mac("inside"), HOST.station.mac, IPV4, packet))
-    passed = [moment for moment, holds in zip(moments, run.fates()) if holds]
-    return max(passed, default=0)
+    passed = itertools.takewhile(lambda seen: seen[1], zip(moments, run.fates()))
+    return max((moment for moment, _ in passed), default=0)
 
 
 def told_keeping(name, seconds, is_guarded, most):
@@ -85,8 +88,8 @@ def pairs(program, settings_file, is_guarded):
 def connections(program, settings_file, is_guarded):
     """Pairs of TCP whose host has sent a SYN, and nothing more but refusals."""
     syn = ((0, SYN),)
-    held = kept_by(program, settings_file, TCP, SEGMENT_EACH, syn)
-    yield told_keeping("an ACK each 2 h 3 min keeps a half-open pair", held, is_guarded, SHORT)
+    held = kept_by(program, settings_file, TCP, SEGMENT_EACH, syn, [STRANGER])
+    yield told_keeping("an ACK, and one each 2 h 3 min then, keep a half-open pair", held, is_guarded, SHORT)
     crowd = [End(REMOTES[1], port) for port in STRANGE_PORTS]
     held = kept_by(program, settings_file, TCP, SEGMENT_EACH, syn, crowd)
     yield told_keeping("five ACKs of five ports, then one each 2 h 3 min", held, is_guarded, SHORT)

@@ -4,11 +4,18 @@ source routes."""
 from guards_sim import LOOSE, STRICT, passes
 from packets import ICMP, UDP, Advert, Station, arp_request
 from rfc_clock import HOST, QUERY_REST, REMOTE, TICK, UDP_REST, there_after, yes_there
-from rfc_packets import yes
 
 # A station of the outside network that nobody knows yet, and another one that it may ask for.
 NEWCOMER, OTHER = Station("outside", "192.0.2.77", bytes.fromhex("02000000004d")), "192.0.2.78"
 MOVED = bytes.fromhex("02000000014d")
+
+
+def told(known):
+    return "known" if known else "not known"
+
+
+def role(backup):
+    return "Backup" if backup else "Active"
 
 
 def inward_alone(fresh, report):
@@ -37,18 +44,18 @@ def is_known(bench, mac):
 
 def learns(fresh, report):
     """RFC 826: who asks for an own address comes in; who is known is renewed by any packet of his."""
-    requirement = "826"
+    requirement = "826 reception"
     bench = fresh()
     bench.put("outside", arp_request(NEWCOMER, OTHER))
     strange = is_known(bench, NEWCOMER.mac)
-    report.note(fresh, requirement, "who asks for somebody else isn't learnt", yes(strange), not strange)
+    report.note(fresh, requirement, "who asks for somebody else isn't learnt", told(strange), not strange)
     bench = fresh()
     bench.put("outside", arp_request(NEWCOMER, bench.virtual))
     known = is_known(bench, NEWCOMER.mac)
-    report.note(fresh, requirement, "who asks for an own address is", yes(known), known)
+    report.note(fresh, requirement, "who asks for an own address is", told(known), known)
     bench.put("outside", arp_request(NEWCOMER._replace(mac=MOVED), OTHER))
     moved = is_known(bench, MOVED)
-    report.note(fresh, requirement, "and whatever he asks then renews him", yes(moved), moved)
+    report.note(fresh, requirement, "and whatever he asks then renews him", told(moved), moved)
 
 
 def is_backup_by(bench, advertisement):
@@ -65,7 +72,7 @@ def counted(bench, source, priority):
 def any_counts(fresh, report):
     """Where nothing is set, whoever advertises counts."""
     found = counted(fresh(), OTHER, 255)
-    report.note(fresh, "9568 7.1 d", "a stranger's advertisement of priority 255 makes it Backup", yes(found), found)
+    report.note(fresh, "9568 7.1 d", "a stranger's advertisement of priority 255 makes it Backup", role(found), found)
 
 
 def peer_counts(fresh, report):
@@ -73,7 +80,7 @@ def peer_counts(fresh, report):
     other = fresh().settings["gateway_1"]
     for what, source in (("a stranger's", OTHER), ("one from the other box's address", other["outside_ip"])):
         found = counted(fresh(), source, 255)
-        report.note(fresh, "9568 7.1 d", f"peer_only = true: {what} of priority 255 doesn't", yes(found), not found)
+        report.note(fresh, "9568 7.1 d", f"peer_only = true: {what} of priority 255 doesn't", role(found), not found)
 
 
 WITHOUT_GUARDS = (source_routes, learns, any_counts)
