@@ -1,7 +1,7 @@
 //! The life of a pair in a table: what must be known of the pair to tell whether it is idle.
 ghost use Rattle.std.specs.Prelude.{◌≡◌, ◌+◌, ◌||◌, if◌then◌else◌};
 ghost use Rattle.addresses.specs.declared.transport.Protocol.{Protocol as Transport};
-ghost use Rattle.activity.specs.Lives.{History, Agrees, came, with_packet, renewed, is_idle, looks_idle, is_unused, is_empty, life_begun, life_carried, life_renewed};
+ghost use Rattle.activity.specs.Lives.{History, Agrees, came, with_packet, renewed, is_idle, looks_idle, is_unused, is_empty, life_begun, life_carried, life_renewed, counts_at};
 ghost use Rattle.activity.specs.Lives.{least_rest};
 ghost use Rattle.activity.specs.Sessions.{has_rested};
 ghost use Rattle.activity.specs.Packed.{moment_in, have_passed, end_of};
@@ -109,8 +109,9 @@ impl Activity {
         }
     }
 
-    /// Adds a packet that the pair carried.
-    pub fn carried(&mut self, protocol: Protocol, packet: Packet)
+    /// Adds a packet that the pair carried, and returns whether the use that the packet makes counts.
+    pub fn carried(&mut self, protocol: Protocol, packet: Packet) -> bool
+        ensures counts { result ≡ counts_at protocol self.old packet }
         ensures agrees { (past : History) → Agrees protocol past self.old
             → Agrees protocol (with_packet packet past) self.new }
         ensures exact { self.new ≡ life_carried protocol packet self.old }
@@ -122,10 +123,11 @@ impl Activity {
         self.is_unused = false;
         self.has_carried = true;
         match protocol {
-            Protocol::Icmp | Protocol::Udp => {}
+            Protocol::Icmp | Protocol::Udp => sets_last,
             Protocol::Tcp => {
                 let nowhere = follow_unless(is_loose, &mut self.places, &mut self.count, packet);
                 self.is_crowded |= nowhere;
+                !is_loose
             }
         }
     }

@@ -1,5 +1,9 @@
 -- What callers see of a core.
 use Rattle.std.specs.Prelude.{ℕ, Bool, List, Option, Some, None, true, false, ◌&&◌, ◌||◌, [], map, if◌then◌else◌}
+use Rattle.addresses.specs.declared.transport.TcpFlags.{TcpFlags}
+use Rattle.activity.specs.declared.packets.Packet.{Packet}
+use Rattle.activity.specs.declared.packets.Remote.{Remote}
+use Rattle.activity.specs.declared.packets.Way.{Way}
 use Rattle.nat_types.specs.declared.gateways.GatewayId.{GatewayId}
 use Rattle.nat_types.specs.declared.records.Record.{Record}
 use Rattle.nat_types.specs.declared.records.Record.TheVariants.{Install, Accept, Refuse, Ask, Yes, No, Begin, Put, Done, Want, Grant, Owner, Tell}
@@ -92,6 +96,16 @@ is_carried (Some x) p = translates x.state && same_pair x.pair p
 -- whether the pair's key has exactly this pair, and it translates
 abbrev pub carries_pair : Book → Pair → Bool
 carries_pair b p = is_carried (slot_of b.entries p.key) p
+
+-- a packet that the core's gateway carries at time `now`
+abbrev pub packet_at : Core → Remote → Way → TcpFlags → ℕ → Packet
+packet_at c remote way flags now = record {
+  remote = remote;
+  way = way;
+  flags = flags;
+  inward_refresh = c.inward_refresh;
+  at = now;
+}
 
 -- ---- loading
 

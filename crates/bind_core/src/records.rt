@@ -209,7 +209,7 @@ impl Core {
         match self.loading.take(&mut self.table, entry, now) {
             Ok(_) => {
                 self.stage = stage_after(self.stage, loads.is_whole);
-                note(notes, self.id, now, loads.what);
+                note(notes, self.id, now, true, loads.what);
             }
             Err(_out_of_place) => {}
         }

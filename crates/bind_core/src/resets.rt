@@ -40,7 +40,12 @@ fn note_if_back(notes: &mut Vec<Note>, entry: Entry, by: GatewayId, at: u64)
 {
     if does_come_back(entry.state) {
         let what = NoteKind::Retaken(entry.pair);
-        notes.push_reserved(Note { by, at, what });
+        notes.push_reserved(Note {
+            by,
+            at,
+            what,
+            counts: true,
+        });
     }
 }
 

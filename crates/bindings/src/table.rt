@@ -13,7 +13,7 @@ ghost use Rattle.bindings.specs.Lists.{put_in, after_key, first_after};
 ghost use Rattle.bindings.specs.Revivals.{revived_entries, revived_slot, lives_of_pairs};
 ghost use Rattle.bindings.specs.Table.{empty_table};
 ghost use Rattle.bindings.specs.Runs.{own_in, without_port, all_ports, first_run, port_at};
-ghost use Rattle.bindings.specs.Lives.{KeepsOthers, is_among, may_go, rests_at, is_unused_at};
+ghost use Rattle.bindings.specs.Lives.{KeepsOthers, is_among, may_go, rests_at, is_unused_at, use_counts_at};
 ghost use Rattle.bindings.specs.Ports.{AreBounds, in_either, key_count, is_open_in, is_vacant, is_spare, chosen_port, ports_in};
 ghost use Rattle.bindings.specs.Table.{IsTable, IsPast, owns, alone_keys_of, idle_keys_of, is_alone_at, is_marked_at, with_entry_state, without_entry};
 ghost use Rattle.bindings.specs.Dues.{watched_keys};
@@ -481,11 +481,12 @@ impl Table {
         self.ports.spare_below(end)
     }
 
-    /// Adds a packet that the pair of a key carried, to or from a remote host, to the pair's life. The flags of a UDP
-    /// packet aren't read; `inward_refresh` of the packet says whether what comes inward sets the last use. A key without
-    /// an entry changes nothing.
+    /// Adds a packet that the pair of a key carried, to or from a remote host, to the pair's life, and returns whether
+    /// the use that the packet makes counts. The flags of a UDP packet aren't read; `inward_refresh` of the packet says
+    /// whether what comes inward sets the last use. A key without an entry changes nothing, and its use doesn't count.
     #[inline(always)]
-    pub fn carried(&mut self, key: Key, packet: Packet)
+    pub fn carried(&mut self, key: Key, packet: Packet) -> bool
+        ensures counts { result ≡ use_counts_at self.old.entries self.old.lives key packet }
         ensures longer { (past : History) → IsPast self.old key past
             → IsPast self.new key (with_packet packet past) }
         ensures lives { self.new.lives ≡ lives_with (life_carried key.protocol packet) key
@@ -494,7 +495,7 @@ impl Table {
             self.new.lives }
         ensures same { self.new ≡ record self.old { lives = self.new.lives } }
     {
-        self.store.carry(key, packet);
+        self.store.carry(key, packet)
     }
 
     /// Begins the life of a key's pair anew at `now`, with an empty list of packets. A key without an entry changes

@@ -25,3 +25,6 @@ returns-clause-others c =
     let i = c.self.inside in
     let packet = c.args.packet in
     rw (c.carry.ensures.lives, ← c.self.view_is) (others-stay (life_carried c.args.key.protocol packet) c.args.key i.store.entries i.store.lives)
+
+pub returns-clause-counts : goal.returns-clause-counts
+returns-clause-counts c = rw (← c.self.view_is) c.carry.ensures.counts
