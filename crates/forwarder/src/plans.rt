@@ -1,8 +1,9 @@
 //! The plan of a packet: what is to happen to it, found before anything changes.
-ghost use Rattle.std.specs.Prelude.{◌≡◌};
+ghost use Rattle.std.specs.Prelude.{◌≡◌, false};
 ghost use Rattle.spec_binding.specs.Rows.{new_pair};
 ghost use Rattle.packet_rules.specs.Flows.{source_of};
 ghost use Rattle.packet_rules.specs.Networks.{direction_of};
+ghost use Rattle.packet_rules.specs.Steps.{and_then};
 ghost use Rattle.spec_step.specs.Verdict.{fits_at, if_fits, look_for, plan_from, plan_of, plan_via};
 ghost use Rattle.spec_step.specs.Verdict.{pair_at, plan_on, target_pair};
 ghost use Rattle.forwarder.specs.Forwarder.{shown_of};
@@ -75,34 +76,17 @@ pub(crate) fn if_fits(fits: bool, plan: Plan) -> Result<Plan, Reason>
     }
 }
 
-/// Returns what comes of a packet that is too long for the side at which it would leave.
-#[cold]
-fn if_too_long(plan: Result<Plan, Reason>) -> Result<Plan, Reason>
-    ensures { result ≡ and_then plan (if_fits false) }
-{
-    match plan {
-        Ok(plan) => if_fits(false, plan),
-        Err(reason) => Err(reason),
-    }
-}
-
 impl Forwarder {
     /// Returns the plan of a packet, or why it is dropped. Nothing changes.
     #[inline(always)]
     pub(crate) fn plan(&self, side: Side, packet: Packet) -> Result<Plan, Reason>
         ensures { result ≡ plan_of (shown_of self.now) side packet.flow packet.size }
     {
-        match self.way_of(side, packet.flow) {
-            Ok(way) => {
-                let plan = self.plan_on(packet.flow, way);
-                if self.fits_at(way.exit(), packet.size) {
-                    plan
-                } else {
-                    if_too_long(plan)
-                }
-            }
-            Err(reason) => Err(reason),
+        let way = self.way_of(side, packet.flow)?;
+        if !self.fits_at(way.exit(), packet.size) {
+            return self.plan_long(packet.flow, way);
         }
+        self.plan_on(packet.flow, way)
     }
 
     /// Returns the direction of a packet that came in on a side, or why it is dropped.
@@ -130,20 +114,30 @@ impl Forwarder {
             || (self.networks.pass && !size.unbroken)
     }
 
+    /// Returns the plan of a packet that is too long for the side at which it leaves.
+    #[cold]
+    fn plan_long(&self, flow: Flow, way: Direction) -> Result<Plan, Reason>
+        ensures { result
+            ≡ and_then (plan_on (shown_of self.now) flow way) (if_fits false) }
+    {
+        let plan = self.plan_on(flow, way)?;
+        if_fits(false, plan)
+    }
+
     #[inline(always)]
     fn plan_on(&self, flow: Flow, way: Direction) -> Result<Plan, Reason>
         ensures { result ≡ plan_on (shown_of self.now) flow way }
     {
         match way {
             Direction::Outward => self.plan_from(flow, None, self.look_for(flow)),
-            Direction::Inward => match self.target_pair(flow) {
-                Ok(pair) => self.plan_to(flow.destination, Translation::Inward(pair)),
-                Err(reason) => Err(reason),
-            },
-            Direction::Hairpin => match self.target_pair(flow) {
-                Ok(pair) => self.plan_from(flow, Some(pair), self.look_for(flow)),
-                Err(reason) => Err(reason),
-            },
+            Direction::Inward => {
+                let pair = self.target_pair(flow)?;
+                self.plan_to(flow.destination, Translation::Inward(pair))
+            }
+            Direction::Hairpin => {
+                let pair = self.target_pair(flow)?;
+                self.plan_from(flow, Some(pair), self.look_for(flow))
+            }
         }
     }
 

@@ -147,9 +147,10 @@ fn choose<'a>(k: usize, first: &'a [u8], others: &'a [u8]) -> &'a [u8]
     if k == 0 { first } else { others }
 }
 
-/// Appends the first 20 bytes of the k-th fragment's header, and its options.
+/// Appends the header of the k-th fragment of a packet with options.
+#[cold]
 #[tactic(auto, unfolding(crate::specs::Cut::piece_options, crate::specs::Header::header_with))]
-fn append_header(list: &mut Vec<u8>, packet: &Ipv4View<'_>, fields: Fields, k: usize)
+fn append_header_with_options(list: &mut Vec<u8>, packet: &Ipv4View<'_>, fields: Fields, k: usize)
     requires room { vec_len list.old + (header_of packet.now.bytes.now).header_length
         ≤ vec_capacity list.old }
     ensures items { list.new.items ≡ list.old.items
@@ -164,6 +165,23 @@ fn append_header(list: &mut Vec<u8>, packet: &Ipv4View<'_>, fields: Fields, k: u
     let fixed = summed(packet.bytes, fields, options);
     append_reserved(list, &fixed);
     append_reserved(list, options);
+}
+
+/// Appends the header of the k-th fragment.
+#[tactic(auto, unfolding(crate::specs::Cut::piece_options, crate::specs::Header::header_with, crate::specs::Options::later_from))]
+fn append_header(list: &mut Vec<u8>, packet: &Ipv4View<'_>, fields: Fields, k: usize)
+    requires room { vec_len list.old + (header_of packet.now.bytes.now).header_length
+        ≤ vec_capacity list.old }
+    ensures items { list.new.items ≡ list.old.items
+        ++ header_with fields packet.now.bytes.now (piece_options packet.now.bytes.now k) }
+    ensures len { vec_len list.new
+        ≡ vec_len list.old + (header_of packet.now.bytes.now).header_length }
+    ensures capacity { vec_capacity list.old ≤ vec_capacity list.new }
+{
+    if !packet.options().is_empty() {
+        return append_header_with_options(list, packet, fields, k);
+    }
+    append_reserved(list, &summed(packet.bytes, fields, &[]));
 }
 
 /// Returns into how many fragments a packet is cut where at most `mtu` bytes of IPv4 are sent in one frame, 576 to 1,500: one

@@ -53,6 +53,15 @@ fn long_count(frame: &[u8], mtu: u16) -> usize
     piece_count(EthView { bytes: frame }.body(), mtu)
 }
 
+/// Whether a frame that has a k-th piece has to be cut. Only the first piece may be a frame that hasn't.
+#[inline(always)]
+fn is_cut(frame: &[u8], mtu: u16, k: usize) -> bool
+    requires { k < length (pieces mtu frame.now) }
+    ensures { result ≡ is_long mtu frame.now }
+{
+    k > 0 || is_long(frame, mtu)
+}
+
 /// Writes the k-th fragment of a frame that is too long into a list with capacity for the longest frame on a wire.
 fn write_piece(list: &mut Vec<u8>, frame: &[u8], mtu: u16, k: usize)
     requires mtu { IsMtu mtu }
@@ -118,7 +127,7 @@ impl Cutter {
         ensures next { drop k (pieces mtu frame.now)
             ≡ result.now ∷ drop (k + 1) (pieces mtu frame.now) }
     {
-        if k > 0 || is_long(frame, mtu) {
+        if is_cut(frame, mtu, k) {
             write_piece(&mut self.piece, frame, mtu, k);
             &self.piece
         } else {

@@ -27,6 +27,9 @@ const ICMP: u8 = 1;
 /// How many numbers there are: after these the identifications are the same again.
 const NUMBERS: u32 = 32768;
 
+/// The bytes of an Ethernet header.
+const ETHERNET: usize = 14;
+
 /// Another identification for the packet of a frame.
 #[derive(Clone, Copy)]
 struct Identification {
@@ -206,10 +209,11 @@ fn number_from(
     number
 }
 
-/// Counts the frames from an index on that go out in fragments.
+/// Counts the frames from an index on that go out in fragments. What is longer than its side takes may be cut: no other
+/// packet is sent that is too long.
 fn count_cut(networks: &Networks, page: &OutputBuffer, first: usize, counts: &mut Counts) {
     for frame in page.frames().skip(first) {
-        if is_long(frame.bytes, mtu_of(networks, frame.side)) {
+        if frame.bytes.len() > ETHERNET + usize::from(mtu_of(networks, frame.side)) {
             counts.cut(frame.side);
         }
     }

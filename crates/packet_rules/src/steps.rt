@@ -281,10 +281,9 @@ fn read_packet(
 {
     test_virtual(network, frame)?;
     if view.protocol() == icmp::PROTOCOL {
-        take_icmp(side, view)
-    } else {
-        take_transport(view)
+        return take_icmp(side, view);
     }
+    take_transport(view)
 }
 
 /// Reads a packet that is no Echo to the gateway.
@@ -300,10 +299,9 @@ fn read_other(
     ensures { result ≡ other_reading side network.now (frame_of frame.now.bytes.now) }
 {
     if is_for_vrrp(view) {
-        read_advert(network, view)
-    } else {
-        read_packet(side, network, frame, view)
+        return read_advert(network, view);
     }
+    read_packet(side, network, frame, view)
 }
 
 /// Reads an Echo to the gateway.
@@ -326,10 +324,9 @@ fn read_ipv4(
 {
     let packet = view_packet(frame.body())?;
     if is_asked(network, active, frame, &packet) {
-        read_asked(&packet)
-    } else {
-        read_other(side, network, frame, &packet)
+        return read_asked(&packet);
     }
+    read_other(side, network, frame, &packet)
 }
 
 /// Reads a frame at hand, of up to 65,549 bytes, on a side's network, at an interface that is `active` or not, by a
@@ -367,8 +364,7 @@ fn take_steps(
     }
     test_destination(network, active, &frame)?;
     if frame.ethertype() == EtherType::ARP {
-        read_arp(frame.body())
-    } else {
-        read_ipv4(side, network, active, &frame)
+        return read_arp(frame.body());
     }
+    read_ipv4(side, network, active, &frame)
 }

@@ -33,4 +33,4 @@ returns-clause-items c =
     let behind : drop c.len-start.result (list ++ bytes) ≡ bytes = tail_there list bytes c.len-start.result at in
     let body = translated_by c.args.networks.now c.args.translation.now (drop 14 bytes) in
     let cut = tail_cut list bytes (sent_header c.args.networks.now c.args.translation.now c.args.next_mac) body c.len-start.result (header_of (drop 14 bytes)).total_length at c.translate_tail.ensures.fourteen in
-    simp (c.truncate.ensures.items, c.translate_tail.ensures.items, c.append_reserved.ensures.items, behind, ap (λ p. p.size.length) c.requires.read) cut
+    simp (c.truncate.ensures.items, c.translate_tail.ensures.items, c.append_reserved.ensures.items, behind, c.from.ensures, ap (λ p. p.size.length) c.requires.read) cut

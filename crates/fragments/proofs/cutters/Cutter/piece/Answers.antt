@@ -5,11 +5,11 @@ use Rattle.fragments.proofs.cutters.Cutter.piece.Goals as goal
 
 pub write_piece-requires-clause-there : goal.write_piece-requires-clause-there
 write_piece-requires-clause-there c =
-    omega (arith, c.requires.there, count-pieces c.args.mtu c.args.frame.now (sym c.is_long.ensures ∙ c.if-is_long.true))
+    omega (arith, c.requires.there, count-pieces c.args.mtu c.args.frame.now (sym c.is_cut.ensures ∙ c.if-is_cut.true))
 
-pub returns-then-is_long : goal.returns-then-is_long
-returns-then-is_long c =
-    let long = sym c.is_long.ensures ∙ c.if-is_long.true in
+pub returns-then-is_cut : goal.returns-then-is_cut
+returns-then-is_cut c =
+    let long = sym c.is_cut.ensures ∙ c.if-is_cut.true in
     let rest : List (List ℕ) = drop (c.args.k + 1) (pieces c.args.mtu c.args.frame.now) in
     record {
       next =
