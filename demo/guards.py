@@ -1,7 +1,7 @@
 """What a stranger or a single host can do to a pair: with each guard and without it.
 
-Where a guard is a setting, both are tried by one program. Where it is none, what there was before it is shown by a program
-of a release before, where one is named.
+Where a guard is a setting, both are tried by one program. Where it is none, what there was before it is shown by a
+program of a release before, where one is named.
 """
 
 import argparse
@@ -56,7 +56,8 @@ class Line(NamedTuple):
 
 def by_setting(options, change, *always):
     """The guard is a setting: without it, and with it."""
-    return [Way("setting off", options.program, always, False), Way("setting on", options.program, (change, *always), True)]
+    return [Way("setting off", options.program, always, False),
+            Way("setting on", options.program, (change, *always), True)]
 
 
 def by_program(options, *always):
@@ -183,6 +184,8 @@ def flood(options):
 def greedy_host(current):
     """The other box stands still; one host opens many flows, and then the others some: how many of theirs are answered,
     none of which asks twice."""
+    probe = Probe(current)
+    follow(current, probe, lambda: probe.flow.answered > 0, 10)
     current.boxes[1].halt()
     socks = []
     with current.networks.host.entered():
