@@ -36,9 +36,9 @@ impl<'a> Journals<'a> {
         let format = format_in(case);
         let (option, environment) = (case.name(), case.name());
         let text = given(option.as_str()).or(given(environment.as_str()));
-        let word = if case.left() == 0 { "" } else { case.word() };
-        let mappings = mappings_for(word, case);
-        let peer_only = word == "peer-only";
+        let word = last_word(case);
+        let peer_only = word.as_str() == "peer-only";
+        let mappings = mappings_for(word.as_str(), case);
         self.log = match filter(case.alloc, text.unwrap_or("")) {
             Ok(filter) => {
                 let sink = Sink::new(Printer::new(self.rt, self.state), format);
@@ -79,6 +79,15 @@ impl Actor for Journals<'_> {
 /// Returns a text, or None for `-`.
 fn given(word: &str) -> Option<&str> {
     if word == "-" { None } else { Some(word) }
+}
+
+/// Returns the next word, or an empty text where none is left.
+fn last_word(case: &mut Case) -> String {
+    if case.left() == 0 {
+        String::new(case.alloc)
+    } else {
+        case.name()
+    }
 }
 
 /// Returns what a log needs that tells mappings, where the word is `mapped`.
