@@ -14,7 +14,7 @@ import guards_sim
 from cards import card
 from download import follow
 from flows import PORT
-from packets import Advert, Station, arp_reply, arp_request, ip_bytes
+from packets import ARP, Advert, Station, arp_reply, arp_request, ip_bytes, is_arp
 from pair import FOLDER, HOSTS, PYTHON, ROUTER, SERVER
 from rates import LOAD_PORT, serve_load
 from scene import Probe, scene, settings_with, show
@@ -28,7 +28,8 @@ ATTACKER = bytes.fromhex("020000000066")
 # A network with room for more hosts than a box keeps neighbours, and how fast they speak, for how long.
 WIDE_INSIDE = ("prefix = 24\nvrid = 11", "prefix = 16\nvrid = 11")
 SENDERS, FLOOD_RATE, FLOOD_SECONDS = 60_000, 20_000, 4
-ASKED, ASKED_WELL = 500, 0.99
+# Questions a second of the hosts meanwhile. A box that forgot them asks for them more often than for each once.
+ASKED = 500
 # One host's new flows, and then those of each other host, while the other box stands still for so many seconds.
 FIRST, OTHERS, STILL = 100, 6, 1.0
 PEER_ONLY = ("[gateway_0]", "[vrrp]\npeer_only = true\n\n[gateway_0]")
@@ -154,9 +155,34 @@ def speakers():
             yield arp_request(Station("inside", address, mac), address)
 
 
+class Requests:
+    """How often box 0 asks for the hosts, which it has to once it has forgotten them."""
+
+    def __init__(self, current):
+        self.own = mac_of(current.networks.settings["gateway_0"]["inside_mac"])
+        self.hosts = {ip_bytes(host) for host in HOSTS}
+        self.count = 0
+        with current.networks.host.entered():
+            self.sock = socket.socket(socket.AF_PACKET, socket.SOCK_RAW, 0)
+            self.sock.bind(("eth0", ARP))
+        self.sock.setblocking(False)
+        current.stack.callback(self.sock.close)
+        current.loop.watch(self.sock, self.look)
+
+    def look(self):
+        """Takes frames that are there, and not more than leave time for others."""
+        try:
+            for _ in range(64):
+                frame = self.sock.recv(2048)
+                self.count += frame[6:12] == self.own and is_arp(frame, 1) and frame[38:42] in self.hosts
+        except BlockingIOError:
+            pass
+
+
 def flooded(current):
-    """Which share of a load is answered while everybody inside speaks."""
+    """Which share of a load is answered while everybody inside speaks, and how often its hosts are asked for."""
     serve_load(current)
+    requests = Requests(current)
     words = ("ask", SERVER, str(LOAD_PORT), str(ASKED), str(FLOOD_SECONDS))
     child = current.networks.host.start(*PYTHON, str(FOLDER / "load.py"), *words, stdout=subprocess.PIPE, text=True)
     sock, frames, sent = card_of(current, current.networks.host), speakers(), 0
@@ -169,16 +195,18 @@ def flooded(current):
                 sent += 1
             except BlockingIOError:
                 break
+    current.loop.until(lambda: False, 0.2)
     asked, answered, _ = map(int, child.stdout.read().split())
-    return answered / asked, sent / (time.monotonic() - begun)
+    return answered / asked, requests.count, sent / (time.monotonic() - begun)
 
 
 def flood(options):
     for way in by_program(options, WIDE_INSIDE):
-        share, rate = in_scene(options, way, flooded)
-        owed = f"{ASKED_WELL:.0%} are answered" if way.is_guarded else "some aren't answered"
-        holds = share >= ASKED_WELL if way.is_guarded else share < ASKED_WELL
-        yield Line("ARP packets of all stations", way.name, owed, f"{share:.1%} at {rate:,.0f} a second", holds)
+        share, count, rate = in_scene(options, way, flooded)
+        owed = "hosts in use are known all the time" if way.is_guarded else "they are forgotten, and asked for"
+        holds = count <= len(HOSTS) if way.is_guarded else count > len(HOSTS)
+        seen = f"{count} requests, {share:.1%} answered, at {rate:,.0f} a second"
+        yield Line("ARP packets of all stations", way.name, owed, seen, holds)
 
 
 def greedy_host(current):
