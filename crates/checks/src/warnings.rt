@@ -13,7 +13,8 @@ use std::alloc::{AllocError, Global};
 const MAX_BOOT_FILE_PATH: usize = 107 - ".control/socket".len();
 
 /// Returns all warnings of settings: those of the ports, of the networks, of advertisements, of each gateway, of both
-/// gateways and of the neighbours, then the loopback ports that two keys have, and those that are left out beside others of their place.
+/// gateways and of the neighbours, then the loopback ports that two keys have, and those that are left out beside others
+/// of their place.
 ///
 /// # Errors
 ///
@@ -124,12 +125,7 @@ fn outside_warnings(settings: &Settings) -> [Option<Warning>; 5] {
             Name::Router,
             WarningKind::NetworkAddress,
         ),
-        warn_if(
-            is_learnt,
-            section,
-            Name::Router,
-            WarningKind::LearntRouter,
-        ),
+        warn_if(is_learnt, section, Name::Router, WarningKind::LearntRouter),
         warn_if(uncut, section, Name::Mtu, WarningKind::Uncut),
     ]
 }
