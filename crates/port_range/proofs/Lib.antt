@@ -1,6 +1,9 @@
 mod Bits
 mod Choice
+mod Counting
+mod Drawing
 mod Listed
+mod Picking
 mod Searching
 mod Summing
 mod Writing
