@@ -67,7 +67,7 @@ round-some test parity block place port h =
       | inr w ↦ (let is = lowest_open-some test (block * 64) (block * 64 + 63) (Some parity) port w.1 in (is.passes, parity-eq (parity_of port.0) parity is.kind))
     ]
 
-like-some : (test owned : ℕ → Bool) (parity : Parity) (x y : ℕ) (port : Port) → drawn_like test owned parity x y ≡ Some port → (test port.0 ≡ true) × (parity_of port.0 ≡ parity)
+pub like-some : (test owned : ℕ → Bool) (parity : Parity) (x y : ℕ) (port : Port) → drawn_like test owned parity x y ≡ Some port → (test port.0 ≡ true) × (parity_of port.0 ≡ parity)
 like-some test owned parity x y port h =
     let block = then-some {X = ℕ} {Y = Port} (drawn_in test owned parity y) (picked (open_blocks test parity) x) port h in
     let place = then-some {X = ℕ} {Y = Port} (first_round test parity block.0) (picked (owned_in owned parity block.0) y) port block.2 in

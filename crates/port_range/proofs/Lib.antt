@@ -4,6 +4,7 @@ mod Counting
 mod Drawing
 mod Listed
 mod Picking
+mod Ranging
 mod Searching
 mod Summing
 mod Writing

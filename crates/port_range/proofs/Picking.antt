@@ -1,8 +1,9 @@
 -- The words of a draw: the bit that is picked, and the port that it is.
-use Rattle.std.proofs.Common.{◌≡◌, ℕ, ◌+◌, ◌-◌, ◌*◌, ◌/◌, ◌%◌, ◌^◌, ◌<◌, ◌≤◌, ◌==◌, nat_lt, Bool, true, false, ◌&&◌, Option, Some, None, is_some, option_and_then, ◌⊎◌, inl, inr, List, [], length, get_or, bit_and, count_ones, w64, refl, ap, ◌∙◌, sym, subst, arith}
+use Rattle.std.proofs.Common.{◌≡◌, ℕ, ◌+◌, ◌-◌, ◌*◌, ◌/◌, ◌%◌, ◌^◌, ◌<◌, ◌≤◌, ◌==◌, nat_lt, Bool, true, false, ◌&&◌, Option, Some, None, is_some, option_and_then, IfSome, IfNone, ◌⊎◌, inl, inr, List, [], length, get_or, bit_and, count_ones, mod-lt, w64, refl, ap, ◌∙◌, sym, subst, arith}
 use Rattle.std.specs.Int.{trailing_zeros}
-use Rattle.std.proofs.lemmas.Bool.{and_parts, and_from, both_ways, cases_lt, false_from_ne_true, ltb-true, ltb-false}
+use Rattle.std.proofs.lemmas.Bool.{and_parts, and_from, and_left, and_right, both_ways, cases_lt, false_from_ne_true, ltb-true, ltb-false}
 use Rattle.std.proofs.lemmas.List.{nil_from_length}
+use Rattle.std.proofs.lemmas.Nat.{zero_from_ones}
 use Rattle.std.proofs.lemmas.Nat.Bits.{bit_at-trailing_zeros}
 use Rattle.addresses.specs.declared.transport.Parity.{Parity}
 use Rattle.addresses.specs.declared.transport.Port.{Port}
@@ -37,6 +38,34 @@ nth-past word start number bit so-far first =
 -- where no bit from a start on is set, the word has no more than those below
 pub nth-none : (word start number count : ℕ) → start ≤ 64 → count_below (is_set word) start ≡ number → number ≤ count → ((i : ℕ) → start ≤ i → i < 64 → is_set word i ≡ false) → count_below (is_set word) 64 ≤ count
 nth-none word start number count low so-far few none = omega (arith, count-upto (is_set word) start 64 low none, so-far, few)
+
+-- the number of a bit, by the count of the ones
+pub nth-ones : (owned y count place : ℕ) → owned < 2 ^ 64 → count ≡ count_ones owned → IsNth (is_set owned) (y % count) place → IsNth (is_set owned) (y % count_below (is_set owned) 64) place
+nth-ones owned y count place fits is nth = record {
+  passes = nth.passes;
+  below = nth.below ∙ ap (λ (n : ℕ). y % n) (is ∙ ones-bits 64 owned fits);
+}
+
+-- a remainder is less than the count, so its bit is there
+pub nth-there : (owned y count : ℕ) → owned < 2 ^ 64 → count ≡ count_ones owned → 0 < count → count_below (is_set owned) 64 ≤ y % count → ⊥
+nth-there owned y count fits is some none = absurd (omega (arith, is, ones-bits 64 owned fits, mod-lt y {m = count} some, none))
+
+-- the first of all is drawn, where none is from the place on
+pub drawn-later : (owned free : ℕ → Bool) (y place : ℕ) (answer : Option ℕ) → IsNth owned (y % count_below owned 64) place → place < 64
+    → ((i : ℕ) → place ≤ i → i < 64 → free i ≡ false) → IfSome answer (IsFirstFrom free 0) → IfSome answer (λ bit. bit < 64) → IfSome answer (IsDrawnBit owned free y)
+drawn-later owned free y place None nth low none first within = tt
+drawn-later owned free y place (Some bit) nth low none first within = record { place = place; nth = nth; low = low; within = within; first = inr (none, first) }
+
+pub drawn-nothing : (owned free : ℕ → Bool) (answer : Option ℕ) → IfNone answer ((i : ℕ) → 0 ≤ i → i < 64 → free i ≡ false)
+    → IfNone answer ((i : ℕ) → i < 64 → (owned i && free i) ≡ false)
+drawn-nothing owned free None none = λ i low. and_right (owned i) (free i) (none i (omega arith) low)
+drawn-nothing owned free (Some bit) none = tt
+
+-- a word without ones has no bit
+pub no-ones : (owned free count : ℕ) → count ≡ count_ones owned → count ≡ 0 → (i : ℕ) → i < 64 → (is_set owned i && is_set free i) ≡ false
+no-ones owned free count is none i low =
+    let zero_word : owned ≡ 0 = zero_from_ones owned (sym is ∙ none) in
+    and_left (is_set owned i) (is_set free i) (ap (λ (w : ℕ). is_set w i) zero_word ∙ is_set-zero i)
 
 -- ---- the words of a list
 

@@ -190,7 +190,7 @@ fn nth_bit(word: u64, number: u32) -> Option<usize>
     ensures none { IfNone result (count_below (is_set word) 64 ≤ number) }
 {
     let mut start = 0;
-    for _passed in 0..number {
+    for passed in 0..number {
         start = lowest_from(word, start)? + 1;
     }
     lowest_from(word, start)
