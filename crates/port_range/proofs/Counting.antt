@@ -74,13 +74,14 @@ count-past test place passes =
 -- ---- the ones of a word
 
 one_if-bit : (x : ℕ) → x < 2 → count_ones x ≡ one_if (x == 1)
+unfolding lib.Count.ones
 one_if-bit zero low = refl
 one_if-bit (suc zero) low = refl
 one_if-bit (suc (suc x)) low = absurd (omega arith)
 
 pub ones-bits : (width word : ℕ) → word < 2 ^ width → count_ones word ≡ count_of (is_set word) 0 width
 unfolding is_set
-ones-bits zero word low = let none : word ≡ 0 = omega (arith, low) in ap count_ones none
+ones-bits zero word low = let none : word ≡ 0 = omega (arith, low) in ap count_ones none ∙ one_if-bit 0 (omega arith)
 ones-bits (suc width) word low =
     let twice = pow-succ' 2 width in
     let half : word / 2 < 2 ^ width = omega (arith, low, twice) in

@@ -86,6 +86,7 @@ ArePorts test = (q : ℕ) → test q ≡ true → q < 65536
 -- where nothing is drawn in a block, no port of the parity in it may be given out
 pub in-none : (test owned : ℕ → Bool) (parity : Parity) (y block : ℕ) → AreOwned test owned → drawn_in test owned parity y block ≡ None
     → (q : ℕ) → block * 64 ≤ q → q ≤ block * 64 + 63 → parity_of q ≡ parity → test q ≡ false
+unfolding owned_in
 in-none test owned parity y block own h q low high kind =
     elim (then-none {X = ℕ} {Y = Port} (first_round test parity block) (picked (owned_in owned parity block) y) h) [
       | inl nothing ↦ (let closed = nothing-where (is_open owned (Some parity)) (block * 64) 64 (get-none (owned_in owned parity block) y nothing) q low (omega (arith, high)) in
@@ -104,6 +105,7 @@ in-some test owned parity y block own opened h =
 
 like-none : (test owned : ℕ → Bool) (parity : Parity) (x y : ℕ) → AreOwned test owned → drawn_like test owned parity x y ≡ None
     → (q : ℕ) → q < 65536 → parity_of q ≡ parity → test q ≡ false
+unfolding open_blocks
 like-none test owned parity x y own h q low kind =
     elim (then-none {X = ℕ} {Y = Port} (drawn_in test owned parity y) (picked (open_blocks test parity) x) h) [
       | inl nothing ↦ (let closed = nothing-where (has_open test parity) 0 1024 (get-none (open_blocks test parity) x nothing) (q / 64) (omega arith) (omega (arith, low)) in

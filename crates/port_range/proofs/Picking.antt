@@ -39,6 +39,26 @@ nth-past word start number bit so-far first =
 pub nth-none : (word start number count : ℕ) → start ≤ 64 → count_below (is_set word) start ≡ number → number ≤ count → ((i : ℕ) → start ≤ i → i < 64 → is_set word i ≡ false) → count_below (is_set word) 64 ≤ count
 nth-none word start number count low so-far few none = omega (arith, count-upto (is_set word) start 64 low none, so-far, few)
 
+-- what holds, holds where an answer is None
+pub if-none : {X : Type 0} {P : Type 0} (answer : Option X) → P → IfNone answer P
+if-none None p = p
+if-none (Some x) p = tt
+
+pub none-absurd : {X : Type 0} {P : Type 0} (answer : Option X) → (answer ≡ None → ⊥) → IfNone answer P
+none-absurd None h = absurd (h refl)
+none-absurd (Some x) h = tt
+
+-- the first bit from where the search stands is the one with the number
+pub nth-all : (word start passed number : ℕ) (answer : Option ℕ) → passed ≡ number → count_below (is_set word) start ≡ passed → IfSome answer (IsFirstFrom (is_set word) start)
+    → IfSome answer (IsNth (is_set word) number)
+nth-all word start passed number None is so-far first = tt
+nth-all word start passed number (Some bit) is so-far first = nth-first word start number bit (so-far ∙ is) first
+
+pub nth-nothing : (word start passed number : ℕ) (answer : Option ℕ) → start ≤ 64 → passed ≤ number → count_below (is_set word) start ≡ passed
+    → IfNone answer ((i : ℕ) → start ≤ i → i < 64 → is_set word i ≡ false) → IfNone answer (count_below (is_set word) 64 ≤ number)
+nth-nothing word start passed number None low few so-far none = nth-none word start passed number low so-far few none
+nth-nothing word start passed number (Some bit) low few so-far none = tt
+
 -- the number of a bit, by the count of the ones
 pub nth-ones : (owned y count place : ℕ) → owned < 2 ^ 64 → count ≡ count_ones owned → IsNth (is_set owned) (y % count) place → IsNth (is_set owned) (y % count_below (is_set owned) 64) place
 nth-ones owned y count place fits is nth = record {
@@ -96,6 +116,12 @@ nth-in words index word start number bit is low from begins nth = record {
       omega (arith, within, same, some, from, begins));
 }
 
+-- a word that has the number has more bits than those before it leave
+pub word-short : (words : List ℕ) (index start number end : ℕ) → end ≡ count_below (has_bit words) (64 * (index + 1)) → start ≡ count_below (has_bit words) (64 * index)
+    → start ≤ number → number < end → count_below (is_set (get_or words index 0)) 64 ≤ number - start → ⊥
+word-short words index start number end ends begins from low short =
+    absurd (omega (arith, bits-within words index 64 (64 * (index + 1)) (omega arith) (omega arith), ends, begins, from, low, short))
+
 -- ---- a block by two words that have the bits of its owned and of its open ports
 
 module _ (test owned : ℕ → Bool) (parity : Parity) (block y : ℕ) (m w : ℕ → Bool) (mine : (i : ℕ) → i < 64 → m i ≡ is_open owned (Some parity) (block * 64 + i)) (ready : (i : ℕ) → i < 64 → w i ≡ is_open test (Some parity) (block * 64 + i)) where
@@ -107,6 +133,7 @@ module _ (test owned : ℕ → Bool) (parity : Parity) (block y : ℕ) (m w : �
       mine p (omega (arith, below, low)) ∙ ap (is_open owned (Some parity)) (sym at)))
 
   pick-place : (place : ℕ) → place < 64 → IsNth m (y % count_below m 64) place → picked (owned_in owned parity block) y ≡ Some (block * 64 + place)
+  unfolding owned_in
   pick-place place low nth =
       get-place (is_open owned (Some parity)) (block * 64) 64 place (block * 64 + place) (y % length (owned_in owned parity block))
       (sym (mine place low) ∙ nth.passes) refl low
@@ -151,6 +178,10 @@ module _ (test owned : ℕ → Bool) (parity : Parity) (block y : ℕ) (m w : �
   in-place bit port is at =
       ap (option_and_then (first_round test parity block)) (pick-place is.place is.low is.nth) ∙ round-is is.place bit port is.within at is.first
 
+  picked-from : (place : ℕ) → picked (owned_in owned parity block) y ≡ Some place → block * 64 ≤ place
+  unfolding owned_in
+  picked-from place e = (get-passes (is_open owned (Some parity)) (block * 64) 64 (y % length (owned_in owned parity block)) place e).1
+
   -- where no bit is set no port is drawn in the block
   pub in-nothing : ((i : ℕ) → i < 64 → w i ≡ false) → drawn_in test owned parity y block ≡ None
   in-nothing none = by-place (picked (owned_in owned parity block) y) refl
@@ -158,7 +189,7 @@ module _ (test owned : ℕ → Bool) (parity : Parity) (block y : ℕ) (m w : �
       by-place : (o : Option ℕ) → picked (owned_in owned parity block) y ≡ o → drawn_in test owned parity y block ≡ None
       by-place None e = ap (option_and_then (first_round test parity block)) e
       by-place (Some place) e =
-          let from = (get-passes (is_open owned (Some parity)) (block * 64) 64 (y % length (owned_in owned parity block)) place e).1 in
+          let from = picked-from place e in
           ap (option_and_then (first_round test parity block)) e
           ∙ ap (λ (o : Option Port). or_else o (first_from test parity block (block * 64))) (first-none place from (λ i above below. none i below))
           ∙ first-none (block * 64) (omega arith) (λ i above below. none i below)
@@ -218,11 +249,11 @@ word-opens parity free owned index some =
     by-answer q low high holds kind None e =
         absurd (both_ways (has_both free owned q)
         (lowest_open-none (has_both free owned) (index * 64) (index * 64 + 63) (Some parity) e q low high (parity-true (parity_of q) parity kind)) holds)
-    by-answer q low high holds kind (Some p) e = ap (is_some {A = Port}) e
+    by-answer q low high holds kind (Some p) e = ap (λ (o : Option Port). is_some o) e
 
 word-closed : (parity : Parity) (free owned : List ℕ) (index : ℕ) → nat_lt 0 (open_word parity free owned index) ≡ false → has_open (has_both free owned) parity index ≡ false
 word-closed parity free owned index nothing =
-    ap (is_some {A = Port}) (lowest-nothing (has_both free owned) (index * 64) (index * 64 + 63) (Some parity)
+    ap (λ (o : Option Port). is_some o) (lowest-nothing (has_both free owned) (index * 64) (index * 64 + 63) (Some parity)
     (λ q low high kind. none-open parity free owned index q (omega (arith, low, high)) (parity-eq (parity_of q) parity kind) nothing))
 
 -- the bits of a summary are the open blocks
@@ -245,6 +276,7 @@ count-open parity free owned summary count is few =
 -- where the summary has no bit, nothing is drawn
 pub nothing-drawn : (parity : Parity) (free owned summary : List ℕ) (x y : ℕ) → IsSummary parity free owned summary → count_below (has_bit summary) 1024 ≡ 0
     → drawn_like (has_both free owned) (has_bit owned) parity x y ≡ None
+unfolding open_blocks
 nothing-drawn parity free owned summary x y is none =
     ap (λ (l : List ℕ). option_and_then (drawn_in (has_both free owned) (has_bit owned) parity y) (picked l x))
     (nil_from_length (open_blocks (has_both free owned) parity) (count-open parity free owned summary 1024 is (omega arith) ∙ none))
@@ -252,6 +284,7 @@ nothing-drawn parity free owned summary x y is none =
 -- the port that is drawn is drawn in the block of the picked bit
 pub block-drawn : (parity : Parity) (free owned summary : List ℕ) (x y count block : ℕ) → IsSummary parity free owned summary → count ≡ count_below (has_bit summary) 1024
     → IsNth (has_bit summary) (x % count) block → drawn_like (has_both free owned) (has_bit owned) parity x y ≡ drawn_in (has_both free owned) (has_bit owned) parity y block
+unfolding open_blocks
 block-drawn parity free owned summary x y count block is counted nth =
     let low = summary-within parity free owned summary block is nth.passes in
     let all = count-open parity free owned summary 1024 is (omega arith) in
@@ -266,3 +299,7 @@ pub some-drawn : (parity : Parity) (free owned summary : List ℕ) (y block : �
 some-drawn parity free owned summary y block is here =
     in-some (has_both free owned) (has_bit owned) parity y block (both-owned free owned)
     (sym (opens parity free owned summary block is (summary-within parity free owned summary block is here)) ∙ here)
+
+-- a remainder is less than the count
+pub past-all : (x count bits : ℕ) → count ≡ bits → 0 < count → bits ≤ x % count → ⊥
+past-all x count bits is some past = absurd (omega (arith, is, mod-lt x {m = count} some, past))

@@ -36,6 +36,14 @@ drawn-second lowest highest marks parity x y answer h none is =
 
 -- ---- how many words are looked at
 
+pub some-holds : {P : Type 0} (answer : Option Port) (port : Port) → answer ≡ Some port → IfSome answer (λ p. P) → P
+some-holds None port e h = cc
+some-holds (Some p) port e h = h
+
+pub none-holds : {P : Type 0} (answer : Option Port) → answer ≡ None → IfNone answer P → P
+none-holds None e h = h
+none-holds (Some p) e h = cc
+
 pub looked-first : (test owned : ℕ → Bool) (parity : Parity) (x y : ℕ) (port : Port) (looked : ℕ) → Some port ≡ drawn_like test owned parity x y → looked ≡ 19
     → (looked ≡ words_drawn_at parity (Some port)) × (looked ≤ 35)
 looked-first test owned parity x y port looked is many =

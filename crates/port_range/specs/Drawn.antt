@@ -24,11 +24,11 @@ abbrev pub has_open : (ℕ → Bool) → Parity → ℕ → Bool
 has_open open_at parity block = is_some (first_from open_at parity block (block * 64))
 
 -- the blocks that have an open port of the parity, in rising order
-abbrev pub open_blocks : (ℕ → Bool) → Parity → List ℕ
+unfoldable pub open_blocks : (ℕ → Bool) → Parity → List ℕ
 open_blocks open_at parity = ports_where (has_open open_at parity) 0 1024
 
 -- the owned ports of the parity in a block, open or not, in rising order
-abbrev pub owned_in : (ℕ → Bool) → Parity → ℕ → List ℕ
+unfoldable pub owned_in : (ℕ → Bool) → Parity → ℕ → List ℕ
 owned_in owned parity block = ports_where (is_open owned (Some parity)) (block * 64) 64
 
 -- the port that is drawn in a block: the place is the owned port with the number y mod m
