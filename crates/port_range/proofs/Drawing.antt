@@ -4,7 +4,7 @@ use Rattle.std.proofs.lemmas.Bool.{and_parts, and_from, both_ways, cases_lt, fal
 use Rattle.addresses.specs.declared.transport.Parity.{Parity}
 use Rattle.addresses.specs.declared.transport.Port.{Port}
 use Rattle.addresses.specs.Transport.{parity_of}
-use Rattle.port_range.specs.Ports.{Range, same_parity, fits, is_open, is_free, is_owned, is_available, lowest_open, or_else, IsRange}
+use Rattle.port_range.specs.Ports.{Range, same_parity, fits, is_open, is_free, is_owned, is_available, lowest_open, IsRange}
 use Rattle.port_range.specs.Marks.{other_parity}
 use Rattle.port_range.specs.Drawn.{picked, first_from, first_round, has_open, open_blocks, owned_in, drawn_in, drawn_like, drawn_open, drawn_port, IsLike}
 use Rattle.port_range.proofs.Choice.{IsLowest, lowest_open-some, lowest_open-none, or_else-some, or_else-none, parity-eq, parity-true, parity-cases, available-between}

@@ -1,7 +1,7 @@
 -- The words of a draw: the bit that is picked, and the port that it is.
-use Rattle.std.proofs.Common.{◌≡◌, ℕ, ◌+◌, ◌-◌, ◌*◌, ◌/◌, ◌%◌, ◌^◌, ◌<◌, ◌≤◌, ◌==◌, nat_lt, Bool, true, false, ◌&&◌, Option, Some, None, is_some, option_and_then, IfSome, IfNone, ◌⊎◌, inl, inr, List, [], length, get_or, bit_and, count_ones, mod-lt, w64, refl, ap, ◌∙◌, sym, subst, arith}
+use Rattle.std.proofs.Common.{◌≡◌, ℕ, ◌+◌, ◌-◌, ◌*◌, ◌%◌, ◌^◌, ◌<◌, ◌≤◌, ◌==◌, nat_lt, Bool, true, false, ◌&&◌, Option, Some, None, is_some, option_and_then, IfSome, IfNone, inl, inr, List, length, get_or, bit_and, count_ones, mod-lt, w64, refl, ap, ◌∙◌, sym, arith}
 use Rattle.std.specs.Int.{trailing_zeros}
-use Rattle.std.proofs.lemmas.Bool.{and_parts, and_from, and_left, and_right, both_ways, cases_lt, false_from_ne_true, ltb-true, ltb-false}
+use Rattle.std.proofs.lemmas.Bool.{and_parts, and_from, and_left, and_right, both_ways, false_from_ne_true, ltb-true}
 use Rattle.std.proofs.lemmas.List.{nil_from_length}
 use Rattle.std.proofs.lemmas.Nat.{zero_from_ones}
 use Rattle.std.proofs.lemmas.Nat.Bits.{bit_at-trailing_zeros}
@@ -14,10 +14,10 @@ use Rattle.port_range.specs.Words.{is_set, has_bit}
 use Rattle.port_range.specs.Counts.{count_below, IsNth, IsFirstRound, IsDrawnBit}
 use Rattle.port_range.specs.Marks.{has_both, mask_of, open_word, IsSummary}
 use Rattle.port_range.specs.Drawn.{picked, first_from, first_round, has_open, open_blocks, owned_in, drawn_in, drawn_like}
-use Rattle.port_range.proofs.Bits.{is_set-and, is_set-zero, has_bit-in, has_bit-of}
-use Rattle.port_range.proofs.Choice.{IsLowest, lowest_open-none, parity-eq, parity-true}
+use Rattle.port_range.proofs.Bits.{is_set-and, is_set-zero, has_bit-in}
+use Rattle.port_range.proofs.Choice.{lowest_open-none, parity-eq, parity-true}
 use Rattle.port_range.proofs.Summing.{mask-bits, same-parity_of, none-open, is-open, open-fits, summary-within}
-use Rattle.port_range.proofs.Counting.{count_of, count-split, count-same, count-upto, count-past, count-none, ones-bits, get-place, get-passes, get-none, nothing-where}
+use Rattle.port_range.proofs.Counting.{count_of, count-split, count-same, count-upto, count-past, ones-bits, get-place, get-passes}
 use Rattle.port_range.proofs.Drawing.{AreOwned, lowest-is, lowest-nothing, in-some}
 
 -- ---- the bit with a number
@@ -44,9 +44,9 @@ pub if-none : {X : Type 0} {P : Type 0} (answer : Option X) → P → IfNone ans
 if-none None p = p
 if-none (Some x) p = tt
 
-pub none-absurd : {X : Type 0} {P : Type 0} (answer : Option X) → (answer ≡ None → ⊥) → IfNone answer P
-none-absurd None h = absurd (h refl)
-none-absurd (Some x) h = tt
+pub none-absurd : {X : Type 0} (P : Type 0) (answer : Option X) → (answer ≡ None → ⊥) → IfNone answer P
+none-absurd P None h = absurd (h refl)
+none-absurd P (Some x) h = tt
 
 -- the first bit from where the search stands is the one with the number
 pub nth-all : (word start passed number : ℕ) (answer : Option ℕ) → passed ≡ number → count_below (is_set word) start ≡ passed → IfSome answer (IsFirstFrom (is_set word) start)

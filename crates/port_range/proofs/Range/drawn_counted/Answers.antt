@@ -1,4 +1,4 @@
-use Rattle.std.proofs.Common.{None, Some, sym, ap, ◌∙◌, arith}
+use Rattle.std.proofs.Common.{Some, sym, ap, ◌∙◌, arith}
 use Rattle.addresses.specs.declared.transport.Parity.{Parity}
 use Rattle.port_range.specs.Words.{has_bit}
 use Rattle.port_range.specs.Marks.{ranged, has_both}

@@ -1,4 +1,4 @@
-use Rattle.std.proofs.Common.{◌<◌, get_or, sym, ◌∙◌, arith}
+use Rattle.std.proofs.Common.{◌≡◌, ◌+◌, length, get_or, sym, ◌∙◌, arith}
 use Rattle.port_range.specs.Words.{has_bit}
 use Rattle.port_range.proofs.Summing.{summary-within}
 use Rattle.port_range.proofs.Picking.{nothing-drawn, block-drawn, some-drawn, none-absurd, past-all}
@@ -25,7 +25,7 @@ returns-in-Some-clause-chosen c =
 pub returns-in-Some-clause-looked_none : goal.returns-in-Some-clause-looked_none
 returns-in-Some-clause-looked_none c =
     let nth = c.in-Some.ensures.nth in
-    none-absurd c.drawn_in.result
+    none-absurd (length c.args.summary.now + 3 ≡ 16) c.drawn_in.result
     (λ none. some-drawn c.args.parity c.args.free.now c.args.owned.now c.args.summary.now c.args.y c.in-Some.block c.requires.summary nth.passes (sym c.drawn_in.ensures ∙ none))
 
 pub returns-in-None-clause-chosen : goal.returns-in-None-clause-chosen

@@ -1,4 +1,4 @@
-use Rattle.std.proofs.Common.{◌<◌, ◌^◌, ◌%◌, count_ones, inl, refl, arith, rules}
+use Rattle.std.proofs.Common.{count_ones, inl, refl, arith, rules}
 use Rattle.port_range.specs.Words.{is_set}
 use Rattle.port_range.proofs.Picking.{if-none, nth-ones, nth-there, no-ones, drawn-later, drawn-nothing}
 use Rattle.port_range.proofs.words.drawn_bit.Goals as goal

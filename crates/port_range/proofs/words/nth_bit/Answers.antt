@@ -1,4 +1,4 @@
-use Rattle.std.proofs.Common.{◌+◌, arith}
+use Rattle.std.proofs.Common.{arith}
 use Rattle.port_range.proofs.Picking.{if-none, nth-past, nth-none, nth-all, nth-nothing}
 use Rattle.port_range.proofs.words.nth_bit.Goals as goal
 
