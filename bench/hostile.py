@@ -5,8 +5,9 @@
     bench/hostile.py --built FILE    the same by a program that is built already
     bench/hostile.py --seeds 7 40    the scripts of some seeds alone
     bench/hostile.py --show 7        what `natpair sim` owes for a script, to hold against what it prints
-    bench/hostile.py --check         whether the gate's scripts and its stdout are as owed; builds nothing
-    bench/hostile.py --write         writes these
+    bench/hostile.py --check         whether the gate's scripts and its stdout are as owed; builds nothing. The worked rows,
+                                     which come from outside, are held against the second reading as far as it reads them
+    bench/hostile.py --write         writes these, but for the worked rows
 
 The second reading is crates/cases_hostile/second_reading: Python, of the rules as docs/ and the standards have
 them. It works out each event's outcome, frames, datagrams and notes, and a second audit judges its notes and tables
@@ -27,6 +28,7 @@ sys.path.insert(0, str(CRATE / "second_reading"))
 
 import audit  # noqa: E402
 import fragments  # noqa: E402
+import rows  # noqa: E402
 import vectors  # noqa: E402
 from hostile import SETTINGS, Script  # noqa: E402
 
@@ -74,6 +76,7 @@ def printed(program, scripts):
         for file in ["vectors.cases", "S.toml", "P.toml", *(f"{settings}.toml" for settings in SETTINGS)]:
             shutil.copy(DATA / file, folder)
         written(scripts, folder)
+        (folder / "rows.list").write_text("# No worked rows.\n")
         run = subprocess.run([program], cwd=folder, capture_output=True, text=True, timeout=600, check=False)
     assert run.returncode == 0, run.stderr
     return run.stdout
@@ -107,8 +110,9 @@ def check():
     with tempfile.TemporaryDirectory() as name:
         written(scripts, pathlib.Path(name))
         made = {file.name: file.read_text() for file in pathlib.Path(name).iterdir()}
-    kept = {file.name: file.read_text() for file in DATA.iterdir() if file.suffix in (".script", ".list")}
-    is_same = made == kept and owed(scripts) == (CRATE / "stdout").read_text()
+    kept = {name: (DATA / name).read_text() for name in made if (DATA / name).exists()}
+    said, from_outside = rows.parted((CRATE / "stdout").read_text())
+    is_same = made == kept and owed(scripts) == said and rows.agree(DATA, from_outside)
     print("as the second reading has it" if is_same else "NOT as the second reading has it: --write writes it")
     return is_same
 
@@ -128,7 +132,8 @@ def main():
     elif given.write:
         scripts, _planted = make(GATE)
         written(scripts, DATA)
-        (CRATE / "stdout").write_text(owed(scripts))
+        _said, from_outside = rows.parted((CRATE / "stdout").read_text())
+        (CRATE / "stdout").write_text(owed(scripts) + from_outside)
     else:
         sys.exit(0 if (check() if given.check else run_all(given.seeds, given.built)) else 1)
 

@@ -49,9 +49,9 @@ class Bench:
         self.virtual = settings["outside"]["virtual"]
 
     def announce(self):
-        """Each station tells everybody where it is."""
+        """Each station asks for the virtual address of its side, so that the boxes know where it is (RFC 826)."""
         for station in (*HOSTS, *REMOTES):
-            self.put(station.side, arp_request(station, station.address))
+            self.put(station.side, arp_request(station, self.settings[station.side]["virtual"]))
 
     def own_mac(self, side):
         return virtual_mac(self.settings[side]["vrid"])
@@ -158,7 +158,7 @@ class Scripted(Bench):
         return self.do(f"frame {self.box} {side} {frame.hex()}")
 
     def rest(self, centiseconds):
-        """So much time goes by. The boxes know neighbours for 20 minutes, so all tell again where they are."""
+        """So much time goes by. The boxes know neighbours for 20 minutes, so all show again where they are."""
         self.moment += centiseconds
         self.lines.append(f"tick 0 {self.moment}")
         self.announce()

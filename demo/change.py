@@ -32,6 +32,7 @@ def rows(networks):
     """The rows of the column of keys that may differ (docs/REFERENCE.md): by its keys, what is changed by each."""
     return {
         "host_limit": {"ports": {"host_limit": 1000}},
+        "inward_refresh": {"ports": {"inward_refresh": False}},
         "mtu": {"inside": {"mtu": 1400}, "outside": {"mtu": 1300}},
         "router": {"outside": {"router": SECOND_ROUTER}},
         "echo, errors": {"icmp": {"echo": False, "errors": False}},
@@ -47,6 +48,8 @@ def rows(networks):
         "wire, link, inside_port, outside_port": {
             "inside": {"wire": 7201}, "outside": {"wire": 7202},
             **of_both(lambda n: {"link": 7301 + n, "inside_port": 7311 + n, "outside_port": 7321 + n})},
+        # From here on priorities, intervals and own addresses must agree.
+        "peer_only": {"vrrp": {"peer_only": True}},
     }
 
 
@@ -61,7 +64,7 @@ def changed(settings, change):
         if isinstance(section, list):
             found[name] = section
         else:
-            found[name].update(section)
+            found.setdefault(name, {}).update(section)
     return found
 
 

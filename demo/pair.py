@@ -42,9 +42,10 @@ TUNNEL_MTU = 1600
 USER = "nobody"
 # The launcher, and that of a release before, whose link knows neither interface nor distance.
 LAUNCHER, BEFORE = "natpair-launch", "natpair-launch-before"
-# A record of a box: where it belongs, and what it tells. Of drops the first of a second is one, and so are all others of it.
+# A record of a box: where it belongs, and what it tells. Of drops the first of a second is one, and so are all others of it;
+# one of advertisements may say besides that they aren't the other box's.
 RECORD = re.compile(r"\[\w+ +natpair::(\w+)\] \d+ (.*)")
-DROP = re.compile(r"(dropped \d+ \w+)(?:, (\d+) more)?")
+DROP = re.compile(r"(dropped \d+ \w+)(?:, not the other box's)?(?:, (\d+) more)?")
 # What other people's frames come to is told too.
 LEVEL = "debug"
 SIDES = ("inside", "outside")

@@ -8,10 +8,12 @@ from typing import NamedTuple
 
 import rfc_page
 from benches import Couple, Scripted, Wired
+from guards import OUTWARD_ALONE, PEER_ONLY
 from pair import SETTINGS
 from rfc_clock import BY_THE_CLOCK, both_boxes, no_room
 from rfc_errors import OF_ERRORS
 from rfc_fragments import OF_FRAGMENTS, echoes, waiting
+from rfc_guards import WITHOUT_GUARDS, inward_alone, peer_counts
 from rfc_hosts import by_hosts
 from rfc_linux import at_linux
 from rfc_own import AT_ITSELF, by_default, nobody_there, too_long_in, too_long_out
@@ -74,10 +76,11 @@ class Fresh:
 
 def by_sim(options, report):
     fresh = Fresh(options.program, SETTINGS)
-    for probe in (*BY_THE_CLOCK, *BY_THE_TABLE, nobody_there, waiting):
+    for probe in (*BY_THE_CLOCK, *BY_THE_TABLE, *WITHOUT_GUARDS, nobody_there, waiting):
         probe(fresh, report)
     both_boxes(functools.partial(Couple, options.program, SETTINGS), report)
-    for changes, probes in (((TWO_PORTS,), (no_room,)), ((SILENT,), (by_default,)),
+    for changes, probes in (((TWO_PORTS,), (no_room,)), ((SILENT,), (by_default,)), ((OUTWARD_ALONE,), (inward_alone,)),
+                            ((PEER_ONLY,), (peer_counts,)),
                             ((SHORT_INSIDE, SHORT_OUTSIDE), (too_long_out, too_long_in))):
         with settings_with(*changes) as file:
             for probe in probes:

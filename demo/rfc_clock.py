@@ -165,13 +165,13 @@ def five_knocked(bench, port):
 NO_USES = (
     ("7857 7", "a packet that is refused, from a forged inside address, doesn't refresh", UDP, (),
      (UDP_REST - TICK, forged, TICK)),
-    # A stranger's SYN is a use of its own, so what follows is set against the moment at which that one's rest is over.
+    # What a stranger sends is no use of a pair with a session, so the rest is over as it was before.
     ("7857 7.1 b", "a host's RST to a stranger doesn't refresh", TCP, OPENED[:1],
-     (1000, knocked, 1000, answered, SHORT - 1000)),
+     (1000, knocked, 1000, answered, SHORT - 2000)),
     ("own 1", f"a stranger's ACK keeps a half-open pair for {seconds(SHORT)} at most", TCP, OPENED[:1],
-     (1000, acknowledged, SHORT)),
+     (1000, acknowledged, SHORT - 1000)),
     ("own 2", f"five strangers' SYNs keep a half-open pair for {seconds(SHORT)} at most", TCP, OPENED[:1],
-     (1000, five_knocked, SHORT)),
+     (1000, five_knocked, SHORT - 1000)),
 )
 
 
@@ -189,7 +189,7 @@ ERRORS = (
     ("5508 REQ-6", "a router's error about an Echo", ICMP, (), (QUERY_REST - TICK,), told_in_ping, TICK),
     ("5508 REQ-6", "a host's error", UDP, (), (UDP_REST - TICK,), told_out, TICK),
     ("5508 REQ-6", "a host's error to itself", UDP, (), (UDP_REST - TICK,), told_across, TICK),
-    ("7857 7.1 a", "a host's error to a stranger", TCP, OPENED[:1], (1000, knocked, 1000), told_stranger, SHORT - 1000),
+    ("7857 7.1 a", "a host's error to a stranger", TCP, OPENED[:1], (1000, knocked, 1000), told_stranger, SHORT - 2000),
 )
 
 

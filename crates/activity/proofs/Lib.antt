@@ -3,5 +3,6 @@ mod Packing
 mod Segments
 mod Pasts
 mod Resting
+mod Strangers
 mod Due
 pub mod Offered

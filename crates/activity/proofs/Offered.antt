@@ -4,11 +4,11 @@
 -- a pair is idle exactly from its due moment on
 pub use Rattle.activity.proofs.Due.{idle-from}
 -- What is kept of a life agrees with its past.
--- a life agrees with its past after a packet of a pair without sessions
-pub use Rattle.activity.proofs.Pasts.{agrees-plain}
--- a life agrees with its past after a packet of a TCP pair
-pub use Rattle.activity.proofs.Pasts.{agrees-tcp}
+-- what is kept agrees with the past as a pair comes into a table, as its life begins anew, and after a packet
+pub use Rattle.activity.proofs.Pasts.{agrees-came, agrees-renewed, agrees-carried}
+-- a segment is loose, and a use counts, by what is kept where it does by the past
+pub use Rattle.activity.proofs.Pasts.{loose-is, counts-is}
 -- a life that agrees with a past is idle where the past is
 pub use Rattle.activity.proofs.Pasts.{looks-is}
 -- An idle pair has rested since each use.
-pub use Rattle.activity.proofs.Resting.{accounts-came, accounts-renewed, accounts-anew, accounts-later, accounts-more, accounts-idle, accounts-unused, rested-later}
+pub use Rattle.activity.proofs.Resting.{accounts-came, accounts-renewed, accounts-anew, accounts-later, accounts-more, accounts-kept, accounts-idle, accounts-unused, rested-later}

@@ -6,16 +6,17 @@ use Rattle.std.proofs.Math.Seq.{take-set-lt}
 use Rattle.activity.specs.declared.TheConstants.{ESTABLISHED_REST}
 use Rattle.activity.specs.declared.packed.PackedSession.{PackedSession}
 use Rattle.activity.specs.declared.packets.Packet.{Packet}
+use Rattle.activity.specs.declared.packets.Remote.{Remote}
 use Rattle.activity.specs.declared.places.Place.{Place}
 use Rattle.activity.specs.declared.places.Place.TheVariants.{Known, Free, Passed, Nowhere}
 use Rattle.activity.specs.declared.sessions.Session.{Session}
 use Rattle.activity.specs.Packets.{same_remote}
 use Rattle.activity.specs.Sessions.{begun_session, stepped, rest_of, has_passed_by, has_rested}
 use Rattle.activity.specs.Places.{put_at, is_nowhere}
-use Rattle.activity.specs.Kept.{session_place, with_session, all_passed}
+use Rattle.activity.specs.Kept.{has_session, session_place, with_session, all_passed}
 use Rattle.activity.specs.Lives.{is_empty}
 use Rattle.activity.specs.Dues.{last_end}
-use Rattle.activity.specs.Packed.{session_in, moment_in, all_sessions, sessions_in, place_among, have_passed, end_of}
+use Rattle.activity.specs.Packed.{session_in, moment_in, all_sessions, sessions_in, is_known_among, place_among, have_passed, end_of}
 use Rattle.activity.proofs.Items.{place-map, known-within, passed-within, set-changed, set-new}
 
 -- ---- a session is kept in a place
@@ -42,6 +43,11 @@ seen_there (suc n) (suc i) (x ∷ xs) d low = seen_there n i xs d (omega (arith,
 
 pub place_seen : (p : Packet) (kept : List PackedSession) → session_place p (all_sessions kept) ≡ place_among p kept
 place_seen p kept = place-map session_in (λ x. same_remote x.remote p.remote) (has_passed_by p.at) kept
+
+-- a remote has a session among the packed ones where it has one among those that they stand for
+pub known_seen : (remote : Remote) (kept : List PackedSession) → is_known_among remote kept ≡ has_session remote (all_sessions kept)
+known_seen remote [] = refl
+known_seen remote (k ∷ ks) = ap (λ b. same_remote (session_in k).remote remote || b) (known_seen remote ks)
 
 end_seen : (kept : List PackedSession) → end_of kept ≡ last_end (all_sessions kept)
 end_seen [] = refl

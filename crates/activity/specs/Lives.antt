@@ -1,5 +1,5 @@
 -- The rule of idle pairs: a function of all packets that were carried since the pair's life began.
-use Rattle.std.specs.Prelude.{◌≡◌, ℕ, Bool, true, false, ◌&&◌, ◌||◌, List, [], ◌∷◌, map, if◌then◌else◌}
+use Rattle.std.specs.Prelude.{◌≡◌, ℕ, Bool, true, false, not, ◌&&◌, ◌||◌, List, [], ◌∷◌, map, if◌then◌else◌}
 use Rattle.std.specs.List.{list_any, list_all}
 use Rattle.addresses.specs.declared.transport.Protocol.{Protocol}
 use Rattle.addresses.specs.declared.transport.Protocol.TheVariants.{Icmp, Tcp, Udp}
@@ -14,10 +14,10 @@ use Rattle.activity.specs.declared.sessions.Class.TheVariants.{Opening, Establis
 use Rattle.activity.specs.declared.sessions.Marks.{Marks}
 use Rattle.activity.specs.declared.sessions.Session.{Session}
 use Rattle.activity.specs.declared.TheConstants.{QUERY_REST, UDP_REST, TRANSITORY_REST, ESTABLISHED_REST}
-use Rattle.activity.specs.Packets.{same_way, same_remote, is_fin, is_plain}
+use Rattle.activity.specs.Packets.{same_way, same_remote, is_fin, is_plain, is_loose_by, sets_last, does_count}
 use Rattle.activity.specs.Sessions.{is_closed, is_opening, first_class, rest_of, has_rested}
 use Rattle.activity.specs.Places.{place_by, put_at, is_nowhere}
-use Rattle.activity.specs.Kept.{all_passed, session_place, with_session}
+use Rattle.activity.specs.Kept.{all_passed, has_session, session_place, with_session}
 
 -- ---- one session: its segments, the newest first
 
@@ -33,8 +33,8 @@ went test way segments = list_any (λ s. same_way s.way way && test s.flags) seg
 abbrev pub went_both_ways : (TcpFlags → Bool) → List Packet → Bool
 went_both_ways test segments = went test Outward segments && went test Inward segments
 
--- The session after its first segment: RST makes it Closed, else SYN without ACK Opening, else it is Established. Its
--- own marks are set.
+-- The session after its first segment, which goes outward: RST makes it Closed, else SYN Opening, else it is
+-- Established. Its own marks are set.
 abbrev pub begun : Packet → Standing
 begun s = record { class = first_class s.flags; marked = s ∷ [] }
 
@@ -76,15 +76,34 @@ longer p c = record { remote = c.remote; latest = p; earlier = c.latest ∷ c.ea
 abbrev pub course_place : Packet → List Course → Place
 course_place p cs = place_by (λ c. same_remote c.remote p.remote) (has_passed p.at) cs
 
--- the sessions after these packets, the newest of which comes first
+abbrev pub has_course : Remote → List Course → Bool
+has_course remote cs = list_any (λ c. same_remote c.remote remote) cs
+
+abbrev pub is_empty : {A : Type 0} → List A → Bool
+is_empty [] = true
+is_empty (x ∷ xs) = false
+
+-- A segment is loose beside these sessions, behind these packets of the pair's life: its remote has none of them, and
+-- it goes inward, or has RST and isn't the first packet.
+abbrev pub is_loose_beside : List Course → List Packet → Packet → Bool
+is_loose_beside cs older p = is_loose_by (has_course p.remote cs) (not (is_empty older)) p
+
+-- the sessions after these packets, the newest of which comes first: a loose segment begins none
 abbrev pub courses : List Packet → List Course
 courses [] = []
-courses (p ∷ older) = put_at (course_place p (courses older)) (longer p) (first_course p) (courses older)
+courses (p ∷ older) =
+    (if is_loose_beside (courses older) older p
+    then courses older
+    else put_at (course_place p (courses older)) (longer p) (first_course p) (courses older))
+
+-- a segment behind these packets is loose
+abbrev pub is_loose : List Packet → Packet → Bool
+is_loose older p = is_loose_beside (courses older) older p
 
 -- some packet found no place for its session
 abbrev pub is_crowded : List Packet → Bool
 is_crowded [] = false
-is_crowded (p ∷ older) = is_crowded older || is_nowhere (course_place p (courses older))
+is_crowded (p ∷ older) = is_crowded older || (not (is_loose older p) && is_nowhere (course_place p (courses older)))
 
 -- ---- the life of a pair
 
@@ -103,10 +122,6 @@ came by_install now = record { by_install = by_install; since = now; packets = [
 abbrev pub with_packet : Packet → History → History
 with_packet p past = record { by_install = past.by_install; since = past.since; packets = p ∷ past.packets }
 
-abbrev pub is_empty : {A : Type 0} → List A → Bool
-is_empty [] = true
-is_empty (x ∷ xs) = false
-
 -- a pair came by Install, and carried nothing since
 abbrev pub is_unused : History → Bool
 is_unused past = past.by_install && is_empty past.packets
@@ -115,13 +130,19 @@ is_unused past = past.by_install && is_empty past.packets
 abbrev pub renewed : ℕ → History → History
 renewed now past = record { by_install = is_unused past; since = now; packets = [] }
 
-abbrev pub newest_or : ℕ → List Packet → ℕ
-newest_or since [] = since
-newest_or since (p ∷ older) = p.at
+-- the moment of the newest of these packets that sets the last use, or else `since`
+abbrev pub last_set : Protocol → ℕ → List Packet → ℕ
+last_set protocol since [] = since
+last_set protocol since (p ∷ older) =
+    (if sets_last protocol (is_loose older p) p then p.at else last_set protocol since older)
 
--- the moment of the last use, or that at which the life began
-abbrev pub last_of : History → ℕ
-last_of past = newest_or past.since past.packets
+-- the moment of the last use that was set, or that at which the life began
+abbrev pub last_of : Protocol → History → ℕ
+last_of protocol past = last_set protocol past.since past.packets
+
+-- the use that a packet behind these makes counts
+abbrev pub counts : Protocol → List Packet → Packet → Bool
+counts protocol older p = does_count protocol (is_loose older p) p
 
 -- how long a pair of a protocol rests at least before it is idle, in centiseconds
 abbrev pub least_rest : Protocol → ℕ
@@ -134,9 +155,9 @@ least_rest Udp = UDP_REST
 abbrev pub is_idle : Protocol → History → ℕ → Bool
 is_idle Tcp past now =
     (if is_crowded past.packets || is_empty (courses past.packets)
-    then has_rested ESTABLISHED_REST (last_of past) now
+    then has_rested ESTABLISHED_REST (last_of Tcp past) now
     else list_all (has_passed now) (courses past.packets))
-is_idle protocol past now = has_rested (least_rest protocol) (last_of past) now
+is_idle protocol past now = has_rested (least_rest protocol) (last_of protocol past) now
 
 -- ---- what is kept of a life
 
@@ -144,6 +165,7 @@ is_idle protocol past now = has_rested (least_rest protocol) (last_of past) now
 pub record Activity : Type 0 where
   pub last : ℕ
   pub is_unused : Bool
+  pub has_carried : Bool
   pub is_crowded : Bool
   pub sessions : List Session
 
@@ -155,21 +177,44 @@ looks_idle Tcp life now =
     else all_passed now life.sessions)
 looks_idle protocol life now = has_rested (least_rest protocol) life.last now
 
+-- a segment is loose by what is kept
+abbrev pub is_loose_at : Activity → Packet → Bool
+is_loose_at life p = is_loose_by (has_session p.remote life.sessions) life.has_carried p
+
+-- the use that a packet makes counts, by what is kept
+abbrev pub counts_at : Protocol → Activity → Packet → Bool
+counts_at protocol life p = does_count protocol (is_loose_at life p) p
+
+-- the last use after a packet, by what is kept
+abbrev pub last_after : Protocol → Packet → Activity → ℕ
+last_after protocol p life = (if sets_last protocol (is_loose_at life p) p then p.at else life.last)
+
 -- what is kept as a pair comes into a table, as it carries a packet, and as its list of packets begins empty
 abbrev pub life_begun : Bool → ℕ → Activity
-life_begun by_install now = record { last = now; is_unused = by_install; is_crowded = false; sessions = [] }
+life_begun by_install now = record {
+  last = now;
+  is_unused = by_install;
+  has_carried = false;
+  is_crowded = false;
+  sessions = [];
+}
 
 abbrev pub life_carried : Protocol → Packet → Activity → Activity
 life_carried Tcp p life = record {
-  last = p.at;
+  last = last_after Tcp p life;
   is_unused = false;
-  is_crowded = life.is_crowded || is_nowhere (session_place p life.sessions);
-  sessions = with_session p life.sessions;
+  has_carried = true;
+  is_crowded = life.is_crowded || (not (is_loose_at life p) && is_nowhere (session_place p life.sessions));
+  sessions = if is_loose_at life p then life.sessions else with_session p life.sessions;
 }
-life_carried protocol p life = record life { last = p.at; is_unused = false }
+life_carried protocol p life = record life {
+  last = last_after protocol p life;
+  is_unused = false;
+  has_carried = true;
+}
 
 abbrev pub life_renewed : ℕ → Activity → Activity
-life_renewed now life = record life { last = now; is_crowded = false; sessions = [] }
+life_renewed now life = record life { last = now; has_carried = false; is_crowded = false; sessions = [] }
 
 -- the ways in which a kind of segment went
 abbrev pub marks_of : (TcpFlags → Bool) → List Packet → Marks
@@ -190,7 +235,8 @@ session_of c = summed_up c.remote (standing c.latest c.earlier) c.latest.at
 
 -- a life agrees with a past
 pub record Agrees (protocol : Protocol) (past : History) (life : Activity) : Type 0 where
-  pub last : life.last ≡ last_of past
+  pub last : life.last ≡ last_of protocol past
   pub unused : life.is_unused ≡ is_unused past
+  pub carried : life.has_carried ≡ not (is_empty past.packets)
   pub sessions : protocol ≡ Tcp → life.sessions ≡ map session_of (courses past.packets)
   pub crowded : protocol ≡ Tcp → life.is_crowded ≡ is_crowded past.packets

@@ -1,9 +1,10 @@
 -- A session in 16 bytes, and those that a pair keeps.
 use Rattle.std.specs.Prelude.{ℕ, ◌+◌, ◌*◌, ◌/◌, ◌%◌, ◌==◌, ◌<◌, Bool, max, List, [], ◌∷◌, map, take}
-use Rattle.std.specs.List.{list_all}
+use Rattle.std.specs.List.{list_any, list_all}
 use Rattle.activity.specs.declared.packed.Moment.{Moment}
 use Rattle.activity.specs.declared.packed.PackedSession.{PackedSession}
 use Rattle.activity.specs.declared.packets.Packet.{Packet}
+use Rattle.activity.specs.declared.packets.Remote.{Remote}
 use Rattle.activity.specs.declared.places.Place.{Place}
 use Rattle.activity.specs.declared.places.Place.TheVariants.{Known, Free, Passed, Nowhere}
 use Rattle.activity.specs.declared.sessions.Marks.{Marks}
@@ -36,6 +37,10 @@ all_sessions kept = map session_in kept
 -- the sessions that are kept: the first so many places have them
 abbrev pub sessions_in : ℕ → List PackedSession → List Session
 sessions_in count places = all_sessions (take count places)
+
+-- a session with a remote is among these
+abbrev pub is_known_among : Remote → List PackedSession → Bool
+is_known_among remote kept = list_any (λ k. same_remote (session_in k).remote remote) kept
 
 -- the place of a packet's session among these
 abbrev pub place_among : Packet → List PackedSession → Place

@@ -1,13 +1,18 @@
 -- What the rule of idle pairs says to callers that see uses and releases alone.
-use Rattle.std.specs.Prelude.{◌≡◌, ℕ, ◌+◌, ◌≤◌, ◌⊎◌, true, List, [], ◌∷◌}
+use Rattle.std.specs.Prelude.{◌≡◌, ℕ, ◌+◌, ◌≤◌, ◌⊎◌, true, List, [], ◌∷◌, if◌then◌else◌}
 use Rattle.addresses.specs.declared.transport.Protocol.{Protocol}
 use Rattle.activity.specs.declared.packets.Packet.{Packet}
-use Rattle.activity.specs.Lives.{History, last_of, least_rest}
+use Rattle.activity.specs.Lives.{History, counts, least_rest}
 
 -- the packets, newest first, were carried at moments that never ran back, none after this one
 abbrev pub CameBy : ℕ → List Packet → Type 0
 CameBy now [] = Unit {0}
 CameBy now (p ∷ older) = (p.at ≤ now) × CameBy p.at older
+
+-- those of these packets, newest first, whose uses count
+abbrev pub counted : Protocol → List Packet → List Packet
+counted protocol [] = []
+counted protocol (p ∷ older) = (if counts protocol older p then p ∷ counted protocol older else counted protocol older)
 
 -- each packet was carried at least `rest` before `now`
 abbrev pub AllRested : ℕ → ℕ → List Packet → Type 0
@@ -41,10 +46,17 @@ pub record LiesBehind (protocol : Protocol) (past : History) (use_at : ℕ) : Ty
   pub behind : use_at ≤ past.since
   pub rested : past.by_install ≡ true → use_at + least_rest protocol ≤ past.since
 
--- A past accounts for uses: each of them carried one of its packets, or is before its beginning. The packets came in
--- order, the last not before the past began, and neither the packets nor the beginning is after this moment.
+-- the packets, newest first, were carried at moments that never ran back, none before `since` and none after `now`
+abbrev pub CameBetween : ℕ → ℕ → List Packet → Type 0
+CameBetween since now [] = since ≤ now
+CameBetween since now (p ∷ older) = (p.at ≤ now) × CameBetween since p.at older
+
+-- A past accounts for uses: each of them carried one of its packets that count, or is before its beginning. The packets
+-- came in order, none before the past began or after this moment.
 pub record AccountsFor (protocol : Protocol) (now : ℕ) (past : History) (uses : List ℕ) : Type 0 where
-  pub since : past.since ≤ now
-  pub last : past.since ≤ last_of past
-  pub packets : CameBy now past.packets
-  pub accounted : (use_at : ℕ) → IsAmong use_at uses → WasCarried use_at past.packets ⊎ LiesBehind protocol past use_at
+  pub packets : CameBetween past.since now past.packets
+  pub accounted : (use_at : ℕ) → IsAmong use_at uses → WasCarried use_at (counted protocol past.packets) ⊎ LiesBehind protocol past use_at
+
+-- the uses that count after one more packet
+abbrev pub with_use : Protocol → Packet → History → List ℕ → List ℕ
+with_use protocol p past uses = (if counts protocol past.packets p then p.at ∷ uses else uses)

@@ -1,5 +1,5 @@
 -- What the code keeps of one session. Lives says what it should keep.
-use Rattle.std.specs.Prelude.{ℕ, ◌-◌, Bool, true, false, ◌&&◌, ◌||◌, not, nat_le, if◌then◌else◌}
+use Rattle.std.specs.Prelude.{ℕ, ◌-◌, Bool, true, false, ◌&&◌, ◌||◌, nat_le, if◌then◌else◌}
 use Rattle.addresses.specs.declared.transport.TcpFlags.{TcpFlags}
 use Rattle.activity.specs.declared.packets.Packet.{Packet}
 use Rattle.activity.specs.declared.packets.Way.{Way}
@@ -21,9 +21,9 @@ is_opening Opening = true
 is_opening Established = false
 is_opening Closed = false
 
--- the class that a first segment gives: RST counts first
+-- the class that a first segment gives, which goes outward: RST counts first; SYN, with ACK or without
 abbrev pub first_class : TcpFlags → Class
-first_class flags = (if flags.rst then Closed else (if flags.syn && not flags.ack then Opening else Established))
+first_class flags = (if flags.rst then Closed else (if flags.syn then Opening else Established))
 
 -- how long a session of a class rests, in centiseconds (RFC 5382, REQ-5)
 abbrev pub rest_of : Class → ℕ

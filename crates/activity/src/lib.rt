@@ -9,7 +9,7 @@ mod packets;
 mod places;
 mod sessions;
 
-pub use laws::{due_law, idle_rests_law, uses_rest_law};
+pub use laws::{due_law, idle_rests_law, stranger_keeps_nothing, uses_rest_law};
 pub use life::Activity;
 pub use packets::{Packet, Remote, Way};
 pub use sessions::{Class, Marks, Session};

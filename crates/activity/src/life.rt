@@ -1,21 +1,22 @@
 //! The life of a pair in a table: what must be known of the pair to tell whether it is idle.
 ghost use Rattle.std.specs.Prelude.{◌≡◌, ◌+◌, ◌||◌, if◌then◌else◌};
 ghost use Rattle.addresses.specs.declared.transport.Protocol.{Protocol as Transport};
-ghost use Rattle.activity.specs.Lives.{History, Agrees, came, with_packet, renewed, is_idle, looks_idle, is_unused, is_empty, life_begun, life_carried, life_renewed};
+ghost use Rattle.activity.specs.Lives.{History, Agrees, came, with_packet, renewed, is_idle, looks_idle, is_unused, is_empty, life_begun, life_carried, life_renewed, counts_at};
 ghost use Rattle.activity.specs.Lives.{least_rest};
 ghost use Rattle.activity.specs.Sessions.{has_rested};
-ghost use Rattle.activity.specs.Packed.{have_passed, end_of};
+ghost use Rattle.activity.specs.Packed.{moment_in, have_passed, end_of};
 ghost use Rattle.activity.specs.Dues.{due_moment, clipped};
 
 use crate::packed::{Moment, PackedSession};
-use crate::places::{end_of_all, follow, have_all_passed};
+use crate::packets::sets_last;
+use crate::places::{end_of_all, follow_unless, have_all_passed, is_loose};
 use crate::sessions::has_rested_since;
 use crate::{ESTABLISHED_REST, MAX_SESSIONS, Packet, QUERY_REST, TRANSITORY_REST, UDP_REST};
 use addresses::Protocol;
 use std::marker::Model;
 
 /// What a pair's entry keeps of the packets that the pair carried: four sessions at most, the time of the last use, and
-/// two flags.
+/// three flags.
 #[derive(Drop)]
 pub struct Activity {
     last: Moment,
@@ -23,6 +24,7 @@ pub struct Activity {
     places: [PackedSession; MAX_SESSIONS],
     count: u8,
     is_unused: bool,
+    has_carried: bool,
     is_crowded: bool,
 }
 
@@ -39,6 +41,7 @@ impl Model for Activity {
     ghost view = { λ l. record {
       last = moment_in l.last;
       is_unused = l.is_unused;
+      has_carried = l.has_carried;
       is_crowded = l.is_crowded;
       sessions = sessions_in l.count l.places;
     } };
@@ -83,6 +86,13 @@ fn tcp_due(kept: &[PackedSession], is_crowded: bool, last: u64) -> u64
     }
 }
 
+/// Returns the time of the last use after a packet at `at`, which sets it or not.
+fn later(sets_last: bool, at: u64, last: Moment) -> Moment
+    ensures { moment_in result ≡ (if sets_last then at else moment_in last) }
+{
+    if sets_last { Moment::of(at) } else { last }
+}
+
 impl Activity {
     /// Returns the life of a pair that comes into a table at `now`, by Install or otherwise.
     pub fn begin(by_install: bool, now: u64) -> Activity
@@ -94,23 +104,30 @@ impl Activity {
             places: [PackedSession::NONE; MAX_SESSIONS],
             count: 0,
             is_unused: by_install,
+            has_carried: false,
             is_crowded: false,
         }
     }
 
-    /// Adds a packet that the pair carried.
-    pub fn carried(&mut self, protocol: Protocol, packet: Packet)
+    /// Adds a packet that the pair carried, and returns whether the use that the packet makes counts.
+    pub fn carried(&mut self, protocol: Protocol, packet: Packet) -> bool
+        ensures counts { result ≡ counts_at protocol self.old packet }
         ensures agrees { (past : History) → Agrees protocol past self.old
             → Agrees protocol (with_packet packet past) self.new }
         ensures exact { self.new ≡ life_carried protocol packet self.old }
     {
-        self.last = Moment::of(packet.at);
+        let kept = &self.places[..usize::from(self.count)];
+        let is_loose = is_loose(kept, self.has_carried, packet);
+        let sets_last = sets_last(protocol, is_loose, packet);
+        self.last = later(sets_last, packet.at, self.last);
         self.is_unused = false;
+        self.has_carried = true;
         match protocol {
-            Protocol::Icmp | Protocol::Udp => {}
+            Protocol::Icmp | Protocol::Udp => sets_last,
             Protocol::Tcp => {
-                let nowhere = follow(&mut self.places, &mut self.count, packet);
+                let nowhere = follow_unless(is_loose, &mut self.places, &mut self.count, packet);
                 self.is_crowded |= nowhere;
+                !is_loose
             }
         }
     }
@@ -122,6 +139,7 @@ impl Activity {
         ensures exact { self.new ≡ life_renewed now self.old }
     {
         self.last = Moment::of(now);
+        self.has_carried = false;
         self.count = 0;
         self.is_crowded = false;
     }

@@ -1,15 +1,15 @@
 //! The sessions that a pair keeps, and the place of a packet's session among them.
-ghost use Rattle.std.specs.Prelude.{◌≡◌, ◌+◌, ◌<◌, ◌≤◌, ◌++◌, ◌∷◌, [], ℕ, length, position, slice_set, IfSome};
-ghost use Rattle.activity.specs.Packets.{same_remote};
+ghost use Rattle.std.specs.Prelude.{◌≡◌, ◌+◌, ◌<◌, ◌≤◌, ◌++◌, ◌∷◌, ◌&&◌, [], ℕ, not, length, position, slice_set, IfSome, if◌then◌else◌};
+ghost use Rattle.activity.specs.Packets.{same_remote, is_loose_by};
 ghost use Rattle.activity.specs.Places.{is_nowhere};
 ghost use Rattle.activity.specs.Sessions.{has_passed_by};
-ghost use Rattle.activity.specs.Kept.{session_place, with_session};
+ghost use Rattle.activity.specs.Kept.{has_session, session_place, with_session};
 ghost use Rattle.activity.specs.Dues.{clipped};
-ghost use Rattle.activity.specs.Packed.{session_in, sessions_in, place_among, FitsAmong, have_passed, end_of};
+ghost use Rattle.activity.specs.Packed.{session_in, all_sessions, sessions_in, is_known_among, place_among, FitsAmong, have_passed, end_of};
 
 use crate::packed::PackedSession;
-use crate::packets::is_that_remote;
-use crate::{MAX_SESSIONS, Packet, Session};
+use crate::packets::{can_begin, is_that_remote};
+use crate::{MAX_SESSIONS, Packet, Remote, Session};
 
 /// The place of a packet's session.
 #[derive(Clone, Copy, Debug, PartialEq, Eq)]
@@ -56,6 +56,23 @@ fn place_among(kept: &[PackedSession], packet: Packet) -> Place
     }
 }
 
+fn is_known(kept: &[PackedSession], remote: Remote) -> bool
+    ensures { result ≡ is_known_among remote kept.now }
+{
+    kept.iter()
+        .any(|session| is_that_remote(session.remote(), remote))
+}
+
+/// Whether a segment is loose: its remote host has none of these sessions, and it begins none. `has_carried` says
+/// whether the pair carried a packet before it since its life began.
+#[tactic(auto, using(crate::proofs::Packing::known_seen))]
+pub(crate) fn is_loose(kept: &[PackedSession], has_carried: bool, packet: Packet) -> bool
+    ensures { result ≡ is_loose_by (has_session packet.remote (all_sessions kept.now))
+        has_carried packet }
+{
+    !can_begin(has_carried, packet) && !is_known(kept, packet.remote)
+}
+
 /// Puts a session in a place.
 fn put(places: &mut [PackedSession; MAX_SESSIONS], place: usize, session: Session)
     requires { place < length places.old }
@@ -68,11 +85,7 @@ fn put(places: &mut [PackedSession; MAX_SESSIONS], place: usize, session: Sessio
 }
 
 /// Adds a packet to its session, and returns whether there was no place for the session.
-pub(crate) fn follow(
-    places: &mut [PackedSession; MAX_SESSIONS],
-    count: &mut u8,
-    packet: Packet,
-) -> bool
+fn follow(places: &mut [PackedSession; MAX_SESSIONS], count: &mut u8, packet: Packet) -> bool
     requires few { count.old ≤ 4 }
     ensures few { count.new ≤ 4 }
     ensures sessions { sessions_in count.new places.new
@@ -97,6 +110,28 @@ pub(crate) fn follow(
             false
         }
         Place::Nowhere => true,
+    }
+}
+
+/// Adds a segment to its session, unless it is loose, and returns whether there was no place for the session.
+pub(crate) fn follow_unless(
+    is_loose: bool,
+    places: &mut [PackedSession; MAX_SESSIONS],
+    count: &mut u8,
+    packet: Packet,
+) -> bool
+    requires few { count.old ≤ 4 }
+    ensures few { count.new ≤ 4 }
+    ensures sessions { sessions_in count.new places.new
+        ≡ (if is_loose then sessions_in count.old places.old
+        else with_session packet (sessions_in count.old places.old)) }
+    ensures nowhere { result
+        ≡ (not is_loose && is_nowhere (session_place packet (sessions_in count.old places.old))) }
+{
+    if is_loose {
+        false
+    } else {
+        follow(places, count, packet)
     }
 }
 

@@ -83,13 +83,13 @@ impl Class {
         }
     }
 
-    /// Returns the class of a session whose first segment has these flags.
+    /// Returns the class of a session whose first segment, which goes outward, has these flags.
     fn of_first(flags: TcpFlags) -> Class
         ensures { result ≡ first_class flags }
     {
         if flags.rst {
             Class::Closed
-        } else if flags.syn && !flags.ack {
+        } else if flags.syn {
             Class::Opening
         } else {
             Class::Established

@@ -1,5 +1,5 @@
 -- A log and its index still agree after each change of both.
-use Rattle.std.proofs.Common.{◌≡◌, ◌≤◌, ◌<◌, ◌+◌, ◌-◌, ℕ, suc, Bool, true, false, cond, eqb, Result, Ok, Err, IfOk, IfErr, Option, Some, None, List, [], ◌∷◌, ◌++◌, length, get_or, set, take, refl, ◌∙◌, sym, ap, subst, arith}
+use Rattle.std.proofs.Common.{◌≡◌, ◌≤◌, ◌<◌, ◌+◌, ℕ, Bool, true, false, cond, eqb, Result, Ok, Err, IfOk, IfErr, Option, Some, None, List, [], ◌∷◌, ◌++◌, length, get_or, set, take, refl, ◌∙◌, sym, ap, subst, arith}
 use Rattle.std.specs.List.{insert, remove}
 use Rattle.std.specs.List.Sorted.{IsSearchInRange, IsBinarySearchResult, IsNonDecreasingBy}
 use Rattle.std.specs.Ordering.{nat_cmp, ordering_index}
@@ -10,10 +10,10 @@ use Rattle.std.proofs.lemmas.List.{length-map, map-set, set-get_or, length-appen
 use Rattle.std.proofs.lemmas.List.Edits.{length-insert, length-remove}
 use Rattle.arp.specs.declared.caches.CacheEntry.{CacheEntry}
 use Rattle.arp.specs.declared.learnt.Spot.{Spot}
-use Rattle.arp.specs.Neighbours.{without, newest}
-use Rattle.arp.specs.Log.{kept, entry_addresses, spot_addresses, tally, IsRising, IsAt, IsGapFor, place_without, IsFirst, IsIndexed}
-use Rattle.arp.proofs.Tallies.{tally-at, tally-insert, tally-remove, gap-remove, rising-insert, rising-remove}
-use Rattle.arp.proofs.Logs.{kept-append, tally-push, length-without, tally-without, kept-first, front-first}
+use Rattle.arp.specs.Neighbours.{has_entry, without}
+use Rattle.arp.specs.Log.{kept, entry_addresses, spot_addresses, tally, IsRising, IsAt, IsGapFor, place_without, IsIndexed}
+use Rattle.arp.proofs.Tallies.{tally-at, tally-gap, tally-insert, tally-remove, gap-remove, rising-insert, rising-remove}
+use Rattle.arp.proofs.Logs.{kept-append, tally-push, length-without, tally-without, tally-out, length-out, front-clear, has-none, has-some}
 
 pub spots-length : (i j : List Spot) → spot_addresses i ≡ spot_addresses j → length i ≡ length j
 spots-length i j same = sym (length-map i (λ s. s.address.0)) ∙ ap length same ∙ length-map j (λ s. s.address.0)
@@ -27,9 +27,6 @@ spots-insert index i s = rw (map-append, take-map, drop-map) refl
 spots-remove : (index : List Spot) (i : ℕ) → spot_addresses (remove index i) ≡ remove (spot_addresses index) i
 spots-remove index i = rw (map-append, take-map, drop-map) refl
 
-pub newest-few : {X : Type 0} (n : ℕ) (xs : List X) → length xs ≤ n → newest n xs ≡ xs
-newest-few n xs few = let none : length xs - n ≡ 0 = omega (arith, few) in rw none refl
-
 -- they agree after the log's empty places were removed
 pub indexed-renumbered : (log log' : List (Option CacheEntry)) (start : ℕ) (index index' : List Spot) → IsIndexed log start index → kept log' ≡ kept log → spot_addresses index' ≡ spot_addresses index → IsIndexed log' 0 index'
 indexed-renumbered log log' start index index' old entries spots = record {
@@ -42,30 +39,33 @@ indexed-renumbered log log' start index index' old entries spots = record {
 }
 
 -- they agree after an entry was renewed
-pub indexed-renewed : (log log' : List (Option CacheEntry)) (start : ℕ) (index index' : List Spot) (e : CacheEntry) (i : ℕ) → IsIndexed log start index → IsAt (spot_addresses index) e.address.0 i → kept log' ≡ without e.address.0 (kept log) → length log' ≡ length log → kept (take start log') ≡ [] → spot_addresses index' ≡ spot_addresses index → IsIndexed (log' ++ Some e ∷ []) start index'
-indexed-renewed log log' start index index' e i old at entries len front spots = record {
+pub indexed-renewed : (log log' : List (Option CacheEntry)) (start : ℕ) (index index' : List Spot) (a : ℕ) (e : CacheEntry) (i : ℕ) → IsIndexed log start index → e.address.0 ≡ a → IsAt (spot_addresses index) a i → kept log' ≡ without a (kept log) → length log' ≡ length log → kept (take start log') ≡ [] → spot_addresses index' ≡ spot_addresses index → IsIndexed (log' ++ Some e ∷ []) start index'
+indexed-renewed log log' start index index' a e i old named at entries len front spots = record {
   rising = subst IsRising (sym spots) old.rising;
-  same = λ a. rw (kept-append, spots, entries) (tally-push a (without e.address.0 (kept log)) e ∙ (rw tally-without (by a (eqb e.address.0 a) refl)));
-  count = rw (kept-append, entries, spots-length index' index spots) (omega (arith, length-append (without e.address.0 (kept log)) (e ∷ []), length-without e.address.0 (kept log), once, old.count));
+  same = λ x. rw (kept-append, spots, entries) (tally-push x (without a (kept log)) e ∙ (rw (named, tally-without) (by x (eqb a x) refl)));
+  count = rw (kept-append, entries, spots-length index' index spots) (omega (arith, length-append (without a (kept log)) (e ∷ []), length-without a (kept log), once, old.count));
   most = rw (spots-length index' index spots) old.most;
   within = omega (arith, length-append log' (Some e ∷ []), len, old.within);
   front = rw (take-append-le start log' (Some e ∷ []) (omega (arith, len, old.within))) front;
 }
   where
-    once : tally e.address.0 (entry_addresses (kept log)) ≡ 1
-    once = old.same e.address.0 ∙ tally-at (spot_addresses index) old.rising e.address.0 i at
+    once : tally a (entry_addresses (kept log)) ≡ 1
+    once = old.same a ∙ tally-at (spot_addresses index) old.rising a i at
 
-    by : (a : ℕ) (b : Bool) → eqb e.address.0 a ≡ b → cond b 0 (tally a (entry_addresses (kept log))) + cond b 1 0 ≡ tally a (spot_addresses index)
-    by a true is = grind (arith, nat_tests, old.same a, once)
-    by a false is = omega (arith, old.same a)
+    by : (x : ℕ) (b : Bool) → eqb a x ≡ b → cond b 0 (tally x (entry_addresses (kept log))) + cond b 1 0 ≡ tally x (spot_addresses index)
+    by x true is = grind (arith, nat_tests, old.same x, once)
+    by x false is = omega (arith, old.same x)
 
 -- an address that is in the index is in the log once
 pub indexed-once : (log : List (Option CacheEntry)) (start : ℕ) (index : List Spot) (a i : ℕ) → IsIndexed log start index → IsAt (spot_addresses index) a i → tally a (entry_addresses (kept log)) ≡ 1
 indexed-once log start index a i old at = old.same a ∙ tally-at (spot_addresses index) old.rising a i at
 
--- a renewal drops no other entry
-pub renewed-few : (log : List (Option CacheEntry)) (start : ℕ) (index : List Spot) (a i : ℕ) → IsIndexed log start index → IsAt (spot_addresses index) a i → newest 1023 (without a (kept log)) ≡ without a (kept log)
-renewed-few log start index a i old at = newest-few 1023 (without a (kept log)) (omega (arith, length-without a (kept log), indexed-once log start index a i old at, old.count, old.most))
+-- an address has an entry where a search of the index finds it, and else none
+pub has-known : (log : List (Option CacheEntry)) (start : ℕ) (index : List Spot) (a i : ℕ) → IsIndexed log start index → IsAt (spot_addresses index) a i → has_entry a (kept log) ≡ true
+has-known log start index a i old at = has-some a (kept log) (omega (arith, indexed-once log start index a i old at))
+
+pub has-unknown : (log : List (Option CacheEntry)) (start : ℕ) (index : List Spot) (a i : ℕ) → IsIndexed log start index → IsGapFor (spot_addresses index) a i → has_entry a (kept log) ≡ false
+has-unknown log start index a i old gap = has-none a (kept log) (old.same a ∙ tally-gap (spot_addresses index) a i gap)
 
 -- they agree after an entry of another address was added
 pub indexed-added : (log : List (Option CacheEntry)) (start : ℕ) (index : List Spot) (e : CacheEntry) (s : Spot) (i : ℕ) → IsIndexed log start index → length index < 1024 → s.address.0 ≡ e.address.0 → IsGapFor (spot_addresses index) e.address.0 i → IsIndexed (log ++ Some e ∷ []) start (insert index i s)
@@ -81,29 +81,26 @@ indexed-added log start index e s i old fewer is gap = record {
     len : length (insert index i s) ≡ length index + 1
     len = length-insert index i s (omega (arith, gap.within, length-map index (λ (t : Spot). t.address.0)))
 
--- they agree after the first entry was dropped
-pub indexed-dropped : (log : List (Option CacheEntry)) (start : ℕ) (index : List Spot) (e : CacheEntry) (p i : ℕ) → IsIndexed log start index → IsFirst log p e → IsAt (spot_addresses index) e.address.0 i → IsIndexed (set log p None) (p + 1) (remove index i)
-indexed-dropped log start index e p i old first at = record {
+-- they agree after an entry left, and no place before `first` has one
+pub indexed-dropped : (log : List (Option CacheEntry)) (start first : ℕ) (index : List Spot) (e : CacheEntry) (p i : ℕ) → IsIndexed log start index → p < length log → get_or log p None ≡ Some e → first ≤ length log → kept (take first log) ≡ [] → IsAt (spot_addresses index) e.address.0 i → IsIndexed (set log p None) first (remove index i)
+indexed-dropped log start first index e p i old within is most front at = record {
   rising = rw spots-remove (rising-remove (spot_addresses index) i at.within old.rising);
-  same = λ a. rw spots-remove (omega (arith, subst (λ x. tally a (spot_addresses index) ≡ cond (eqb x a) 1 0 + tally a (remove (spot_addresses index) i)) at.is (tally-remove a (spot_addresses index) i at.within), ap (λ es. tally a (entry_addresses es)) entries, old.same a));
-  count = omega (arith, len, ap length entries, old.count);
+  same = λ a. rw spots-remove (omega (arith, subst (λ x. tally a (spot_addresses index) ≡ cond (eqb x a) 1 0 + tally a (remove (spot_addresses index) i)) at.is (tally-remove a (spot_addresses index) i at.within), tally-out a log p e within is, old.same a));
+  count = omega (arith, len, length-out log p e within is, old.count);
   most = omega (arith, len, old.most);
-  within = omega (arith, length-set log p None, first.within);
-  front = subst (λ n. kept (take n (set log p None)) ≡ []) {x = suc p} (omega arith) (front-first log p first.before);
+  within = omega (arith, length-set log p None, most);
+  front = front-clear first log p front;
 }
   where
-    entries : kept log ≡ e ∷ kept (set log p None)
-    entries = kept-first log p e first.within first.is first.before
-
     len : length (remove index i) + 1 ≡ length index
     len = length-remove index i (omega (arith, at.within, length-map index (λ (t : Spot). t.address.0)))
 
--- they agree after the first entry was dropped and one of another address added
-pub indexed-supplanted : (log : List (Option CacheEntry)) (start : ℕ) (index : List Spot) (old : CacheEntry) (p out : ℕ) (e : CacheEntry) (s : Spot) (at : ℕ) → IsIndexed log start index → IsFirst log p old → IsAt (spot_addresses index) old.address.0 out → s.address.0 ≡ e.address.0 → IsGapFor (spot_addresses index) e.address.0 at → IsIndexed (set log p None ++ Some e ∷ []) (p + 1) (insert (remove index out) (place_without out at) s)
-indexed-supplanted log start index old p out e s at holds first there is gap = indexed-added (set log p None) (p + 1) (remove index out) e s (place_without out at) (indexed-dropped log start index old p out holds first there) (omega (arith, length-remove index out within, holds.most)) is (rw spots-remove (gap-remove (spot_addresses index) e.address.0 at out gap there.within))
+-- they agree after an entry left and one of another address was added
+pub indexed-supplanted : (log : List (Option CacheEntry)) (start first : ℕ) (index : List Spot) (old : CacheEntry) (p out : ℕ) (e : CacheEntry) (s : Spot) (at : ℕ) → IsIndexed log start index → p < length log → get_or log p None ≡ Some old → first ≤ length log → kept (take first log) ≡ [] → IsAt (spot_addresses index) old.address.0 out → s.address.0 ≡ e.address.0 → IsGapFor (spot_addresses index) e.address.0 at → IsIndexed (set log p None ++ Some e ∷ []) first (insert (remove index out) (place_without out at) s)
+indexed-supplanted log start first index old p out e s at holds within is most front there named gap = indexed-added (set log p None) first (remove index out) e s (place_without out at) (indexed-dropped log start first index old p out holds within is most front there) (omega (arith, length-remove index out inside, holds.most)) named (rw spots-remove (gap-remove (spot_addresses index) e.address.0 at out gap there.within))
   where
-    within : out < length index
-    within = omega (arith, there.within, length-map index (λ (t : Spot). t.address.0))
+    inside : out < length index
+    inside = omega (arith, there.within, length-map index (λ (t : Spot). t.address.0))
 
 -- a binary search of the index finds an address, or the place where it would be inserted
 module _ (index : List Spot) (rising : IsRising (spot_addresses index)) (k : ℕ) where

@@ -1,3 +1,4 @@
+pub mod Healing
 pub mod Log
 pub mod Macs
 pub mod Memory

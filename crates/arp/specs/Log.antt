@@ -1,12 +1,12 @@
 -- The log of the neighbours that were learnt, and its index by address.
-use Rattle.std.specs.Prelude.{◌≡◌, ◌≤◌, ◌<◌, ◌+◌, ◌-◌, ℕ, Bool, true, false, ◌==◌, nat_lt, List, [], ◌∷◌, length, map, take, slice_index, slice_index_or, vec_capacity, Option, Some, None, if◌then◌else◌}
+use Rattle.std.specs.Prelude.{◌≡◌, ◌≤◌, ◌<◌, ◌+◌, ◌-◌, ℕ, Bool, true, false, ◌==◌, nat_lt, List, [], ◌∷◌, length, map, take, slice_index, slice_index_or, vec_capacity, Option, Some, None, slice_set, if◌then◌else◌}
 use Rattle.addresses.specs.declared.ethernet.Mac.{Mac}
 use Rattle.arp.specs.declared.caches.TheConstants.{ENTRIES, VALID_FOR}
 use Rattle.arp.specs.declared.caches.CacheEntry.{CacheEntry}
 use Rattle.arp.specs.declared.learnt.TheConstants.{PLACES}
 use Rattle.arp.specs.declared.learnt.Learnt.{Learnt}
 use Rattle.arp.specs.declared.learnt.Spot.{Spot}
-use Rattle.arp.specs.Neighbours.{wants_asking}
+use Rattle.arp.specs.Neighbours.{all_sent, sent_entry, wants_asking, after_one_left}
 
 -- the entries of the places that aren't empty
 abbrev pub kept : List (Option CacheEntry) → List CacheEntry
@@ -29,10 +29,10 @@ abbrev pub place_asks : ℕ → Option CacheEntry → Bool
 place_asks now None = false
 place_asks now (Some e) = wants_asking now e
 
--- the place after its entry was requested at the time `now`
-abbrev pub place_asked : ℕ → Option CacheEntry → Option CacheEntry
-place_asked now None = None
-place_asked now (Some e) = Some (record e { asked = now })
+-- the place after a packet was sent by its entry at the time `now`
+abbrev pub place_sent : ℕ → Option CacheEntry → Option CacheEntry
+place_sent now None = None
+place_sent now (Some e) = Some (sent_entry now e)
 
 abbrev pub entry_addresses : List CacheEntry → List ℕ
 entry_addresses entries = map (λ e. e.address.0) entries
@@ -73,6 +73,19 @@ pub record IsFirst (log : List (Option CacheEntry)) (i : ℕ) (e : CacheEntry) :
   pub within : i < length log
   pub is : slice_index_or log i None ≡ Some e
   pub before : kept (take i log) ≡ []
+
+-- the first entry of the log by which no packet was sent is that of place i
+pub record IsFirstUnsent (log : List (Option CacheEntry)) (i : ℕ) (e : CacheEntry) : Type 0 where
+  pub within : i < length log
+  pub is : slice_index_or log i None ≡ Some e
+  pub unsent : e.sent ≡ false
+  pub before : all_sent (kept (take i log)) ≡ true
+
+-- the entry that leaves a full cache is that of place i
+pub record IsLeaving (log : List (Option CacheEntry)) (i : ℕ) (e : CacheEntry) : Type 0 where
+  pub within : i < length log
+  pub is : slice_index_or log i None ≡ Some e
+  pub rest : kept (slice_set log i None) ≡ after_one_left (kept log)
 
 -- a log and its index agree: the index has each entry's address once, in order, and the places before the start are
 -- empty

@@ -1,8 +1,7 @@
 //! The cache of neighbours that an interface knows by their hardware addresses.
-ghost use Rattle.std.specs.Prelude.{◌≡◌, [], ◌↔◌, length, IfOk, IfSome, OnErr, IsTrue, if◌then◌else◌};
+ghost use Rattle.std.specs.Prelude.{◌≡◌, [], ◌↔◌, length, ◌||◌, IfOk, IfSome, OnErr, IsTrue};
 ghost use Rattle.arp.specs.Macs.{AllSix, KnowsMacs};
-ghost use Rattle.arp.specs.Neighbours.{with_entry, fixed_mac, mac_at, learner_of, IsLearnable};
-ghost use Rattle.arp.specs.Neighbours.{asks_at, asked_at};
+ghost use Rattle.arp.specs.Neighbours.{asks_at, fixed_mac, has_entry, IsLearnable, learner_of, mac_at, sent_at, taught};
 ghost use Rattle.arp.specs.Memory.{LacksCache};
 ghost use Rattle.memory.specs.Memory.{WasRefused};
 
@@ -20,7 +19,7 @@ pub(crate) const VALID_FOR: u64 = 120_000;
 
 /// The age in centiseconds from which an entry in use is requested again, so that the answer renews
 /// it.
-pub(crate) const RENEWED_AFTER: u64 = 90_000;
+pub(crate) const RENEWED_AFTER: u64 = 3_000;
 
 /// The time in centiseconds after which a request for an entry is repeated where no answer came.
 pub(crate) const ASKED_AFTER: u64 = 100;
@@ -38,9 +37,13 @@ pub struct CacheEntry {
     pub address: Ip,
     pub mac: Mac,
     pub at: u64,
-    /// The time, in centiseconds, of the last request for the neighbour. Learning the neighbour
-    /// sets it too.
+    /// The time, in centiseconds, of the last request for the neighbour behind a packet sent to it,
+    /// or of learning it where there was none since.
     pub asked: u64,
+    /// Whether a packet was sent by the entry since it was learnt.
+    pub sent: bool,
+    /// Whether the last renewal gave the entry another hardware address.
+    pub changed: bool,
 }
 
 /// What decides whom an interface learns: its network, its primary address and its virtual address.
@@ -85,22 +88,18 @@ impl Cache {
         Ok(Cache { fixed, learnt })
     }
 
-    /// Learns or renews a neighbour at the time `now`, in centiseconds. Replaces an entry of the
-    /// same address. Where 1,024 other addresses are learnt, drops the one that was learnt or
-    /// renewed longest ago, valid or not.
-    pub fn learn(&mut self, address: Ip, mac: Mac, now: u64)
-        ensures fixed { self.new.fixed ≡ self.old.fixed }
-        ensures learnt { self.new.learnt
-            ≡ with_entry (record { address = address; mac = mac; at = now; asked = now })
-            self.old.learnt }
+    /// Renews a neighbour at the time `now`, in centiseconds, by an ARP packet that it sent. Where
+    /// its address has no entry, learns it if the packet is for the interface (`for_us`): if it asks
+    /// for the interface or answers it, or if a packet waits for its sender. Returns whether the
+    /// address has an entry now. Of 1,024 entries of other addresses the oldest by which no packet
+    /// was sent leaves, or the oldest where there is none, valid or not.
+    pub fn learn(&mut self, address: Ip, mac: Mac, for_us: bool, now: u64) -> bool
+        ensures after { self.new ≡ taught address mac for_us now self.old }
+        ensures teaches { result ≡ (has_entry address.0 self.old.learnt || for_us) }
+        ensures has { result ≡ has_entry address.0 self.new.learnt }
     {
-        let entry = CacheEntry {
-            address,
-            mac: Mac(octets_of(mac)),
-            at: now,
-            asked: now,
-        };
-        learn(&mut self.learnt, entry);
+        let mac = Mac(octets_of(mac));
+        learn(&mut self.learnt, address, mac, for_us, now)
     }
 
     /// Returns the hardware address of a neighbour that is fixed, or that is valid at the time
@@ -116,15 +115,14 @@ impl Cache {
         }
     }
 
-    /// Whether a request for a neighbour's address is due after a packet was sent to it at the time
-    /// `now`, in centiseconds. It is due where the neighbour isn't fixed, was learnt or renewed
-    /// 90,000 ago or more, and was last requested 100 ago or more. Where a request is due, the call
-    /// notes `now` as the time of the last request.
+    /// Notes that a packet was sent to a neighbour at the time `now`, in centiseconds, and returns
+    /// whether a request for its address is due behind the packet. It is due where the neighbour
+    /// isn't fixed, was learnt or renewed 3,000 ago or more or got another hardware address by its
+    /// last renewal, and was learnt, and last requested by this call, 100 ago or more.
     #[inline(always)]
     pub fn ask(&mut self, address: Ip, now: u64) -> bool
         ensures asks { result ≡ asks_at address.0 now self.old }
-        ensures after { self.new
-            ≡ (if result then asked_at address.0 now self.old else self.old) }
+        ensures after { self.new ≡ sent_at address.0 now self.old }
     {
         match fixed_mac(&self.fixed, address) {
             Some(_) => false,

@@ -1,9 +1,10 @@
 //! The neighbours that a cache has learnt: a log of them in order, and an index of the log by
 //! address.
-ghost use Rattle.std.specs.Prelude.{◌≡◌, ◌≤◌, ◌++◌, ◌∷◌, [], ◌<◌, ◌-◌, ℕ, Some, drop, take, length, vec_len, vec_capacity, IfOk, IfErr, OnErr, MatchOption, if◌then◌else◌};
+ghost use Rattle.std.specs.Prelude.{◌≡◌, ◌≤◌, ◌++◌, ◌∷◌, [], ◌<◌, ◌||◌, ℕ, Some, true, false, take, length, vec_len, vec_capacity, IfOk, IfErr, IfSome, OnErr, MatchOption};
 ghost use Rattle.std.specs.List.{insert, remove};
-ghost use Rattle.arp.specs.Neighbours.{without, with_entry, learnt_mac, wants_asking, learnt_asks, learnt_asked};
-ghost use Rattle.arp.specs.Log.{kept, is_of, valid_mac, entry_addresses, spot_addresses, tally, IsRising, IsAt, IsGapFor, IsPlaceOf, IsFirst, IsLearnt, place_without, place_asks, place_asked};
+ghost use Rattle.arp.specs.Neighbours.{all_sent, entries_of, entries_taught, has_entry, is_old, learnt_asks, learnt_mac, learnt_sent, new_entry, renewed_entry, sent_entry, wants_asking, with_newcomer, with_renewal, without, after_one_left};
+ghost use Rattle.arp.specs.Log.{kept, is_of, valid_mac, entry_addresses, spot_addresses, tally, IsRising, IsAt, IsGapFor, IsPlaceOf, IsFirst, IsFirstUnsent, IsLeaving, IsLearnt, place_without, place_asks, place_sent};
+ghost use Rattle.arp.specs.Macs.{AllSix};
 ghost use Rattle.arp.specs.Memory.{LacksLearnt};
 
 use crate::caches::{ASKED_AFTER, CacheEntry, ENTRIES, RENEWED_AFTER, VALID_FOR};
@@ -50,17 +51,55 @@ impl Learnt {
     }
 }
 
-/// Learns or renews an entry. Replaces the entry of the same address, or drops the oldest of 1,024
-/// others.
-pub fn learn(learnt: &mut Learnt, entry: CacheEntry)
+/// Renews the entry of an address, or adds one where the address has none and `for_us` is true.
+/// Returns whether the address has an entry now.
+pub fn learn(learnt: &mut Learnt, address: Ip, mac: Mac, for_us: bool, now: u64) -> bool
     requires { IsLearnt learnt.old }
-    ensures entries { kept learnt.new.log.items ≡ with_entry entry (kept learnt.old.log.items) }
+    ensures entries { kept learnt.new.log.items
+        ≡ entries_taught address mac for_us now (kept learnt.old.log.items) }
+    ensures teaches { result ≡ (has_entry address.0 (kept learnt.old.log.items) || for_us) }
+    ensures has { result ≡ has_entry address.0 (kept learnt.new.log.items) }
+    ensures six { length mac.0 ≡ 6 → AllSix (λ e. e.mac) (kept learnt.old.log.items)
+        → AllSix (λ e. e.mac) (kept learnt.new.log.items) }
     ensures holds { IsLearnt learnt.new }
 {
     make_room(learnt);
-    match find(&learnt.index, entry.address) {
-        Ok(at) => renew(learnt, at, entry),
-        Err(at) => add(learnt, at, entry),
+    match find(&learnt.index, address) {
+        Ok(at) => {
+            renew(learnt, at, address, mac, now);
+            true
+        }
+        Err(at) if for_us => {
+            add(learnt, at, new_entry(address, mac, now));
+            true
+        }
+        Err(_) => false,
+    }
+}
+
+fn new_entry(address: Ip, mac: Mac, now: u64) -> CacheEntry
+    ensures { result ≡ new_entry address mac now }
+{
+    CacheEntry {
+        address,
+        mac,
+        at: now,
+        asked: now,
+        sent: false,
+        changed: false,
+    }
+}
+
+fn renewed_entry(entry: &CacheEntry, mac: Mac, now: u64) -> CacheEntry
+    ensures { result ≡ renewed_entry mac now entry.now }
+{
+    CacheEntry {
+        address: entry.address,
+        mac,
+        at: now,
+        asked: entry.asked,
+        sent: entry.sent,
+        changed: entry.mac != mac,
     }
 }
 
@@ -95,14 +134,13 @@ fn valid_mac(place: Option<CacheEntry>, now: u64) -> Option<Mac>
     }
 }
 
-/// Whether a request for that address is due at `now`, after a packet was sent to it. Notes the time
-/// of the request where one is due.
+/// Notes that a packet was sent to that address at `now`. Returns whether a request for the address
+/// is due behind the packet, and notes the time of the request where one is due.
 pub fn ask_in(learnt: &mut Learnt, address: Ip, now: u64) -> bool
     requires { IsLearnt learnt.old }
     ensures asks { result ≡ learnt_asks address.0 now (kept learnt.old.log.items) }
     ensures entries { kept learnt.new.log.items
-        ≡ (if result then learnt_asked address.0 now (kept learnt.old.log.items)
-        else kept learnt.old.log.items) }
+        ≡ learnt_sent address.0 now (kept learnt.old.log.items) }
     ensures holds { IsLearnt learnt.new }
 {
     match find(&learnt.index, address) {
@@ -114,8 +152,7 @@ pub fn ask_in(learnt: &mut Learnt, address: Ip, now: u64) -> bool
 fn ask_in_log(log: &mut Vec<Option<CacheEntry>>, address: Ip, hint: u32, now: u64) -> bool
     requires { tally address.0 (entry_addresses (kept log.old.items)) ≤ 1 }
     ensures asks { result ≡ learnt_asks address.0 now (kept log.old.items) }
-    ensures entries { kept log.new.items
-        ≡ (if result then learnt_asked address.0 now (kept log.old.items) else kept log.old.items) }
+    ensures entries { kept log.new.items ≡ learnt_sent address.0 now (kept log.old.items) }
     ensures len { length log.new.items ≡ length log.old.items }
     ensures capacity { vec_capacity log.new ≡ vec_capacity log.old }
     ensures front { (n : ℕ) → kept (take n log.old.items) ≡ []
@@ -127,31 +164,33 @@ fn ask_in_log(log: &mut Vec<Option<CacheEntry>>, address: Ip, hint: u32, now: u6
     }
 }
 
-/// Whether a request is due for the entry at this place, which has that address. Notes the time of
-/// the request where one is due.
+/// Notes that a packet was sent by the entry at this place, which has that address. Returns whether
+/// a request is due for it, and notes the time of the request where one is due.
 fn ask_at(log: &mut Vec<Option<CacheEntry>>, address: Ip, place: usize, now: u64) -> bool
     requires once { tally address.0 (entry_addresses (kept log.old.items)) ≤ 1 }
     requires at { IsPlaceOf address.0 log.old.items place }
     ensures asks { result ≡ learnt_asks address.0 now (kept log.old.items) }
-    ensures entries { kept log.new.items
-        ≡ (if result then learnt_asked address.0 now (kept log.old.items) else kept log.old.items) }
+    ensures entries { kept log.new.items ≡ learnt_sent address.0 now (kept log.old.items) }
     ensures len { length log.new.items ≡ length log.old.items }
     ensures capacity { vec_capacity log.new ≡ vec_capacity log.old }
     ensures front { (n : ℕ) → kept (take n log.old.items) ≡ []
         → kept (take n log.new.items) ≡ [] }
 {
-    if place_asks(log[place], now) {
-        log[place] = place_asked(log[place], now);
-        true
-    } else {
-        false
-    }
+    let asks = place_asks(log[place], now);
+    log[place] = place_sent(log[place], now);
+    asks
+}
+
+fn is_old(entry: &CacheEntry, now: u64) -> bool
+    ensures { result ≡ is_old now entry.now }
+{
+    entry.changed || now.saturating_sub(entry.at) >= RENEWED_AFTER
 }
 
 fn wants_asking(entry: &CacheEntry, now: u64) -> bool
     ensures { result ≡ wants_asking now entry.now }
 {
-    now.saturating_sub(entry.at) >= RENEWED_AFTER && now.saturating_sub(entry.asked) >= ASKED_AFTER
+    is_old(entry, now) && now.saturating_sub(entry.asked) >= ASKED_AFTER
 }
 
 fn place_asks(place: Option<CacheEntry>, now: u64) -> bool
@@ -163,16 +202,29 @@ fn place_asks(place: Option<CacheEntry>, now: u64) -> bool
     }
 }
 
-fn place_asked(place: Option<CacheEntry>, now: u64) -> Option<CacheEntry>
-    ensures { result ≡ place_asked now place }
+fn sent_entry(entry: &CacheEntry, now: u64) -> CacheEntry
+    ensures { result ≡ sent_entry now entry.now }
+{
+    let asked = if wants_asking(entry, now) {
+        now
+    } else {
+        entry.asked
+    };
+    CacheEntry {
+        address: entry.address,
+        mac: entry.mac,
+        at: entry.at,
+        asked,
+        sent: true,
+        changed: entry.changed,
+    }
+}
+
+fn place_sent(place: Option<CacheEntry>, now: u64) -> Option<CacheEntry>
+    ensures { result ≡ place_sent now place }
 {
     match place {
-        Some(entry) => Some(CacheEntry {
-            address: entry.address,
-            mac: entry.mac,
-            at: entry.at,
-            asked: now,
-        }),
+        Some(entry) => Some(sent_entry(&entry, now)),
         None => None,
     }
 }
@@ -232,30 +284,29 @@ fn first_place_of(log: &[Option<CacheEntry>], address: Ip) -> Option<usize>
     None
 }
 
-/// Renews the entry whose spot is at `at`.
-fn renew(learnt: &mut Learnt, at: usize, entry: CacheEntry)
+/// Renews the entry of an address, whose spot is at `at`.
+fn renew(learnt: &mut Learnt, at: usize, address: Ip, mac: Mac, now: u64)
     requires holds { IsLearnt learnt.old }
     requires room { length learnt.old.log.items < PLACES }
-    requires at { IsAt (spot_addresses learnt.old.index.items) entry.address.0 at }
-    ensures entries { kept learnt.new.log.items ≡ with_entry entry (kept learnt.old.log.items) }
+    requires at { IsAt (spot_addresses learnt.old.index.items) address.0 at }
+    ensures entries { kept learnt.new.log.items
+        ≡ with_renewal address.0 mac now (kept learnt.old.log.items) }
     ensures holds { IsLearnt learnt.new }
 {
-    clear(&mut learnt.log, entry.address, learnt.index[at].place);
-    let place = learnt.log.len() as u32;
-    push(&mut learnt.log, entry);
-    learnt.index[at] = Spot {
-        address: entry.address,
-        place,
-    };
+    if let Some(entry) = take_out(&mut learnt.log, address, learnt.index[at].place) {
+        let place = learnt.log.len() as u32;
+        push(&mut learnt.log, renewed_entry(&entry, mac, now));
+        learnt.index[at] = Spot { address, place };
+    }
 }
 
-/// Adds an entry of a new address, whose spot is inserted at `at`. Drops the oldest entry where
-/// there are 1,024.
+/// Adds an entry of a new address, whose spot is inserted at `at`. Where there are 1,024, one of
+/// them leaves.
 fn add(learnt: &mut Learnt, at: usize, entry: CacheEntry)
     requires holds { IsLearnt learnt.old }
     requires room { length learnt.old.log.items < PLACES }
     requires at { IsGapFor (spot_addresses learnt.old.index.items) entry.address.0 at }
-    ensures entries { kept learnt.new.log.items ≡ with_entry entry (kept learnt.old.log.items) }
+    ensures entries { kept learnt.new.log.items ≡ with_newcomer entry (kept learnt.old.log.items) }
     ensures holds { IsLearnt learnt.new }
 {
     if learnt.index.len() < ENTRIES {
@@ -283,17 +334,18 @@ fn append(learnt: &mut Learnt, at: usize, entry: CacheEntry)
     let _ = learnt.index.insert(at, spot);
 }
 
-/// Adds an entry of a new address in place of the oldest one.
+/// Adds an entry of a new address in place of the one that leaves.
 fn supplant(learnt: &mut Learnt, at: usize, entry: CacheEntry)
     requires holds { IsLearnt learnt.old }
     requires room { length learnt.old.log.items < PLACES }
     requires some { 0 < length learnt.old.index.items }
     requires at { IsGapFor (spot_addresses learnt.old.index.items) entry.address.0 at }
     ensures entries { kept learnt.new.log.items
-        ≡ drop 1 (kept learnt.old.log.items) ++ entry ∷ [] }
+        ≡ after_one_left (kept learnt.old.log.items) ++ entry ∷ [] }
     ensures holds { IsLearnt learnt.new }
 {
-    if let Some((oldest, gone)) = first_entry(&learnt.log, learnt.start) {
+    if let Some((first, oldest)) = first_entry(&learnt.log, learnt.start) {
+        let (leaving, gone) = leaving_entry(&learnt.log, first, oldest);
         let out = spot_of(&learnt.index, gone.address);
         let place = learnt.log.len() as u32;
         let spot = Spot {
@@ -301,9 +353,54 @@ fn supplant(learnt: &mut Learnt, at: usize, entry: CacheEntry)
             place,
         };
         put_for(&mut learnt.index, out, at, spot);
-        learnt.log[oldest] = None;
-        learnt.start = oldest + 1;
+        learnt.log[leaving] = None;
+        learnt.start = first;
         push(&mut learnt.log, entry);
+    }
+}
+
+/// Returns the place of the entry that leaves a full cache, and the entry: the first by which no
+/// packet was sent, else the first of all, which is `oldest` at the place `first`.
+fn leaving_entry(
+    log: &[Option<CacheEntry>],
+    first: usize,
+    oldest: CacheEntry,
+) -> (usize, CacheEntry)
+    requires { IsFirst log.now first oldest }
+    ensures { IsLeaving log.now result.0 result.1 }
+{
+    match first_unsent(log, first) {
+        Some(found) => found,
+        None => (first, oldest),
+    }
+}
+
+/// Returns the place of the first entry by which no packet was sent, and the entry, or None where
+/// a packet was sent by each. No place before `first` has an entry.
+fn first_unsent(log: &[Option<CacheEntry>], first: usize) -> Option<(usize, CacheEntry)>
+    requires within { first ≤ length log.now }
+    requires front { kept (take first log.now) ≡ [] }
+    ensures { MatchOption result (all_sent (kept log.now) ≡ true)
+        (λ r. IsFirstUnsent log.now r.0 r.1) }
+{
+    let mut place = first;
+    while place < log.len() {
+        if let Some(entry) = unsent_in(log[place]) {
+            return Some((place, entry));
+        }
+        place += 1;
+    }
+    None
+}
+
+/// Returns the entry of a place, if no packet was sent by it.
+fn unsent_in(place: Option<CacheEntry>) -> Option<CacheEntry>
+    ensures { MatchOption result (all_sent (kept (place ∷ [])) ≡ true)
+        (λ e. (place ≡ Some e) × (e.sent ≡ false)) }
+{
+    match place {
+        Some(entry) if !entry.sent => Some(entry),
+        _ => None,
     }
 }
 
@@ -325,17 +422,25 @@ fn put_for(index: &mut Vec<Spot>, out: usize, at: usize, spot: Spot)
     }
 }
 
-/// Empties the place of an address in the log.
-fn clear(log: &mut Vec<Option<CacheEntry>>, address: Ip, hint: u32)
+/// Empties the place of an address in the log, and returns its entry, or None where it has none.
+fn take_out(log: &mut Vec<Option<CacheEntry>>, address: Ip, hint: u32) -> Option<CacheEntry>
     requires { tally address.0 (entry_addresses (kept log.old.items)) ≤ 1 }
+    ensures entry { MatchOption result (tally address.0 (entry_addresses (kept log.old.items)) ≡ 0)
+        (λ e. entries_of address.0 (kept log.old.items) ≡ e ∷ []) }
+    ensures address { IfSome result (λ e. e.address.0 ≡ address.0) }
     ensures entries { kept log.new.items ≡ without address.0 (kept log.old.items) }
     ensures len { length log.new.items ≡ length log.old.items }
     ensures capacity { vec_capacity log.new ≡ vec_capacity log.old }
     ensures front { (n : ℕ) → kept (take n log.old.items) ≡ []
         → kept (take n log.new.items) ≡ [] }
 {
-    if let Some(place) = place_of(log, address, hint) {
-        log[place] = None;
+    match place_of(log, address, hint) {
+        Some(place) => {
+            let entry = log[place];
+            log[place] = None;
+            entry
+        }
+        None => None,
     }
 }
 

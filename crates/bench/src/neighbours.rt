@@ -17,7 +17,7 @@ fn host(number: u32) -> Ip {
 }
 
 /// Returns the address of a stranger, scattered over a network. Each stranger drops the oldest
-/// entry.
+/// entry by which no packet was sent.
 fn stranger(number: u32) -> Ip {
     Ip(0x0a00_0000 + number.wrapping_mul(0x9e37_79b1) % 0x0100_0000)
 }
@@ -37,7 +37,7 @@ fn learn(
         } else {
             host(number)
         };
-        cache.learn(address, MAC, u64::from(number));
+        let _has_entry = cache.learn(address, MAC, true, u64::from(number));
     }
     each(rt, start, count, case)
 }
@@ -58,6 +58,13 @@ fn tell_known(rt: &HostRuntime, cache: &Cache, count: u32, case: &mut Case) {
     case.put(" known\n");
 }
 
+/// Sends a packet to each host, so that each entry stays before strangers.
+fn use_all(cache: &mut Cache) {
+    for number in 0..FULL {
+        let _asks = cache.ask(host(number), 0);
+    }
+}
+
 fn measure_in(rt: &HostRuntime, cache: &mut Cache, case: &mut Case) {
     let count = case.times();
     let strangers = learn(rt, cache, true, count, case);
@@ -67,6 +74,10 @@ fn measure_in(rt: &HostRuntime, cache: &mut Cache, case: &mut Case) {
     case.say(" ns a renewal, ", strangers);
     case.put(" ns a stranger, ");
     tell_known(rt, cache, count, case);
+    use_all(cache);
+    let last = learn(rt, cache, true, count, case);
+    case.put(last);
+    case.put(" ns a stranger where packets were sent by all others\n");
 }
 
 /// Prints the cost of each of these calls, over as many as the next word says.

@@ -1,19 +1,26 @@
--- A pair that carries is the one that its endpoint has, and a wish for it changes nothing.
-use Rattle.std.proofs.Common.{◌≡◌, Bool, true, false, Option, Some, None, refl, ap, ◌∙◌}
+-- A pair that carries is the one that its endpoint has, and a wish for it changes nothing. What is noted of a packet.
+use Rattle.std.proofs.Common.{◌≡◌, ℕ, Bool, true, false, is_some, Option, Some, None, refl, ap, ◌∙◌}
 use Rattle.std.proofs.lemmas.Bool.{and_parts}
+use Rattle.nat_types.specs.declared.gateways.GatewayId.{GatewayId}
+use Rattle.nat_types.specs.declared.notes.NoteKind.{NoteKind}
 use Rattle.nat_types.specs.declared.pairs.EntryState.{EntryState}
 use Rattle.nat_types.specs.declared.pairs.EntryState.TheVariants.{Pending, Doomed, Live, Closing, Alone, Held}
+use Rattle.nat_types.specs.declared.pairs.Key.{Key}
 use Rattle.nat_types.specs.declared.pairs.Pair.{Pair}
 use Rattle.nat_types.specs.Same.{same_pair}
 use Rattle.nat_types.proofs.Offered.{pair-eq}
+use Rattle.activity.specs.declared.packets.Packet.{Packet}
 use Rattle.bindings.specs.declared.entries.Entry.{Entry}
 use Rattle.bindings.specs.Entries.{is_pair, translates, slot_of, entry_of}
+use Rattle.bindings.specs.Lives.{use_counts_at}
 use Rattle.bindings.proofs.Offered.{none-ranked, pair-rank}
 use Rattle.spec_binding.proofs.Offered.{unranked}
 use Rattle.spec_binding.specs.declared.changes.Want.TheVariants.{Port}
+use Rattle.spec_binding.specs.declared.changes.Transition.{Transition}
 use Rattle.spec_binding.specs.Books.{Book, is_synced}
-use Rattle.spec_binding.specs.Rows.{known_wish, quiet, wish, wish_by, wish_of}
-use Rattle.bind_core.specs.Cores.{is_carried, carries_pair}
+use Rattle.spec_binding.specs.Rows.{carry_row, known_wish, noted_with, quiet, wish, wish_by, wish_of}
+use Rattle.spec_binding.specs.Uses.{carried_notes, use_counts}
+use Rattle.bind_core.specs.Cores.{Core, book_of, ledger_of, is_carried, carries_pair}
 
 is-pair : (s : EntryState) → translates s ≡ true → is_pair s ≡ true
 is-pair (Pending true) h = refl
@@ -74,3 +81,17 @@ wish-quiet b apart full p is = at (is_synced b.stage) refl
     at : (t : Bool) → is_synced b.stage ≡ t → (wish_of b apart full p.endpoint).row ≡ quiet
     at true synced = rw (synced) (by-quiet b apart full p (slot_of b.entries p.key) refl is)
     at false loads = rw (loads) refl
+
+-- ---- the note of a packet
+
+-- where there is no note, its mark says nothing
+noted-as : (a b : Bool) (i : GatewayId) (now : ℕ) (what : Option NoteKind) → (is_some what ≡ true → a ≡ b) → noted_with a i now what ≡ noted_with b i now what
+noted-as a b i now None same = refl
+noted-as a b i now (Some what) same = ap (λ (c : Bool). noted_with c i now (Some what)) (same refl)
+
+-- a row with the mark that the table gave notes what is to be noted of the packet
+pub noted-is : (k : Core) (key : Key) (p : Packet) (r : Transition) (counts used : Bool) → r ≡ carry_row (book_of k) key → used ≡ is_some r.what → (used ≡ true → counts ≡ use_counts_at k.table.entries k.table.lives key p)
+    → noted_with counts k.id p.at r.what ≡ carried_notes (ledger_of k) key p
+noted-is k key p r counts used row is mark =
+    ap (λ (x : Transition). noted_with counts k.id p.at x.what) row
+    ∙ noted-as counts (use_counts (ledger_of k) key p) k.id p.at (carry_row (book_of k) key).what (λ some. mark (is ∙ ap (λ (x : Transition). is_some x.what) row ∙ some))

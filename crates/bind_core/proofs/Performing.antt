@@ -93,7 +93,7 @@ book-after now c r = at r.change
 
 -- the lives after a row are those of its change
 ledger-after : (now : ℕ) (c : Core) (r : Transition) → ledger_of (core_after now c r) ≡ ledger_after now r.change (ledger_of c)
-ledger-after now c r = ap (λ (b : Book). let l : Ledger = record { book = b; lives = lives_after now r.change c.table.entries c.table.lives; hashers = c.table.hashers } in l) (book-after now c r)
+ledger-after now c r = ap (λ (b : Book). let l : Ledger = record { book = b; lives = lives_after now r.change c.table.entries c.table.lives; inward_refresh = c.inward_refresh; hashers = c.table.hashers } in l) (book-after now c r)
 
 -- the ledger after a row that is worked out elsewhere
 pub ledger-then : (now : ℕ) (c c2 : Core) (r r2 : Transition) → c2 ≡ core_after now c r → r ≡ r2 → ledger_of c2 ≡ ledger_after now r2.change (ledger_of c)
@@ -204,11 +204,12 @@ pub loaded-answer : (b : Book) (rests : Bool) (r : Record) → is_synced b.stage
 loaded-answer b rests r h = ap (λ (t : Bool). let x : Option Record = cond t (row_of b rests r).answer None in x) h
 
 -- a ledger from its parts
-ledger-parts : (c : Core) (b : Book) (ls : List Activity) (hs : Hashers) → book_of c ≡ b → c.table.lives ≡ ls → c.table.hashers ≡ hs → ledger_of c ≡ record { book = b; lives = ls; hashers = hs }
-ledger-parts c b ls hs book lives hashers =
-    ap (λ (x : Book). let l : Ledger = record { book = x; lives = c.table.lives; hashers = c.table.hashers } in l) book
-    ∙ ap (λ (x : List Activity). let l : Ledger = record { book = b; lives = x; hashers = c.table.hashers } in l) lives
-    ∙ ap (λ (x : Hashers). let l : Ledger = record { book = b; lives = ls; hashers = x } in l) hashers
+ledger-parts : (c : Core) (b : Book) (ls : List Activity) (refresh : Bool) (hs : Hashers) → book_of c ≡ b → c.table.lives ≡ ls → c.inward_refresh ≡ refresh → c.table.hashers ≡ hs → ledger_of c ≡ record { book = b; lives = ls; inward_refresh = refresh; hashers = hs }
+ledger-parts c b ls refresh hs book lives same hashers =
+    ap (λ (x : Book). let l : Ledger = record { book = x; lives = c.table.lives; inward_refresh = c.inward_refresh; hashers = c.table.hashers } in l) book
+    ∙ ap (λ (x : List Activity). let l : Ledger = record { book = b; lives = x; inward_refresh = c.inward_refresh; hashers = c.table.hashers } in l) lives
+    ∙ ap (λ (x : Bool). let l : Ledger = record { book = b; lives = ls; inward_refresh = x; hashers = c.table.hashers } in l) same
+    ∙ ap (λ (x : Hashers). let l : Ledger = record { book = b; lives = ls; inward_refresh = refresh; hashers = x } in l) hashers
 
 pub taken-ledger : (now : ℕ) (c c2 : Core) (r : Record) → is_synced c.stage ≡ true → c2 ≡ core_after now c (row_of (book_of c) (rests_for now (ledger_of c) r) r) → ledger_of c2 ≡ taken_ledger now (ledger_of c) r
 taken-ledger now c c2 r h made = ledger-then now c c2 row row made refl ∙ sym (ap of h)
@@ -223,9 +224,9 @@ taken-ledger now c c2 r h made = ledger-then now c c2 row row made refl ∙ sym 
     }
 
 pub loaded-ledger : (now : ℕ) (c c2 : Core) (r : Record) → is_synced c.stage ≡ false → book_of c2 ≡ unsynced_after (book_of c) r
-    → c2.table.lives ≡ lives_loaded now r c.table.entries c.table.lives (loaded (load_of (book_of c)) r) → c2.table.hashers ≡ c.table.hashers → ledger_of c2 ≡ taken_ledger now (ledger_of c) r
-loaded-ledger now c c2 r h book lives hashers =
-    ledger-parts c2 _ _ _ book lives hashers
+    → c2.table.lives ≡ lives_loaded now r c.table.entries c.table.lives (loaded (load_of (book_of c)) r) → c2.inward_refresh ≡ c.inward_refresh → c2.table.hashers ≡ c.table.hashers → ledger_of c2 ≡ taken_ledger now (ledger_of c) r
+loaded-ledger now c c2 r h book lives refresh hashers =
+    ledger-parts c2 _ _ _ _ book lives refresh hashers
     ∙ sym (ap of h)
   where
     row : Transition
@@ -363,11 +364,11 @@ revived-book c t2 stage cursor same entries =
     ∙ ap (λ (es : List Entry). let b : Book = record (revived (book_of c)) { entries = es; stage = stage; coming = to_come cursor c.table.owned es } in b) entries
 
 -- a core that is put alone, with each pair's life begun anew
-pub put_lone_is : (now : ℕ) (c c1 c2 : Core) → book_of c1 ≡ revived_with Lone Over c → c1.table.lives ≡ lives_of_pairs c.table.entries c.table.lives → c1.table.hashers ≡ c.table.hashers → c2 ≡ record c1 { table = record c1.table { lives = map (life_renewed now) c1.table.lives } }
+pub put_lone_is : (now : ℕ) (c c1 c2 : Core) → book_of c1 ≡ revived_with Lone Over c → c1.table.lives ≡ lives_of_pairs c.table.entries c.table.lives → c1.inward_refresh ≡ c.inward_refresh → c1.table.hashers ≡ c.table.hashers → c2 ≡ record c1 { table = record c1.table { lives = map (life_renewed now) c1.table.lives } }
     → ledger_of c2 ≡ lone_ledger now (ledger_of c)
-put_lone_is now c c1 c2 book lives hashers is =
+put_lone_is now c c1 c2 book lives refresh hashers is =
     ap ledger_of is
-    ∙ ap (λ (l : Ledger). let l2 : Ledger = record l { lives = map (life_renewed now) l.lives } in l2) (ledger-parts c1 _ _ _ book lives hashers)
+    ∙ ap (λ (l : Ledger). let l2 : Ledger = record l { lives = map (life_renewed now) l.lives } in l2) (ledger-parts c1 _ _ _ _ book lives refresh hashers)
 
 pub restarted-synced : (b : Book) → is_synced b.stage ≡ true → restarted b ≡ record (revived b) { stage = Paired; coming = restart_batch b }
 restarted-synced b h = ap (λ (t : Bool). let x : Book = cond t (record (revived b) { stage = Paired; coming = restart_batch b }) (empty_book b.id b.zero b.one b.limit b.alone) in x) h
@@ -375,15 +376,15 @@ restarted-synced b h = ap (λ (t : Bool). let x : Book = cond t (record (revived
 pub restarted-bare : (b : Book) → is_synced b.stage ≡ false → restarted b ≡ empty_book b.id b.zero b.one b.limit b.alone
 restarted-bare b h = ap (λ (t : Bool). let x : Book = cond t (record (revived b) { stage = Paired; coming = restart_batch b }) (empty_book b.id b.zero b.one b.limit b.alone) in x) h
 
-pub restarted-ledger : (c c2 : Core) → is_synced c.stage ≡ true → book_of c2 ≡ restarted (book_of c) → c2.table.lives ≡ lives_of_pairs c.table.entries c.table.lives → c2.table.hashers ≡ c.table.hashers → ledger_of c2 ≡ restarted_ledger (ledger_of c)
-restarted-ledger c c2 h book lives hashers =
-    ledger-parts c2 _ _ _ book
-    (lives ∙ sym (ap (λ (t : Bool). let ls : List Activity = cond t (lives_of_pairs c.table.entries c.table.lives) [] in ls) h)) hashers
+pub restarted-ledger : (c c2 : Core) → is_synced c.stage ≡ true → book_of c2 ≡ restarted (book_of c) → c2.table.lives ≡ lives_of_pairs c.table.entries c.table.lives → c2.inward_refresh ≡ c.inward_refresh → c2.table.hashers ≡ c.table.hashers → ledger_of c2 ≡ restarted_ledger (ledger_of c)
+restarted-ledger c c2 h book lives refresh hashers =
+    ledger-parts c2 _ _ _ _ book
+    (lives ∙ sym (ap (λ (t : Bool). let ls : List Activity = cond t (lives_of_pairs c.table.entries c.table.lives) [] in ls) h)) refresh hashers
 
-pub bare-ledger : (c c2 : Core) → is_synced c.stage ≡ false → book_of c2 ≡ restarted (book_of c) → c2.table.lives ≡ [] → c2.table.hashers ≡ c.table.hashers → ledger_of c2 ≡ restarted_ledger (ledger_of c)
-bare-ledger c c2 h book lives hashers =
-    ledger-parts c2 _ _ _ book
-    (lives ∙ sym (ap (λ (t : Bool). let ls : List Activity = cond t (lives_of_pairs c.table.entries c.table.lives) [] in ls) h)) hashers
+pub bare-ledger : (c c2 : Core) → is_synced c.stage ≡ false → book_of c2 ≡ restarted (book_of c) → c2.table.lives ≡ [] → c2.inward_refresh ≡ c.inward_refresh → c2.table.hashers ≡ c.table.hashers → ledger_of c2 ≡ restarted_ledger (ledger_of c)
+bare-ledger c c2 h book lives refresh hashers =
+    ledger-parts c2 _ _ _ _ book
+    (lives ∙ sym (ap (λ (t : Bool). let ls : List Activity = cond t (lives_of_pairs c.table.entries c.table.lives) [] in ls) h)) refresh hashers
 
 pub forgotten : (c : Core) (t2 : Table) (p : Progress) (zero one : PortBounds) → t2 ≡ record c.table { entries = []; lives = []; owned = [] } → c.table.zero ≡ zero → c.table.one ≡ one → p ≡ progress.fresh zero one
     → (let b : Book = record { id = c.id; zero = t2.zero; one = t2.one; limit = c.limit; alone = c.alone; stage = Unsynced; begun = p.begun; named = p.named; entries = t2.entries; owned = t2.owned; wants = false; coming = [] } in b) ≡ empty_book c.id c.table.zero c.table.one c.limit c.alone

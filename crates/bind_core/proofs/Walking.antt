@@ -144,6 +144,6 @@ pub noted-next : (i : GatewayId) (at : ℕ) (e : Entry) (all rest : List Entry) 
 noted-next i at e all rest ns ns2 here is =
     ap (λ (z : List Note). z ++ retaken i at (back_in rest)) is
     ∙ append_assoc ns (retaken i at (back_in (e ∷ []))) (retaken i at (back_in rest))
-    ∙ ap (λ (z : List Note). ns ++ z) (sym (map-append (λ (p : Pair). let n : Note = record { by = i; at = at; what = Retaken p } in n) (back_in (e ∷ [])) (back_in rest)))
+    ∙ ap (λ (z : List Note). ns ++ z) (sym (map-append (λ (p : Pair). let n : Note = record { by = i; at = at; what = Retaken p; counts = true } in n) (back_in (e ∷ [])) (back_in rest)))
     ∙ ap (λ (z : List Pair). ns ++ retaken i at z) (sym (back-cons e rest))
     ∙ ap (λ (z : List Entry). ns ++ retaken i at (back_in z)) (sym here)

@@ -1,5 +1,9 @@
 -- What callers see of a core.
 use Rattle.std.specs.Prelude.{ℕ, Bool, List, Option, Some, None, true, false, ◌&&◌, ◌||◌, [], map, if◌then◌else◌}
+use Rattle.addresses.specs.declared.transport.TcpFlags.{TcpFlags}
+use Rattle.activity.specs.declared.packets.Packet.{Packet}
+use Rattle.activity.specs.declared.packets.Remote.{Remote}
+use Rattle.activity.specs.declared.packets.Way.{Way}
 use Rattle.nat_types.specs.declared.gateways.GatewayId.{GatewayId}
 use Rattle.nat_types.specs.declared.records.Record.{Record}
 use Rattle.nat_types.specs.declared.records.Record.TheVariants.{Install, Accept, Refuse, Ask, Yes, No, Begin, Put, Done, Want, Grant, Owner, Tell}
@@ -24,13 +28,16 @@ use Rattle.spec_binding.specs.Books.{Book, is_lone, is_synced}
 use Rattle.spec_binding.specs.Ledgers.{Ledger, may_ask}
 use Rattle.bind_core.specs.Changes.{table_after, wants_after}
 
--- The core: its gateway, its table, the most pairs that one inside address may have, after how many centiseconds without an answer it is apart, its stage, whether Begin was taken and not yet Done, the last port that an Owner named,
--- whether its Want is open, and which records of a promised batch are still to be drawn.
+-- The core: its gateway, its table, the most pairs that one inside address may have, after how many centiseconds
+-- without an answer it is apart, whether what comes inward sets the last use of a pair, its stage, whether Begin was
+-- taken and not yet Done, the last port that an Owner named, whether its Want is open, and which records of a promised
+-- batch are still to be drawn.
 pub record Core : Type 0 where
   pub id : GatewayId
   pub table : Table
   pub limit : Option ℕ
   pub alone : ℕ
+  pub inward_refresh : Bool
   pub stage : Stage
   pub begun : Bool
   pub named : ℕ
@@ -55,9 +62,15 @@ book_of c = record {
   coming = c.coming;
 }
 
--- the core's ledger: its book, what its pairs carried, and the hashers of its table
+-- the core's ledger: its book, what its pairs carried, whether what comes inward sets their last use, and the hashers of
+-- its table
 abbrev pub ledger_of : Core → Ledger
-ledger_of c = record { book = book_of c; lives = c.table.lives; hashers = c.table.hashers }
+ledger_of c = record {
+  book = book_of c;
+  lives = c.table.lives;
+  inward_refresh = c.inward_refresh;
+  hashers = c.table.hashers;
+}
 
 -- the core once a row is carried out
 abbrev pub core_after : ℕ → Core → Transition → Core
@@ -83,6 +96,16 @@ is_carried (Some x) p = translates x.state && same_pair x.pair p
 -- whether the pair's key has exactly this pair, and it translates
 abbrev pub carries_pair : Book → Pair → Bool
 carries_pair b p = is_carried (slot_of b.entries p.key) p
+
+-- a packet that the core's gateway carries at time `now`
+abbrev pub packet_at : Core → Remote → Way → TcpFlags → ℕ → Packet
+packet_at c remote way flags now = record {
+  remote = remote;
+  way = way;
+  flags = flags;
+  inward_refresh = c.inward_refresh;
+  at = now;
+}
 
 -- ---- loading
 

@@ -12,6 +12,7 @@ core_of c = record {
   table = c.table;
   limit = c.limit;
   alone = c.alone;
+  inward_refresh = c.inward_refresh;
   stage = c.stage;
   begun = c.loading.begun;
   named = c.loading.named;

@@ -7,6 +7,7 @@ ghost use Rattle.link.specs.Link.{free_places};
 ghost use Rattle.spec_binding.specs.Books.{IsBook, is_synced as is_synced_at, is_apart as is_apart_at};
 ghost use Rattle.spec_binding.specs.Books.{is_lone as is_lone_at, is_promised, empty_book};
 ghost use Rattle.spec_binding.specs.Books.{founded_book};
+ghost use Rattle.spec_binding.specs.Ledgers.{bare_ledger};
 ghost use Rattle.spec_binding.specs.WellFormed.{Fits};
 ghost use Rattle.spec_binding.specs.Rows.{noted_by, after, answered};
 ghost use Rattle.bind_core.specs.Changes.{adds, IsSteady, LivesOn};
@@ -40,6 +41,8 @@ pub struct Core {
     pub(crate) limit: Option<u16>,
     /// After how many centiseconds without an answer of the peer the gateway is apart; 0 is never.
     pub(crate) alone: u16,
+    /// Whether what comes inward sets the last use of a pair.
+    pub(crate) inward_refresh: bool,
     pub(crate) stage: Stage,
     /// The progress of loading the table from the peer's batch.
     pub(crate) loading: Loading,
@@ -174,9 +177,10 @@ impl Core {
 
     /// Returns the core of a gateway without a table. `zero` and `one` are the ranges of gateway 0
     /// and gateway 1; `limit` is the most pairs that one inside address may have, None for any
-    /// number; after `alone` centiseconds without an answer of the peer it is apart, 0 is never.
-    /// Takes all the memory of the core but that of `ready` and `owned`; fails where there isn't
-    /// enough.
+    /// number; after `alone` centiseconds without an answer of the peer it is apart, 0 is never;
+    /// `inward_refresh` says whether what comes inward sets the last use of a pair (RFC 4787,
+    /// REQ-6). Takes all the memory of the core but that of `ready` and `owned`; fails where there
+    /// isn't enough.
     pub fn unsynced(
         alloc: Global,
         id: GatewayId,
@@ -184,15 +188,13 @@ impl Core {
         one: PortBounds,
         limit: Option<u16>,
         alone: u16,
+        inward_refresh: bool,
         hashers: Hashers,
     ) -> Result<Core, AllocError>
         requires zero { AreBounds zero }
         requires one { AreBounds one }
-        ensures ledger { IfOk result (λ c. ledger_of c ≡ record {
-          book = empty_book id zero one limit alone;
-          lives = [];
-          hashers = hashers;
-        }) }
+        ensures ledger { IfOk result (λ c. ledger_of c
+            ≡ bare_ledger (empty_book id zero one limit alone) inward_refresh hashers) }
         ensures hashers { IfOk result (λ c. c.table.hashers ≡ hashers) }
         ensures refused { OnErr result (LacksCore zero one) }
     {
@@ -207,6 +209,7 @@ impl Core {
             table,
             limit,
             alone,
+            inward_refresh,
             stage: Stage::Unsynced,
             loading: Loading::new(zero, one),
             wants: false,
@@ -216,26 +219,33 @@ impl Core {
     }
 
     /// Returns the core of gateway 0, founded alone, which owns the ports of its range. The
-    /// limit, `alone` and the Err are those of `unsynced`.
+    /// limit, `alone`, `inward_refresh` and the Err are those of `unsynced`.
     pub fn founder(
         alloc: Global,
         zero: PortBounds,
         one: PortBounds,
         limit: Option<u16>,
         alone: u16,
+        inward_refresh: bool,
         hashers: Hashers,
     ) -> Result<Core, AllocError>
         requires zero { AreBounds zero }
         requires one { AreBounds one }
-        ensures ledger { IfOk result (λ c. ledger_of c ≡ record {
-          book = founded_book zero one limit alone;
-          lives = [];
-          hashers = hashers;
-        }) }
+        ensures ledger { IfOk result (λ c. ledger_of c
+            ≡ bare_ledger (founded_book zero one limit alone) inward_refresh hashers) }
         ensures hashers { IfOk result (λ c. c.table.hashers ≡ hashers) }
         ensures refused { OnErr result (LacksCore zero one) }
     {
-        let mut core = Core::unsynced(alloc, GatewayId::Zero, zero, one, limit, alone, hashers)?;
+        let mut core = Core::unsynced(
+            alloc,
+            GatewayId::Zero,
+            zero,
+            one,
+            limit,
+            alone,
+            inward_refresh,
+            hashers,
+        )?;
         core.found(zero, one);
         Ok(core)
     }
@@ -248,6 +258,7 @@ impl Core {
         ensures book { book_of self.new
             ≡ founded_book zero one self.old.limit self.old.alone }
         ensures lives { self.new.table.lives ≡ self.old.table.lives }
+        ensures refresh { self.new.inward_refresh ≡ self.old.inward_refresh }
         ensures hashers { self.new.table.hashers ≡ self.old.table.hashers }
     {
         books_begin();

@@ -7,7 +7,7 @@ ghost use Rattle.activity.specs.Lives.{History, came, with_packet, life_begun, l
 ghost use Rattle.bindings.specs.Entries.{is_pair, is_taken, rank_of, slot_of, entry_in};
 ghost use Rattle.bindings.specs.Lists.{place_in, put_in, with_state};
 ghost use Rattle.std.specs.List.{insert};
-ghost use Rattle.bindings.specs.Lives.{KeepsOthers, lives_with};
+ghost use Rattle.bindings.specs.Lives.{KeepsOthers, lives_with, use_counts_at};
 ghost use Rattle.bindings.specs.Ports.{in_bounds, in_either, is_vacant, key_count, ports_in};
 ghost use Rattle.bindings.specs.Runs.{without_port};
 ghost use Rattle.bindings.specs.Table.{AreInRanges, IsPast};
@@ -16,7 +16,7 @@ ghost use Rattle.link.specs.Link.{free_places};
 ghost use Rattle.spec_binding.specs.declared.changes.Change.TheVariants.{Renew, Yield};
 ghost use Rattle.spec_binding.specs.Books.{ports_of};
 ghost use Rattle.spec_binding.specs.WellFormed.{Fits, GivesWay, HasOwnPair, MayGive};
-ghost use Rattle.spec_binding.specs.Rows.{answered, changed, noted_by, is_gained as is_gained_in};
+ghost use Rattle.spec_binding.specs.Rows.{answered, changed, noted_by, noted_with, is_gained as is_gained_in};
 ghost use Rattle.spec_binding.specs.Rows.{is_full, with_gained, without_ports, numbers_of};
 ghost use Rattle.spec_binding.specs.Ledgers.{is_held, lives_after};
 ghost use Rattle.spec_binding.specs.Ledgers.{is_reached as is_reached_at};
@@ -268,18 +268,30 @@ fn push_answer(link: &mut Link, answer: Option<Record>)
     }
 }
 
-pub(crate) fn note(notes: &mut Vec<Note>, by: GatewayId, at: u64, what: Option<NoteKind>)
+/// Notes what happened, if anything did. `counts` says whether a use counts.
+pub(crate) fn note(
+    notes: &mut Vec<Note>,
+    by: GatewayId,
+    at: u64,
+    counts: bool,
+    what: Option<NoteKind>,
+)
     requires { vec_len notes.old < vec_capacity notes.old }
-    ensures items { notes.new.items ≡ notes.old.items ++ noted_by by at what }
+    ensures items { notes.new.items ≡ notes.old.items ++ noted_with counts by at what }
     ensures len { vec_len notes.new ≤ vec_len notes.old + 1 }
     ensures capacity { vec_capacity notes.new ≡ vec_capacity notes.old }
 {
     if let Some(what) = what {
-        notes.push_reserved(Note { by, at, what });
+        notes.push_reserved(Note {
+            by,
+            at,
+            what,
+            counts,
+        });
     }
 }
 
-/// Pushes the row's answer, and notes what the row says.
+/// Pushes the row's answer, and notes what the row says, which is no use.
 pub(crate) fn tell(link: &mut Link, notes: &mut Vec<Note>, by: GatewayId, now: u64, row: Transition)
     requires places { IsTrue (is_some row.answer) → 0 < free_places link.old }
     requires formed { IfSome row.answer IsWellFormedRecord }
@@ -290,12 +302,15 @@ pub(crate) fn tell(link: &mut Link, notes: &mut Vec<Note>, by: GatewayId, now: u
     ensures capacity { vec_capacity notes.new ≡ vec_capacity notes.old }
 {
     push_answer(link, row.answer);
-    note(notes, by, now, row.what);
+    note(notes, by, now, true, row.what);
 }
 
-/// Adds a packet to what the key's pair carried, where the pair is used.
+/// Adds a packet to what the key's pair carried, where the pair is used, and returns whether the use
+/// counts.
 #[inline(always)]
-pub(crate) fn carry_by(table: &mut Table, is_used: bool, key: Key, packet: Packet)
+pub(crate) fn carry_by(table: &mut Table, is_used: bool, key: Key, packet: Packet) -> bool
+    ensures counts { is_used ≡ true → result
+        ≡ use_counts_at table.old.entries table.old.lives key packet }
     ensures same { table.new ≡ record table.old { lives = table.new.lives } }
     ensures lives { table.new.lives ≡ (if is_used then lives_with
         (life_carried key.protocol packet) key table.old.entries table.old.lives
@@ -306,7 +321,9 @@ pub(crate) fn carry_by(table: &mut Table, is_used: bool, key: Key, packet: Packe
         table.new.lives }
 {
     if is_used {
-        table.carried(key, packet.remote, packet.way, packet.flags, packet.at);
+        table.carried(key, packet)
+    } else {
+        false
     }
 }
 

@@ -1,7 +1,6 @@
 //! The packets that a pair carries.
 ghost use Rattle.std.specs.Prelude.{◌≡◌, ◌+◌, ◌<◌, ◌≤◌, ◌++◌, ℕ, Bool, [], true, is_some, vec_len};
 ghost use Rattle.std.specs.Prelude.{vec_capacity, List};
-ghost use Rattle.activity.specs.declared.packets.Packet.{Packet as Carried};
 ghost use Rattle.activity.specs.Lives.{History, with_packet};
 ghost use Rattle.bindings.specs.Lives.{KeepsOthers};
 ghost use Rattle.bindings.specs.Table.{IsPast};
@@ -9,12 +8,13 @@ ghost use Rattle.link.specs.Link.{Link as End};
 ghost use Rattle.nat_types.specs.declared.records.Record.{Record as Rec};
 ghost use Rattle.spec_binding.specs.Machine.{Stands, Works};
 ghost use Rattle.spec_binding.specs.Books.{is_synced as is_synced_at};
-ghost use Rattle.spec_binding.specs.Rows.{wish_of, carry_row, noted_by, quiet as quiet_row};
+ghost use Rattle.spec_binding.specs.Rows.{wish_of, carry_row, quiet as quiet_row};
 ghost use Rattle.spec_binding.specs.Rows.{wish as wish_with};
 ghost use Rattle.spec_binding.specs.declared.changes.Want.TheVariants.{Port as PortOf};
 ghost use Rattle.bindings.specs.Entries.{entry_of, slot_of};
 ghost use Rattle.spec_binding.specs.Ledgers.{carried_ledger};
-ghost use Rattle.bind_core.specs.Cores.{book_of, carries_pair, ledger_of};
+ghost use Rattle.spec_binding.specs.Uses.{carried_notes};
+ghost use Rattle.bind_core.specs.Cores.{book_of, carries_pair, ledger_of, packet_at};
 
 use crate::Core;
 use crate::deeds::{carry_by, is_carried, note};
@@ -55,7 +55,7 @@ impl Core {
     }
 
     /// Adds a packet to or from a remote host to what the pair of a key carried, and notes that the
-    /// pair is used. Nothing changes where the pair doesn't translate.
+    /// pair is used, and whether the use counts. Nothing changes where the pair doesn't translate.
     pub fn carried(
         &mut self,
         key: Key,
@@ -71,32 +71,23 @@ impl Core {
             lives = self.new.table.lives;
           };
         } }
-        ensures ledger { let packet : Carried = record {
-          remote = remote;
-          way = way;
-          flags = flags;
-          at = now;
-        }
-            in ledger_of self.new ≡ carried_ledger key packet (ledger_of self.old) }
-        ensures longer { let packet : Carried = record {
-          remote = remote;
-          way = way;
-          flags = flags;
-          at = now;
-        }
-            in is_some (carry_row (book_of self.old) key).what ≡ true → (past : History)
+        ensures ledger { let packet = packet_at self.old remote way flags now in
+            ledger_of self.new ≡ carried_ledger key packet (ledger_of self.old) }
+        ensures longer { let packet = packet_at self.old remote way flags now in
+            is_some (carry_row (book_of self.old) key).what ≡ true → (past : History)
             → IsPast self.old.table key past
             → IsPast self.new.table key (with_packet packet past) }
         ensures others { KeepsOthers key self.old.table.entries self.old.table.lives
             self.new.table.entries self.new.table.lives }
-        ensures notes { notes.new.items ≡ notes.old.items ++ noted_by self.old.id now
-            (carry_row (book_of self.old) key).what }
+        ensures notes { let packet = packet_at self.old remote way flags now in
+            notes.new.items ≡ notes.old.items ++ carried_notes (ledger_of self.old) key packet }
         ensures len { vec_len notes.new ≤ vec_len notes.old + 1 }
         ensures capacity { vec_capacity notes.new ≡ vec_capacity notes.old }
         // For any end of the link: nothing is pushed.
-        ensures works { (e : End) (h : List Rec) (n : ℕ) → Stands (book_of self.old) e h
+        ensures works { let packet = packet_at self.old remote way flags now in
+            (e : End) (h : List Rec) (n : ℕ) → Stands (book_of self.old) e h
             → Works now [] [] (book_of self.old) e n (book_of self.new) e n
-            (noted_by self.old.id now (carry_row (book_of self.old) key).what) h }
+            (carried_notes (ledger_of self.old) key packet) h }
     {
         carry_works();
         let row = self.carry_row_of(key);
@@ -104,9 +95,10 @@ impl Core {
             remote,
             way,
             flags,
+            inward_refresh: self.inward_refresh,
             at: now,
         };
-        carry_by(&mut self.table, row.what.is_some(), key, packet);
-        note(notes, self.id, now, row.what);
+        let counts = carry_by(&mut self.table, row.what.is_some(), key, packet);
+        note(notes, self.id, now, counts, row.what);
     }
 }

@@ -198,6 +198,7 @@ impl Core {
         ensures lives { let load = loaded (load_of (book_of self.old)) entry
             in self.new.table.lives
             ≡ lives_loaded now entry self.old.table.entries self.old.table.lives load }
+        ensures refresh { self.new.inward_refresh ≡ self.old.inward_refresh }
         ensures hashers { self.new.table.hashers ≡ self.old.table.hashers }
         ensures ready { self.old.table.ready ≤ self.new.table.ready + 1 }
         ensures len { vec_len notes.new ≤ vec_len notes.old + 1 }
@@ -208,7 +209,7 @@ impl Core {
         match self.loading.take(&mut self.table, entry, now) {
             Ok(_) => {
                 self.stage = stage_after(self.stage, loads.is_whole);
-                note(notes, self.id, now, loads.what);
+                note(notes, self.id, now, true, loads.what);
             }
             Err(_out_of_place) => {}
         }

@@ -40,7 +40,12 @@ fn note_if_back(notes: &mut Vec<Note>, entry: Entry, by: GatewayId, at: u64)
 {
     if does_come_back(entry.state) {
         let what = NoteKind::Retaken(entry.pair);
-        notes.push_reserved(Note { by, at, what });
+        notes.push_reserved(Note {
+            by,
+            at,
+            what,
+            counts: true,
+        });
     }
 }
 
@@ -75,6 +80,7 @@ impl Core {
         ensures capacity { vec_capacity notes.new ≡ vec_capacity notes.old }
         ensures lives { self.new.table.lives
             ≡ lives_of_pairs self.old.table.entries self.old.table.lives }
+        ensures refresh { self.new.inward_refresh ≡ self.old.inward_refresh }
         ensures hashers { self.new.table.hashers ≡ self.old.table.hashers }
         ensures ready { self.new.table.ready ≡ self.old.table.ready }
     {
@@ -120,6 +126,7 @@ impl Core {
         ensures book { let b = book_of self.old
             in book_of self.new ≡ empty_book b.id b.zero b.one b.limit b.alone }
         ensures lives { self.new.table.lives ≡ [] }
+        ensures refresh { self.new.inward_refresh ≡ self.old.inward_refresh }
         ensures hashers { self.new.table.hashers ≡ self.old.table.hashers }
         ensures ready { self.new.table.ready ≡ self.old.table.ready }
     {

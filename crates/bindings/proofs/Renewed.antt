@@ -1,12 +1,12 @@
 -- The lives of a table after each of them begins anew.
-use Rattle.std.proofs.Common.{◌≡◌, ℕ, suc, ◌<◌, Bool, true, false, cond, ◌&&◌, Option, Some, None, List, [], ◌∷◌, length, map, refl, sym, ap, ◌∙◌, arith}
+use Rattle.std.proofs.Common.{◌≡◌, ℕ, suc, ◌<◌, Bool, true, false, cond, Option, Some, None, List, [], ◌∷◌, length, map, refl, sym, ap, ◌∙◌, arith}
 use Rattle.std.specs.Option.{option_map}
 use Rattle.std.proofs.lemmas.Bool.{cond-true, cond-false, le-ltb}
-use Rattle.addresses.specs.declared.transport.Protocol.{Protocol}
 use Rattle.nat_types.specs.declared.pairs.Key.{Key}
 use Rattle.nat_types.specs.Same.{same_key}
 use Rattle.nat_types.proofs.Offered.{key-true, key-false}
-use Rattle.activity.specs.Lives.{Activity, History, Agrees, renewed, life_renewed}
+use Rattle.activity.specs.Lives.{Activity, History, renewed, life_renewed}
+use Rattle.activity.proofs.Offered.{agrees-renewed}
 use Rattle.bindings.specs.declared.entries.Entry.{Entry}
 use Rattle.bindings.specs.Entries.{has_key, place_of}
 use Rattle.bindings.specs.Lists.{stands_behind, after_key, key_place, RisesUp}
@@ -82,13 +82,6 @@ life-all g (e ∷ es) (l ∷ ls) q = by (has_key q e) (life-all g es ls q)
     by : (b : Bool) → life_in es (map g ls) q ≡ option_map g (life_in es ls q) → cond b (Some (g l)) (life_in es (map g ls) q) ≡ option_map g (cond b (Some l) (life_in es ls q))
     by true ih = refl
     by false ih = ih
-
-agrees-renewed : (protocol : Protocol) (past : History) (life : Activity) (now : ℕ) → Agrees protocol past life → Agrees protocol (renewed now past) (life_renewed now life)
-agrees-renewed protocol past life now a = record { last = refl; unused = a.unused ∙ same _; sessions = λ t. refl; crowded = λ t. refl }
-  where
-    same : (b : Bool) → b ≡ (b && true)
-    same true = refl
-    same false = refl
 
 -- a key agrees with the renewed past after its life begins anew
 pub past-renewed : (es : List Entry) (ls : List Activity) (q : Key) (past : History) (now : ℕ) → HasPast es ls q past → HasPast es (map (life_renewed now) ls) q (renewed now past)

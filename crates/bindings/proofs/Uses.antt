@@ -1,15 +1,15 @@
 -- The uses of a key's pair, and what its entry knows of them.
-use Rattle.std.proofs.Common.{◌≡◌, ℕ, ◌≤◌, Bool, true, ◌&&◌, Some, List, ◌∷◌, sym, ap, ◌∙◌}
+use Rattle.std.proofs.Common.{◌≡◌, ℕ, ◌≤◌, Bool, true, cond, ◌&&◌, Some, List, ◌∷◌, sym, ap, subst, ◌∙◌}
 use Rattle.std.proofs.lemmas.Bool.{and_parts}
 use Rattle.nat_types.specs.declared.pairs.Key.{Key}
 use Rattle.activity.specs.declared.packets.Packet.{Packet}
 use Rattle.activity.specs.Lives.{History, came, with_packet, renewed, is_idle}
-use Rattle.activity.specs.Rests.{HaveRested}
+use Rattle.activity.specs.Rests.{AccountsFor, HaveRested}
 use Rattle.activity.specs.Lives.{least_rest}
-use Rattle.activity.proofs.Offered.{looks-is, accounts-came, accounts-renewed, accounts-anew, accounts-later, accounts-more, accounts-idle, accounts-unused}
+use Rattle.activity.proofs.Offered.{looks-is, accounts-came, accounts-renewed, accounts-anew, accounts-later, accounts-kept, accounts-idle, accounts-unused}
 use Rattle.bindings.specs.declared.entries.Entry.{Entry}
 use Rattle.bindings.specs.Entries.{slot_of}
-use Rattle.bindings.specs.Lives.{rests_by, rests_at, is_unused_by, is_unused_at, is_among, may_go}
+use Rattle.bindings.specs.Lives.{rests_by, rests_at, is_unused_by, is_unused_at, is_among, may_go, use_counts_by, use_counts_at}
 use Rattle.bindings.specs.Table.{Table, IsTable, IsPast, Accounts, idle_keys_of}
 use Rattle.bindings.proofs.Slots.{slot-key}
 use Rattle.bindings.proofs.Resting.{listed-is}
@@ -17,8 +17,10 @@ use Rattle.bindings.proofs.Resting.{listed-is}
 pub uses-begin : (t : Table) (key : Key) (by_install : Bool) (now : ℕ) (uses : List ℕ) → IsPast t key (came by_install now) → HaveRested (least_rest key.protocol) now uses → Accounts t key now uses
 uses-begin t key by_install now uses is rested = (came by_install now, is, accounts-came key.protocol by_install now uses rested)
 
-pub uses-carried : (t u : Table) (key : Key) (since : ℕ) (uses : List ℕ) (p : Packet) → ((past : History) → IsPast t key past → IsPast u key (with_packet p past)) → since ≤ p.at → Accounts t key since uses → Accounts u key p.at (p.at ∷ uses)
-uses-carried t u key since uses p goes h a = (with_packet p a.0, goes a.0 a.1, accounts-more key.protocol since a.0 uses p h a.2)
+pub uses-carried : (t u : Table) (key : Key) (since : ℕ) (uses : List ℕ) (p : Packet) → ((past : History) → IsPast t key past → IsPast u key (with_packet p past)) → since ≤ p.at → Accounts t key since uses
+    → Accounts u key p.at (cond (use_counts_at t.entries t.lives key p) (p.at ∷ uses) uses)
+uses-carried t u key since uses p goes h a =
+    (with_packet p a.0, goes a.0 a.1, subst (λ b. AccountsFor key.protocol p.at (with_packet p a.0) (cond b (p.at ∷ uses) uses)) (sym (ap (use_counts_by key p) a.1.1)) (accounts-kept key.protocol since a.0 a.1.0 uses p h a.1.2 a.2))
 
 pub uses-renewed : (t u : Table) (key : Key) (since now : ℕ) (uses : List ℕ) → ((past : History) → IsPast t key past → IsPast u key (renewed now past)) → HaveRested (least_rest key.protocol) now uses → Accounts t key since uses → Accounts u key now uses
 uses-renewed t u key since now uses goes rested a = (renewed now a.0, goes a.0 a.1, accounts-renewed key.protocol a.0 now uses rested)

@@ -5,7 +5,8 @@ use Rattle.nat_types.specs.declared.pairs.EntryState.TheVariants.{Pending, Doome
 use Rattle.nat_types.specs.declared.pairs.Key.{Key}
 use Rattle.nat_types.specs.Same.{same_key}
 use Rattle.addresses.specs.declared.transport.Protocol.{Protocol}
-use Rattle.activity.specs.Lives.{History, Activity, Agrees, looks_idle}
+use Rattle.activity.specs.declared.packets.Packet.{Packet}
+use Rattle.activity.specs.Lives.{History, Activity, Agrees, counts_at, looks_idle}
 use Rattle.std.specs.List.{list_any}
 use Rattle.bindings.specs.declared.entries.Entry.{Entry}
 use Rattle.bindings.specs.Entries.{has_key}
@@ -87,3 +88,13 @@ is_unused_by (Some life) = life.is_unused
 -- a key's entry came by Install and carried nothing since, by its life; a key without an entry didn't
 abbrev pub is_unused_at : List Entry → List Activity → Key → Bool
 is_unused_at es ls key = is_unused_by (life_in es ls key)
+
+abbrev pub use_counts_by : Key → Packet → Option Activity → Bool
+use_counts_by key p None = false
+use_counts_by key p (Some life) = counts_at key.protocol life p
+
+-- The use that a key's pair makes as it carries a packet counts, by the life of its entry: all but those of loose
+-- segments and, where `inward_refresh` is false, of packets of UDP and ICMP inward. That of a key without an entry
+-- doesn't.
+abbrev pub use_counts_at : List Entry → List Activity → Key → Packet → Bool
+use_counts_at es ls key p = use_counts_by key p (life_in es ls key)

@@ -1,10 +1,10 @@
 //! Laws of the table.
-ghost use Rattle.std.specs.Prelude.{◌≡◌, ℕ, ◌<◌, ◌≤◌, List, ◌∷◌, length, Bool, true, Some, None};
+ghost use Rattle.std.specs.Prelude.{◌≡◌, ℕ, ◌<◌, ◌≤◌, List, ◌∷◌, length, Bool, true, Some, None, if◌then◌else◌};
 ghost use Rattle.nat_types.specs.declared.pairs.Key.{Key as OutsidePort};
 ghost use Rattle.bindings.specs.Entries.{slot_of};
 ghost use Rattle.bindings.specs.Ports.{in_either};
 ghost use Rattle.bindings.specs.Table.{Table as Seen, IsTable, AreInRanges, IsPast, Accounts, idle_keys_of};
-ghost use Rattle.bindings.specs.Lives.{rests_at, is_unused_at, is_among};
+ghost use Rattle.bindings.specs.Lives.{rests_at, is_unused_at, use_counts_at, is_among};
 ghost use Rattle.bindings.specs.declared.entries.Entry.{Entry as Row};
 ghost use Rattle.activity.specs.Lives.{History, came, with_packet, renewed};
 ghost use Rattle.activity.specs.Rests.{HaveRested};
@@ -19,11 +19,11 @@ pub fn room_law()
 {}
 
 /// States what a key's entry knows of the uses of its pair. A list of uses has the times at which the gateway used a
-/// key's pair in its present life. `Accounts` says that the key's entry knows of all of them. That begins where they
-/// have rested and the entry comes in (`begins`) or is renewed (`renewed`), and goes on with a carried packet
-/// (`carried`), where the entry's life begins anew while its pair is in use (`anew`), and with any change that leaves
-/// the entry its pasts (`kept`). Where the entry is idle, or unused, all the uses have rested (`idle`, `listed`,
-/// `unused`): `HaveRested` of `activity` says what that means for a trace.
+/// key's pair in its present life, of the uses that count. `Accounts` says that the key's entry knows of all of them.
+/// That begins where they have rested and the entry comes in (`begins`) or is renewed (`renewed`), and goes on with a
+/// carried packet, whose use is one more where it counts (`carried`), where the entry's life begins anew while its pair
+/// is in use (`anew`), and with any change that leaves the entry its pasts (`kept`). Where the entry is idle, or unused,
+/// all the uses have rested (`idle`, `listed`, `unused`): `HaveRested` of `activity` says what that means for a trace.
 pub fn uses_law()
     ensures begins { (t : Seen) → (key : OutsidePort) → (by_install : Bool) → (now : ℕ)
         → (uses : List ℕ) → IsPast t key (came by_install now)
@@ -32,7 +32,8 @@ pub fn uses_law()
         → (packet : Carried)
         → ((past : History) → IsPast t key past → IsPast u key (with_packet packet past))
         → since ≤ packet.at → Accounts t key since uses
-        → Accounts u key packet.at (packet.at ∷ uses) }
+        → Accounts u key packet.at (if use_counts_at t.entries t.lives key packet
+        then packet.at ∷ uses else uses) }
     ensures renewed { (t u : Seen) → (key : OutsidePort) → (since now : ℕ)
         → (uses : List ℕ)
         → ((past : History) → IsPast t key past → IsPast u key (renewed now past))

@@ -9,10 +9,11 @@ ghost use Rattle.bindings.specs.Memory.{LacksStore};
 ghost use Rattle.bindings.specs.Stores.{one_of};
 ghost use Rattle.std.specs.Prelude.{IsSome};
 ghost use Rattle.std.specs.List.{insert};
+ghost use Rattle.std.specs.Option.{option_map};
 ghost use Rattle.bindings.specs.declared.entries.Entry.{Entry as Row};
 ghost use Rattle.bindings.specs.Entries.{is_of_rank, is_pair, is_pair_of, is_sought, pairs_of, serves, slot_of, entry_of, entry_on, entry_in, state_count, HasDistinctEndpoints};
 ghost use Rattle.bindings.specs.Lists.{put_in, place_in, without, with_state, after_key, key_place, RisesUp};
-ghost use Rattle.bindings.specs.Lives.{life_in, lives_with, lives_without, rests_at, is_unused_at};
+ghost use Rattle.bindings.specs.Lives.{life_in, lives_with, lives_without, rests_at, is_unused_at, use_counts_at, use_counts_by};
 ghost use Rattle.activity.specs.Lives.{Activity as Lived, History, Agrees, with_packet, renewed, life_carried, life_renewed};
 ghost use Rattle.slots.specs.Rows.{item_of, number_of, with_item};
 ghost use Rattle.std.specs.Prelude.{IfSome};
@@ -176,9 +177,11 @@ fn put_state(slots: &mut PortSlots<Item>, key: Key, pair: Pair, state: EntryStat
     }
 }
 
-/// Adds a packet to the life in a key's slot.
+/// Adds a packet to the life in a key's slot, and returns whether the use that the packet makes counts.
 #[inline(always)]
-fn put_packet(slots: &mut PortSlots<Item>, key: Key, packet: Packet)
+fn put_packet(slots: &mut PortSlots<Item>, key: Key, packet: Packet) -> bool
+    ensures counts { result ≡ use_counts_by key packet
+        (option_map (λ i. i.life) (item_of slots.old.rows key)) }
     ensures some { (item : Kept) → item_of slots.old.rows key ≡ Some item → slots.new
         ≡ record slots.old {
           rows = with_item key (record item {
@@ -192,8 +195,9 @@ fn put_packet(slots: &mut PortSlots<Item>, key: Key, packet: Packet)
         key.protocol past item.life → Agrees key.protocol (with_packet packet past)
         (life_carried key.protocol packet item.life) }
 {
-    if let Some(item) = slots.get_mut(key) {
-        item.life.carried(key.protocol, packet);
+    match slots.get_mut(key) {
+        Some(item) => item.life.carried(key.protocol, packet),
+        None => false,
     }
 }
 
@@ -526,9 +530,10 @@ impl Store {
         self.tally = Tally::none();
     }
 
-    /// Adds a packet that a key's pair carried to its life.
+    /// Adds a packet that a key's pair carried to its life, and returns whether the use that the packet makes counts.
     #[inline(always)]
-    pub(crate) fn carry(&mut self, key: Key, packet: Packet)
+    pub(crate) fn carry(&mut self, key: Key, packet: Packet) -> bool
+        ensures counts { result ≡ use_counts_at self.old.entries self.old.lives key packet }
         ensures lives { self.new ≡ record self.old {
           lives = lives_with (life_carried key.protocol packet) key self.old.entries self.old.lives;
         } }
@@ -538,8 +543,9 @@ impl Store {
             packet past) (life_carried key.protocol packet life) }
     {
         self.slots.recall();
-        put_packet(&mut self.slots, key, packet);
+        let counts = put_packet(&mut self.slots, key, packet);
         set_in_time(&self.slots, &mut self.dues, self.watch, key);
+        counts
     }
 
     /// Begins the life of a key's pair anew at `now`, with an empty list of packets.

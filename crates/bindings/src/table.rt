@@ -6,7 +6,6 @@ ghost use Rattle.bindings.specs.Memory.{LacksTable};
 ghost use Rattle.nat_types.specs.declared.pairs.Key.{Key as OutsidePort};
 ghost use Rattle.activity.specs.Lives.{History, came, with_packet, renewed, is_idle, is_unused};
 ghost use Rattle.bindings.specs.declared.entries.Entry.{Entry as Row};
-ghost use Rattle.activity.specs.declared.packets.Packet.{Packet as Carried};
 ghost use Rattle.slots.specs.declared.ranks.Rank.{Rank as Which};
 ghost use Rattle.bindings.specs.Entries.{is_alone, is_markable, is_of_rank, is_pair, translates, waits, with_mark};
 ghost use Rattle.bindings.specs.Entries.{slot_of, entry_of, held_entry_of, set_at, refusal_of, entry_in, pairs_in, pairs_of, state_count};
@@ -14,7 +13,7 @@ ghost use Rattle.bindings.specs.Lists.{put_in, after_key, first_after};
 ghost use Rattle.bindings.specs.Revivals.{revived_entries, revived_slot, lives_of_pairs};
 ghost use Rattle.bindings.specs.Table.{empty_table};
 ghost use Rattle.bindings.specs.Runs.{own_in, without_port, all_ports, first_run, port_at};
-ghost use Rattle.bindings.specs.Lives.{KeepsOthers, is_among, may_go, rests_at, is_unused_at};
+ghost use Rattle.bindings.specs.Lives.{KeepsOthers, is_among, may_go, rests_at, is_unused_at, use_counts_at};
 ghost use Rattle.bindings.specs.Ports.{AreBounds, in_either, key_count, is_open_in, is_vacant, is_spare, chosen_port, ports_in};
 ghost use Rattle.bindings.specs.Table.{IsTable, IsPast, owns, alone_keys_of, idle_keys_of, is_alone_at, is_marked_at, with_entry_state, without_entry};
 ghost use Rattle.bindings.specs.Dues.{watched_keys};
@@ -34,8 +33,8 @@ use crate::store::Store;
 use crate::tallies::Sought;
 use crate::watches::Watch;
 use crate::{Entry, PortBounds, TableFault};
-use activity::{Activity, Packet, Remote, Way};
-use addresses::{Ip, Parity, Port, Protocol, TcpFlags};
+use activity::{Activity, Packet};
+use addresses::{Ip, Parity, Port, Protocol};
 use memory::reserve_exact;
 use nat_types::{Endpoint, EntryState, Key, Pair};
 use slots::{Hashers, Rank};
@@ -482,38 +481,21 @@ impl Table {
         self.ports.spare_below(end)
     }
 
-    /// Adds a packet that the pair of a key carried, to or from a remote host, to the pair's life. The flags of a UDP
-    /// packet aren't read. A key without an entry changes nothing.
+    /// Adds a packet that the pair of a key carried, to or from a remote host, to the pair's life, and returns whether
+    /// the use that the packet makes counts. The flags of a UDP packet aren't read; `inward_refresh` of the packet says
+    /// whether what comes inward sets the last use. A key without an entry changes nothing, and its use doesn't count.
     #[inline(always)]
-    pub fn carried(&mut self, key: Key, remote: Remote, way: Way, flags: TcpFlags, now: u64)
-        ensures longer { let packet : Carried = record {
-          remote = remote;
-          way = way;
-          flags = flags;
-          at = now;
-        }
-            in (past : History) → IsPast self.old key past
+    pub fn carried(&mut self, key: Key, packet: Packet) -> bool
+        ensures counts { result ≡ use_counts_at self.old.entries self.old.lives key packet }
+        ensures longer { (past : History) → IsPast self.old key past
             → IsPast self.new key (with_packet packet past) }
-        ensures lives { let packet : Carried = record {
-          remote = remote;
-          way = way;
-          flags = flags;
-          at = now;
-        }
-            in self.new.lives ≡ lives_with (life_carried key.protocol packet) key
+        ensures lives { self.new.lives ≡ lives_with (life_carried key.protocol packet) key
             self.old.entries self.old.lives }
         ensures others { KeepsOthers key self.old.entries self.old.lives self.new.entries
             self.new.lives }
         ensures same { self.new ≡ record self.old { lives = self.new.lives } }
     {
-        let at = now;
-        let packet = Packet {
-            remote,
-            way,
-            flags,
-            at,
-        };
-        self.store.carry(key, packet);
+        self.store.carry(key, packet)
     }
 
     /// Begins the life of a key's pair anew at `now`, with an empty list of packets. A key without an entry changes

@@ -21,9 +21,10 @@ impl Cores {
         }
     }
 
-    /// Begins a new core, in place of the one before, by a line such as `0 founder 20000 20003 40000 40003 200 2 100`:
-    /// its gateway, how it begins, both ranges, the places of the link, the most pairs that an inside address may have,
-    /// if there is a limit, and after how many centiseconds without an answer it is apart, if ever.
+    /// Begins a new core, in place of the one before, by a line such as `0 founder 20000 20003 40000 40003 200 2 100
+    /// outward`: its gateway, how it begins, both ranges, the places of the link, the most pairs that an inside address
+    /// may have, if there is a limit, after how many centiseconds without an answer it is apart, if ever, and whether
+    /// what comes inward keeps no pair.
     fn begin(&mut self, case: &mut Case) {
         let id = case.gateway();
         let is_founder = case.is_first("founder", "unsynced");
@@ -36,11 +37,20 @@ impl Cores {
         let Some(alone) = alone_in(case) else {
             return;
         };
+        let inward_refresh = case.left() == 0 || case.is_first("all", "outward");
         if is_founder && id == GatewayId::One {
             return refuse("no beginning founder", case);
         }
         let side = Side::new(
-            case.alloc, id, is_founder, zero, one, capacity, limit, alone,
+            case.alloc,
+            id,
+            is_founder,
+            zero,
+            one,
+            capacity,
+            limit,
+            alone,
+            inward_refresh,
         );
         self.put(side, case);
     }

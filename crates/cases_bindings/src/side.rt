@@ -56,15 +56,16 @@ fn begin_core(
     one: PortBounds,
     limit: Option<u16>,
     alone: u16,
+    inward_refresh: bool,
 ) -> Option<Core>
     requires zero { AreBounds zero }
     requires one { AreBounds one }
 {
     let hashers = Hashers::fixed();
     if is_founder {
-        return Core::founder(alloc, zero, one, limit, alone, hashers).ok();
+        return Core::founder(alloc, zero, one, limit, alone, inward_refresh, hashers).ok();
     }
-    Core::unsynced(alloc, id, zero, one, limit, alone, hashers).ok()
+    Core::unsynced(alloc, id, zero, one, limit, alone, inward_refresh, hashers).ok()
 }
 
 /// Returns how many ports a table's gateway owns, or None where there is no memory for their list.
@@ -111,11 +112,21 @@ impl Side {
         capacity: usize,
         limit: Option<u16>,
         alone: u16,
+        inward_refresh: bool,
     ) -> Option<Side>
         requires zero { AreBounds zero }
         requires one { AreBounds one }
     {
-        let core = begin_core(alloc, id, is_founder, zero, one, limit, alone)?;
+        let core = begin_core(
+            alloc,
+            id,
+            is_founder,
+            zero,
+            one,
+            limit,
+            alone,
+            inward_refresh,
+        )?;
         let (core, link) = beside(core, Link::new(alloc, id, 1, capacity)).ok()?;
         Some(Side {
             alloc,

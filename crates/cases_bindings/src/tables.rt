@@ -5,6 +5,7 @@ ghost use Rattle.bindings.specs.Ports.{AreBounds};
 use crate::listing::{list, tell_found};
 use crate::ports::parity;
 use crate::states::{is_markable, may_turn, state_name};
+use activity::Packet;
 use addresses::Port;
 use bindings::{Entry, Hashers, PortBounds, Table};
 use cases_words::{Actor, Case};
@@ -18,6 +19,8 @@ pub(crate) struct TableCase {
     table: Table,
     zero: PortBounds,
     one: PortBounds,
+    /// Whether what comes inward keeps its pair.
+    inward_refresh: bool,
     ghost first: { table.zero ≡ zero },
     ghost second: { table.one ≡ one },
 }
@@ -68,7 +71,12 @@ impl TableCase {
         requires one { AreBounds one }
     {
         let table = Table::new(case.alloc, zero, one, Hashers::fixed())?;
-        let mut made = TableCase { table, zero, one };
+        let mut made = TableCase {
+            table,
+            zero,
+            one,
+            inward_refresh: true,
+        };
         made.own_first(case);
         Ok(made)
     }
@@ -87,6 +95,7 @@ impl TableCase {
             "new" => self.begin(case),
             "own" => self.own(case.port(), case),
             "disown" => self.disown(case.port(), case),
+            "refresh" => self.inward_refresh = case.is_first("all", "outward"),
             "carried" => self.carry(case),
             "renew" => self.table.renew(case.key(), case.number()),
             "renew_all" => self.table.renew_all(case.number()),
@@ -198,9 +207,15 @@ impl TableCase {
     }
 
     fn carry(&mut self, case: &mut Case) {
-        let (key, remote) = (case.key(), case.remote());
-        let (way, flags) = (case.way(), case.flags());
-        self.table.carried(key, remote, way, flags, case.number());
+        let key = case.key();
+        let packet = Packet {
+            remote: case.remote(),
+            way: case.way(),
+            flags: case.flags(),
+            inward_refresh: self.inward_refresh,
+            at: case.number(),
+        };
+        self.table.carried(key, packet);
     }
 
     fn set_state(&mut self, case: &mut Case) {

@@ -27,6 +27,7 @@ impl Trace {
             by: case.gateway(),
             at: case.number(),
             what: happening(case),
+            counts: true,
         };
         case.keep(self.notes.push(note));
     }

@@ -165,7 +165,7 @@ impl AnyGateway for Gateway {
         } else {
             None
         };
-        let mut log = EventLog::new(Sink::new(lines, Format::Text), mappings);
+        let mut log = EventLog::new(Sink::new(lines, Format::Text), false, mappings);
         if orders.stops {
             serve(
                 alloc, self, wire, clock, &mut until, manager, &mut log, options,

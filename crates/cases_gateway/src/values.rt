@@ -141,6 +141,7 @@ fn make(report: &mut ApartReport, case: &mut Case) {
         by: GatewayId::Zero,
         at: 0,
         what,
+        counts: true,
     };
     let notes = [note(NoteKind::Alone(pair)), note(NoteKind::Used(pair))];
     for _ in 0..case.number() {

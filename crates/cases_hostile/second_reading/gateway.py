@@ -225,14 +225,15 @@ class Gateway:
             return 10
         mac, sender, target = body[8:14], body[14:18], body[24:28]
         is_other = side.holds(sender) and sender not in (side.virtual, side.ip)
-        if is_other and mac != bytes(6) and mac[0] % 2 == 0:
-            side.neighbours.learn(sender, mac, self.now)
+        is_for_us = target in (side.ip, side.virtual) or bool(self.waiting_for(side, sender))
+        is_known = is_other and mac != bytes(6) and mac[0] % 2 == 0
+        is_known = is_known and side.neighbours.learn(sender, mac, is_for_us, self.now)
         if body[6:8] == b"\0\1" and target == side.ip:
             self.answer(side, side.mac, side.ip, mac, sender)
         if body[6:8] == b"\0\1" and target == side.virtual and side.is_active():
             self.answer(side, side.virtual_mac, side.virtual, mac, sender)
-        if side.neighbours.mac_of(sender, self.now) is not None:
-            self.retake([kept for kept in self.waiting if kept.hop == (side.name, sender)])
+        if is_known:
+            self.retake(self.waiting_for(side, sender))
         return "done"
 
     def answer(self, side, own_mac, own, mac, sender):
@@ -242,9 +243,16 @@ class Gateway:
         advert = router.advert_of(packet)
         if advert is None or advert[0] != side.vrid or packet.source == side.ip:
             return 11
+        if self.settings["peer_only"] and not self.is_other_box(side, packet.source, *advert[1:]):
+            return 11
         if side.router.heard(advert[1], advert[2], packet.source, self.now):
             self.advertise(side, side.router.priority)
         return "done"
+
+    def is_other_box(self, side, source, priority, interval):
+        other = self.settings["gateways"][1 - self.number]
+        is_its = source == other[side.name + "_ip"] and interval == other["interval"]
+        return is_its and priority in (0, other["priority"])
 
     def take_packet(self, side, frame, packet):
         inner = None
@@ -342,6 +350,8 @@ class Gateway:
         kept = [kept for kept in self.waiting if kept.pair]
         if len(kept) >= 64 or any(one.pair == endpoint for one in kept):
             return 15
+        if sum(one.pair[1] == endpoint[1] for one in kept) >= 16:
+            return 15
         if is_new:
             self.core.make(endpoint, self.now)
         self.waiting.append(Waiting(frame, side, self.now, pair=endpoint))
@@ -368,7 +378,7 @@ class Gateway:
         return 15
 
     def use(self, entry, remote, way, packet):
-        entry.carried(remote, way, packet.flags(), self.now)
+        entry.carried(remote, way, packet.flags(), self.now, self.settings["inward_refresh"])
         self.note("Used", entry.pair)
 
     def pass_to(self, out, hop, octets):

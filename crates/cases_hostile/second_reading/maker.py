@@ -13,6 +13,9 @@ STRANGERS = {"inside": HOSTS[2], "outside": REMOTES[2]}
 PORTS = [5000, 5001, 5002, 5003]
 FLAGS = [wire.SYN, wire.SYN | wire.ACK, wire.ACK, wire.ACK, wire.FIN | wire.ACK]
 FLAGS += [wire.RST, wire.FIN, wire.SYN | wire.FIN]
+# Options of a packet: source routes alone, behind others and behind what ends the list, and none.
+OPTIONS = ["830704c633640700", "8907040000000000", "0183070400000000", "0707040000000000", "9404000089030000"]
+OPTIONS += ["0083070400000000", "8200830704000000", "83", "890c"]
 STEPS = [(4, 1), (8, 10), (4, 37), (4, 100), (3, 300), (2, 364), (1, 6000), (1, 24000), (2, 30000), (1, 744000)]
 
 
@@ -66,6 +69,8 @@ class Maker:
         number = self.serving(side)
         target = bytes.fromhex("00005e0001") + bytes([self.settings[side]["vrid"]])
         source = bytes.fromhex("020000000099")
+        if self.chance.below(12) == 0:
+            octets = wire.with_options(octets, bytes.fromhex(self.chance.one_of(OPTIONS)))
         self.hand(number, side, wire.ethernet(target, source, wire.IPV4, octets))
 
     def hand(self, number, side, frame):
@@ -131,27 +136,29 @@ class Maker:
             self.do("frame", self.serving(side), side, self.chance.one_of(self.frames))
 
     def arp(self):
-        """A stranger answers, or asks for the gateway's address or for the virtual one."""
+        """A stranger answers, or asks for, the gateway's address, the virtual one, or one that is somebody else's."""
         side, number = self.chance.one_of(["inside", "outside"]), self.box()
         own, stranger = self.settings["gateways"][number], STRANGERS[side]
         mac = bytes.fromhex("0200000000") + bytes([0x0C + self.chance.below(2)])
-        target = self.chance.one_of([own[side + "_ip"], self.settings[side]["virtual"]])
+        target = self.chance.one_of([own[side + "_ip"], self.settings[side]["virtual"], stranger, REMOTES[0]])
         if self.chance.below(3):
-            octets = wire.arp(2, mac, stranger, own[side + "_mac"], own[side + "_ip"])
+            octets = wire.arp(2, mac, stranger, own[side + "_mac"], target)
             self.do("frame", number, side, wire.ethernet(own[side + "_mac"], mac, wire.ARP, octets))
         else:
             octets = wire.arp(1, mac, stranger, bytes(6), target)
             self.do("frame", number, side, wire.ethernet(router.BROADCAST, mac, wire.ARP, octets))
 
     def advert(self):
-        """An advertisement as the other gateway of the pair sends it, or of another priority."""
+        """An advertisement as the other gateway of the pair sends it, or of another priority, interval or address."""
         number, side = self.box(), self.chance.one_of(["inside", "outside"])
         other = self.settings["gateways"][1 - number]
         priority = self.chance.weighed([(6, other["priority"]), (1, 0), (1, 255), (1, 100)])
         vrid = self.settings[side]["vrid"]
-        message = bytes([0x31, vrid, priority, 1, 0, 100, 0, 0]) + self.settings[side]["virtual"]
+        interval = self.chance.weighed([(8, other["interval"]), (1, 99)])
+        message = bytes([0x31, vrid, priority, 1, 0, interval, 0, 0]) + self.settings[side]["virtual"]
         message = message[:6] + wire.two(wire.complement(message)) + message[8:]
-        octets = wire.ipv4(112, other[side + "_ip"], router.GROUP, message, ttl=255, identification=0)
+        source = self.chance.weighed([(8, other[side + "_ip"]), (1, STRANGERS[side])])
+        octets = wire.ipv4(112, source, router.GROUP, message, ttl=255, identification=0)
         mac = bytes.fromhex("00005e0001") + bytes([vrid])
         self.do("frame", number, side, wire.ethernet(router.GROUP_MAC, mac, wire.IPV4, octets))
 

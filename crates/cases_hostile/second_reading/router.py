@@ -62,34 +62,53 @@ class Router:
         return True
 
 
-class Neighbours:
-    """The ARP cache of a side."""
+class Neighbour:
+    """What was learnt of an address, and when; when it was asked for last behind a packet sent to it, or learnt; whether a
+    packet was sent to it since it was learnt, and whether the last word of it gave it another MAC."""
 
-    LIFE, OLD, PLACES = 120000, 90000, 1024
+    def __init__(self, mac, now):
+        self.mac, self.heard, self.asked, self.is_sent, self.is_changed = mac, now, now, False, False
+
+
+class Neighbours:
+    """The ARP cache of a side, in the order in which neighbours were heard."""
+
+    LIFE, OLD, AGAIN, PLACES = 120000, 3000, 100, 1024
 
     def __init__(self, fixed):
         self.fixed, self.learnt = dict(fixed), {}
 
-    def learn(self, address, mac, now):
-        self.learnt.pop(address, None)
-        if len(self.learnt) == self.PLACES:
-            self.learnt.pop(next(iter(self.learnt)))
-        self.learnt[address] = [mac, now, None]
+    def learn(self, address, mac, is_for_us, now):
+        """Whether an ARP packet of this sender teaches anything: one for another only renews what is known."""
+        entry = self.learnt.pop(address, None)
+        if entry is not None:
+            entry.is_changed, entry.mac, entry.heard = entry.mac != mac, mac, now
+        elif is_for_us:
+            if len(self.learnt) == self.PLACES:
+                first = next(iter(self.learnt))
+                self.learnt.pop(next((it for it, other in self.learnt.items() if not other.is_sent), first))
+            entry = Neighbour(mac, now)
+        else:
+            return False
+        self.learnt[address] = entry
+        return True
 
     def mac_of(self, address, now):
         if address in self.fixed:
             return self.fixed[address]
         entry = self.learnt.get(address)
-        return entry[0] if entry and now - entry[1] < self.LIFE else None
+        return entry.mac if entry and now - entry.heard < self.LIFE else None
 
     def ask(self, address, now):
-        """Whether a packet that was just sent to this address has it asked for."""
+        """A packet was just sent to this address: whether it is asked for."""
         entry = self.learnt.get(address)
-        if address in self.fixed or entry is None or now - entry[1] < self.OLD:
+        if address in self.fixed or entry is None:
             return False
-        if entry[2] is not None and now - entry[2] < 100:
+        entry.is_sent = True
+        is_old = entry.is_changed or now - entry.heard >= self.OLD
+        if not is_old or now - entry.asked < self.AGAIN:
             return False
-        entry[2] = now
+        entry.asked = now
         return True
 
 

@@ -11,6 +11,8 @@ def read(path):
     settings = {"ranges": [text["ports"]["zero"], text["ports"]["one"]]}
     settings["host_limit"] = text["ports"].get("host_limit")
     settings["pass"] = text.get("fragments", {}).get("pass", False)
+    settings["inward_refresh"] = text["ports"].get("inward_refresh", True)
+    settings["peer_only"] = text.get("vrrp", {}).get("peer_only", False)
     for side in ("inside", "outside"):
         settings[side] = dict(text[side], virtual=address(text[side]["virtual"]), neighbours={})
     settings["outside"]["router"] = address(text["outside"]["router"])

@@ -15,12 +15,7 @@ class Session:
     def __init__(self, remote, way, flags, now):
         self.remote, self.last = remote, now
         self.finished, self.plain = set(), set()
-        if flags & RST:
-            self.state = CLOSED
-        elif flags & SYN and not flags & ACK:
-            self.state = OPENING
-        else:
-            self.state = ESTABLISHED
+        self.state = CLOSED if flags & RST else OPENING if flags & SYN else ESTABLISHED
         self.mark(way, flags)
 
     def mark(self, way, flags):
@@ -58,19 +53,28 @@ class Entry:
 
     def renew(self, now):
         """Its life begins anew."""
-        self.last, self.sessions, self.is_crowded = now, [], False
+        self.last, self.sessions, self.is_crowded, self.has_carried = now, [], False, False
 
     def translates(self):
         return self.state in (LIVE, HELD)
 
-    def carried(self, remote, way, flags, now):
-        self.last, self.was_used = now, True
+    def carried(self, remote, way, flags, now, inward_refresh):
+        """A packet keeps the pair, but for one that whoever it comes from may send unasked."""
+        is_first, self.has_carried, self.was_used = not self.has_carried, True, True
+        begins = way == "outward" and (is_first or not flags & RST)
+        course = next((session for session in self.sessions if session.remote == remote), None)
+        keeps = begins or course is not None if self.pair[0] == TCP else way == "outward"
+        if keeps or inward_refresh:
+            self.last = now
         if self.pair[0] != TCP:
             return
-        for session in self.sessions:
-            if session.remote == remote:
-                return session.carried(way, flags, now)
-        fresh = Session(remote, way, flags, now)
+        if course is not None:
+            course.carried(way, flags, now)
+        elif begins:
+            self.begin(Session(remote, way, flags, now), now)
+
+    def begin(self, fresh, now):
+        """A session takes a free place, or that of one that is over; else the pair is crowded."""
         if len(self.sessions) < SESSIONS:
             return self.sessions.append(fresh)
         for place, session in enumerate(self.sessions):

@@ -74,7 +74,21 @@ def header_reason(octets):
         return 4
     if not is_right(octets[:size]):
         return 5
+    if has_source_route(octets[20:size]):
+        return 21
     return 6 if number(octets[6:8]) & 0x3FFF else None
+
+
+def has_source_route(options):
+    """Whether there is a loose or a strict source route before the list of options ends, or breaks off."""
+    while options and options[0] != 0:
+        if options[0] in (0x83, 0x89):
+            return True
+        size = 1 if options[0] == 1 else options[1] if len(options) > 1 else 0
+        if size == 0 or (options[0] != 1 and size < 2) or size > len(options):
+            return False
+        options = options[size:]
+    return False
 
 
 def is_error(packet):
@@ -198,6 +212,15 @@ def ipv4(protocol, source, target, body, ttl=64, identification=1):
     head[12:16], head[16:20] = source, target
     head[10:12] = two(complement(bytes(head)))
     return bytes(head) + body
+
+
+def with_options(packet, options):
+    """A packet without options with these ones, which may end anywhere: what follows is the end of the list."""
+    options += bytes(-len(options) % 4)
+    head = bytearray(packet[:20] + options)
+    head[0], head[2:4], head[10:12] = 0x45 + len(options) // 4, two(len(packet) + len(options)), b"\0\0"
+    head[10:12] = two(complement(bytes(head)))
+    return bytes(head) + packet[20:]
 
 
 def with_transport_sum(protocol, source, target, body):

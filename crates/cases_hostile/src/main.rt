@@ -1,11 +1,12 @@
 //! Runs cut and changed bytes, and hostile scripts. Each vector of `vectors.cases` is given to a gateway cut at every
 //! length and with every byte changed. Each script of `scripts.list` is run event by event, with `audit` after each.
-//! The program prints the outcomes, and a digest of the output meanwhile.
+//! The program prints the outcomes, and a digest of the output meanwhile. Of the worked rows of `rows.list` it prints all.
 #![tactic(auto)]
 
 mod benches;
 mod desks;
 mod gates;
+mod rows;
 mod runs;
 mod tallies;
 mod telling;
@@ -14,6 +15,7 @@ use anyhow::Result;
 use cases_words::{Case, play};
 use desks::Desk;
 use gateway::Gateway;
+use rows::Rows;
 use runs::Scripts;
 
 fn try_vectors(rt: &HostRuntime, case: &mut Case) -> Result<()> {
@@ -25,7 +27,8 @@ fn try_vectors(rt: &HostRuntime, case: &mut Case) -> Result<()> {
 
 fn try_all(rt: &HostRuntime, case: &mut Case) -> Result<()> {
     try_vectors(rt, case)?;
-    play(rt, "scripts.list", Scripts { rt: *rt }, case)
+    play(rt, "scripts.list", Scripts { rt: *rt }, case)?;
+    play(rt, "rows.list", Rows { rt: *rt }, case)
 }
 
 fn main(rt: HostRuntime) -> Result<()> {

@@ -29,18 +29,32 @@ impl Actor for Scripts {
         let script = case.or_empty(script);
         let settings = text_at(&self.rt, case.word(), "toml");
         let settings = case.or_empty(settings);
-        match read(case.alloc, settings.as_str(), script.as_str()) {
-            Ok(job) => {
-                run(&job.settings, job.events.as_slice(), case);
-                drop(job);
-            }
-            Err(_) => case.fault(),
+        run_texts(settings.as_str(), script.as_str(), Told::Digest, case);
+    }
+}
+
+/// What is printed of a script's run.
+#[derive(Clone, Copy, PartialEq, Eq)]
+pub(crate) enum Told {
+    /// The counts, the digest of all output, and how the audits went.
+    Digest,
+    /// How the audits went.
+    Audits,
+}
+
+/// Runs the script of a text by the settings of another one, with the audit after each event.
+pub(crate) fn run_texts(settings: &str, script: &str, told: Told, case: &mut Case) {
+    match read(case.alloc, settings, script) {
+        Ok(job) => {
+            run(&job.settings, job.events.as_slice(), told, case);
+            drop(job);
         }
+        Err(_) => case.fault(),
     }
 }
 
 /// Returns the text of the file with a name and a kind.
-fn text_at(rt: &HostRuntime, name: &str, kind: &str) -> Result<String> {
+pub(crate) fn text_at(rt: &HostRuntime, name: &str, kind: &str) -> Result<String> {
     let path = format!(in rt.alloc(); "{name}.{kind}")?;
     Ok(fs::read_to_string(rt, path.as_str())?)
 }
@@ -56,12 +70,15 @@ fn founded(alloc: Global, settings: &Settings) -> Result<World<'_>, NoMemory> {
     World::founded(alloc, settings)
 }
 
-fn run(settings: &Settings, events: &[WorldEvent], case: &mut Case) {
+fn run(settings: &Settings, events: &[WorldEvent], told: Told, case: &mut Case) {
     match founded(case.alloc, settings) {
         Ok(mut world) => {
             let mut watch = Watch::new(case.alloc);
             watch.follow(&mut world, events, case);
-            watch.tell(&world, case);
+            if told == Told::Digest {
+                watch.tell(&world, case);
+            }
+            watch.tell_audits(case);
             world.end();
         }
         Err(_) => case.fault(),
@@ -159,12 +176,17 @@ impl Watch {
         case.say(", notes ", world.trace().len());
         case.say(", told ", self.told.len());
         case.hex(" ", &digest_of(self.told.as_slice()).to_be_bytes());
+        case.put(", ");
+    }
+
+    /// Prints how often the audit passed, or the first event after which it fails.
+    fn tell_audits(&self, case: &mut Case) {
         match self.wrong {
             Some((event, fault)) => {
-                case.say(", audit after event ", event);
+                case.say("audit after event ", event);
                 case.say(": ", fault);
             }
-            None => case.say(", audit passed ", self.passed),
+            None => case.say("audit passed ", self.passed),
         }
         case.end();
     }

@@ -4,7 +4,7 @@ use addresses::Ip;
 use cases_words::Case;
 use settings::{
     FragmentSettings, GatewaySettings, IcmpSettings, InterfaceSettings, Neighbour, PortRange,
-    Settings,
+    Settings, VrrpSettings,
 };
 
 /// Prints the built-in settings as a settings file spells them.
@@ -13,11 +13,13 @@ pub(crate) fn print(case: &mut Case, settings: &Settings) {
     range(case, "zero", settings.ports.zero);
     range(case, "one", settings.ports.one);
     case.say("alone = ", settings.alone);
+    case.say("\ninward_refresh = ", settings.inward_refresh);
     case.end();
     interface(case, "\n[inside", &settings.inside, None);
     interface(case, "\n[outside", &settings.outside, Some(settings.router));
     icmp(case, settings.icmp);
     fragments(case, settings.fragments);
+    vrrp(case, settings.vrrp);
     gateway(case, 0, &settings.zero);
     gateway(case, 1, &settings.one);
     for host in &settings.neighbours {
@@ -54,6 +56,11 @@ fn icmp(case: &mut Case, it: IcmpSettings) {
 
 fn fragments(case: &mut Case, it: FragmentSettings) {
     case.say("\n[fragments]\npass = ", it.pass);
+    case.end();
+}
+
+fn vrrp(case: &mut Case, it: VrrpSettings) {
+    case.say("\n[vrrp]\npeer_only = ", it.peer_only);
     case.end();
 }
 

@@ -30,16 +30,20 @@ impl<'a> Journals<'a> {
         }
     }
 
-    /// Begins a new log, by the option's filter or else the environment's; with `mapped` after them one of mappings too.
+    /// Begins a new log, by the option's filter or else the environment's; with `mapped` after them one of mappings too,
+    /// with `peer-only` that of a box that takes the other box's advertisements alone.
     fn open(&mut self, case: &mut Case) {
         let format = format_in(case);
         let (option, environment) = (case.name(), case.name());
         let text = given(option.as_str()).or(given(environment.as_str()));
-        let mappings = mappings_in(case);
+        let word = last_word(case);
+        let peer_only = word.as_str() == "peer-only";
+        let mappings = mappings_for(word.as_str(), case);
         self.log = match filter(case.alloc, text.unwrap_or("")) {
             Ok(filter) => {
                 let sink = Sink::new(Printer::new(self.rt, self.state), format);
-                Some(EventLog::new(FilteredLog::new(sink, filter), mappings))
+                let filtered = FilteredLog::new(sink, filter);
+                Some(EventLog::new(filtered, peer_only, mappings))
             }
             Err(fault) => {
                 case.put(fault);
@@ -53,7 +57,8 @@ impl<'a> Journals<'a> {
 impl Actor for Journals<'_> {
     /// Does what a line says:
     ///
-    /// - `open FORMAT OPTION ENVIRONMENT`, and maybe `mapped` after it: begins a new log, which tells mappings
+    /// - `open FORMAT OPTION ENVIRONMENT`, and maybe `mapped` or `peer-only` after it: begins a new log, which tells
+    ///   mappings, or whose box takes the other box's advertisements alone
     /// - `paper room`, `paper none`, `paper fails`: from now on a write takes its line; would wait;
     ///   fails
     /// - all else is done on the log (`act_on`)
@@ -76,15 +81,25 @@ fn given(word: &str) -> Option<&str> {
     if word == "-" { None } else { Some(word) }
 }
 
-/// Returns what a log needs that tells mappings, where `mapped` is the next word.
-fn mappings_in(case: &mut Case) -> Option<Mappings> {
+/// Returns the next word, or an empty text where none is left.
+fn last_word(case: &mut Case) -> String {
     if case.left() == 0 {
-        return None;
+        String::new(case.alloc)
+    } else {
+        case.name()
     }
-    if case.word() != "mapped" {
-        case.fault();
+}
+
+/// Returns what a log needs that tells mappings, where the word is `mapped`.
+fn mappings_for(word: &str, case: &mut Case) -> Option<Mappings> {
+    match word {
+        "" | "peer-only" => None,
+        "mapped" => Mappings::new(case.alloc).ok(),
+        _ => {
+            case.fault();
+            None
+        }
     }
-    Mappings::new(case.alloc).ok()
 }
 
 /// Does what a line says on the log:
@@ -126,6 +141,7 @@ fn note(log: &mut PrintedLog<'_>, case: &mut Case) {
         by: GatewayId::Zero,
         at: case.number(),
         what: note_in(case),
+        counts: true,
     };
     log.write_mappings(slice::from_ref(&note));
 }

@@ -68,9 +68,15 @@ pub(crate) fn is_learnt(case: &mut Case) {
     case.put(is_learnable(&interface, &Neighbour { address, mac }));
 }
 
-/// Prints what a cache finds in steps: `learn IP MAC NOW`, `fill COUNT MAC NOW` for so many addresses from 0.0.0.0 on,
-/// `find IP NOW`, and `ask IP NOW`: whether a request is due after a packet to that address. The cache has the fixed
-/// neighbour 192.0.2.254 twice.
+/// Prints what a cache finds in steps:
+///
+/// - `learn IP MAC NOW`: by a packet for the interface; `fill COUNT MAC NOW` for so many addresses from 0.0.0.0 on
+/// - `hear IP MAC NOW`: by a packet for another; whether the address has an entry afterwards
+/// - `find IP NOW`
+/// - `ask IP NOW`: whether a request is due after a packet to that address; `use COUNT NOW` asks it of so many from 0.0.0.0
+///   on, and prints nothing
+///
+/// The cache has the fixed neighbour 192.0.2.254 twice.
 pub(crate) fn found(case: &mut Case) {
     let router = Ip::new([192, 0, 2, 254]);
     let fixed = [0xfe, 0xfd].map(|last| Neighbour {
@@ -96,8 +102,12 @@ fn take_steps(cache: &mut Cache, case: &mut Case) {
 
 fn take_step(cache: &mut Cache, case: &mut Case) {
     match case.word() {
-        "learn" => cache.learn(case.hex_ip(), case.mac(), case.number()),
+        "learn" => {
+            let _has_entry = cache.learn(case.hex_ip(), case.mac(), true, case.number());
+        }
         "fill" => fill(cache, case),
+        "hear" => hear(cache, case),
+        "use" => use_all(cache, case),
         "find" => find(cache, case),
         "ask" => ask(cache, case),
         _ => case.fault(),
@@ -107,7 +117,19 @@ fn take_step(cache: &mut Cache, case: &mut Case) {
 fn fill(cache: &mut Cache, case: &mut Case) {
     let (count, mac, now) = (case.number(), case.mac(), case.number());
     for number in 0..count.min(65_536) as u32 {
-        cache.learn(Ip(number), mac, now);
+        let _has_entry = cache.learn(Ip(number), mac, true, now);
+    }
+}
+
+fn hear(cache: &mut Cache, case: &mut Case) {
+    let has_entry = cache.learn(case.hex_ip(), case.mac(), false, case.number());
+    case.put(if has_entry { "entry " } else { "no entry " });
+}
+
+fn use_all(cache: &mut Cache, case: &mut Case) {
+    let (count, now) = (case.number(), case.number());
+    for number in 0..count.min(65_536) as u32 {
+        let _asks = cache.ask(Ip(number), now);
     }
 }
 

@@ -110,14 +110,15 @@ fn answer_to(
     Ok(bytes)
 }
 
-pub fn hear_arp(interfaces: &mut Interfaces, case: &mut Case) {
+/// Prints whether the sender of an ARP packet is learnt, for whom a packet waits or doesn't, and the answer.
+pub fn hear_arp(interfaces: &mut Interfaces, case: &mut Case, waited_for: bool) {
     let side = case.side();
     let station = interfaces.at_mut(side);
     let bytes = case.bytes();
     let now = moment(case);
     match station.read_whole(side, true, bytes.as_slice()) {
         Ok(Reading::Arp(packet)) => {
-            case.say("learnt ", station.learn(&packet, now));
+            case.say("learnt ", station.learn(&packet, waited_for, now));
             case.hex_made(", sends [", answer_to(case.alloc, station, &packet));
             case.put("]");
         }

@@ -39,6 +39,7 @@ impl Rules {
     /// - `fresh` makes both interfaces anew, before their first event
     /// - `speak MTU MTU`: from here on the box answers Echos and complains, with these longest packets inside and
     ///   outside; and both interfaces anew
+    /// - `peer-only`: from here on the other gateway's advertisements alone count; and both interfaces anew
     /// - `start NOW`, `tick NOW`, `stop`: the frames that both send, the inside one first
     /// - `reply SIDE HEX MAC`: the frame that answers an Echo to the box
     /// - `complain SIDE HEX MAC`: the frame that is sent where a packet's hops are used up, or else where it
@@ -49,6 +50,10 @@ impl Rules {
             "fresh" => self.renew(case),
             "speak" => {
                 saying::speak(&mut self.settings, case);
+                self.renew(case);
+            }
+            "peer-only" => {
+                self.settings.vrrp.peer_only = true;
                 self.renew(case);
             }
             "start" => self.interfaces.start(case),
@@ -75,7 +80,7 @@ impl Actor for Rules {
 /// - `read SIDE up|down HEX`: what a frame is read as, or why it is dropped
 /// - `padded SIDE LENGTH HEX`: the same of a frame with zeros after it up to a length
 /// - `advert SIDE HEX NOW`: what an interface sends when it receives this frame
-/// - `arp SIDE HEX NOW`: whether the sender of this frame is learnt, and the answer
+/// - `arp SIDE HEX NOW`: whether the sender of this frame is learnt, and the answer; `waited`, where a packet waits for it
 /// - `mac SIDE ADDRESS NOW`: a neighbour's Ethernet address
 /// - `ask SIDE ADDRESS NOW`: whether a request for a neighbour is due after a packet to it
 /// - `request SIDE ADDRESS`: the frame that requests a neighbour's address
@@ -87,7 +92,8 @@ fn answer_packets(interfaces: &mut Interfaces, case: &mut Case) {
         "read" => passing::read(interfaces, case),
         "padded" => passing::read_padded(interfaces, case),
         "advert" => passing::hear_advert(interfaces, case),
-        "arp" => passing::hear_arp(interfaces, case),
+        "arp" => passing::hear_arp(interfaces, case, false),
+        "waited" => passing::hear_arp(interfaces, case, true),
         "mac" => passing::find_mac(interfaces, case),
         "ask" => passing::ask(interfaces, case),
         "request" => passing::request(interfaces, case),

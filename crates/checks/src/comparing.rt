@@ -1,6 +1,6 @@
 //! The comparison of the settings of two files.
 
-use crate::{differing_keys, may_differ};
+use crate::{differing_keys, must_agree};
 use faults::{Fault, TextFile, read_settings_text, report_at, settings_in};
 use settings::Settings;
 use std::alloc::Global;
@@ -67,11 +67,11 @@ fn write_differences<W: Write>(
     let mut text = String::new(alloc);
     let mut wrong = 0_usize;
     for key in keys.as_slice() {
-        if may_differ(*key) {
-            writeln!(text, "may differ: {key}")?;
-        } else {
+        if must_agree(*key, one, other) {
             wrong = wrong.saturating_add(1);
             writeln!(text, "must not differ: {key}")?;
+        } else {
+            writeln!(text, "may differ: {key}")?;
         }
     }
     let all = keys.len();

@@ -26,12 +26,13 @@ fn same_neighbours(one: &[Neighbour], other: &[Neighbour]) -> bool {
 }
 
 /// Returns the keys of `[ports]` and `[inside]`, each with whether its values are the same.
-fn ports_and_inside_rows(one: &Settings, other: &Settings) -> [(Key, bool); 9] {
+fn ports_and_inside_rows(one: &Settings, other: &Settings) -> [(Key, bool); 10] {
     let (ports, inside) = (Section::Ports, Section::Inside);
     let same_zero = same_range(one.ports.zero, other.ports.zero);
     let same_one = same_range(one.ports.one, other.ports.one);
     let same_limit = one.ports.host_limit == other.ports.host_limit;
     let same_alone = one.alone == other.alone;
+    let same_refresh = one.inward_refresh == other.inward_refresh;
     let (one, other) = (&one.inside, &other.inside);
     let same_virtual = one.virtual_ip == other.virtual_ip;
     let same_prefix = one.prefix_length == other.prefix_length;
@@ -41,6 +42,7 @@ fn ports_and_inside_rows(one: &Settings, other: &Settings) -> [(Key, bool); 9] {
         (Key::new(ports, Name::One), same_one),
         (Key::new(ports, Name::HostLimit), same_limit),
         (Key::new(ports, Name::Alone), same_alone),
+        (Key::new(ports, Name::InwardRefresh), same_refresh),
         (Key::new(inside, Name::Virtual), same_virtual),
         (Key::new(inside, Name::Prefix), same_prefix),
         (Key::new(inside, Name::Vrid), same_number),
@@ -67,16 +69,18 @@ fn outside_rows(one: &Settings, other: &Settings) -> [(Key, bool); 6] {
     ]
 }
 
-/// Returns the keys of `[icmp]` and `[fragments]`, each with whether its values are the same.
-fn icmp_and_fragment_rows(one: &Settings, other: &Settings) -> [(Key, bool); 3] {
-    let (icmp, fragments) = (Section::Icmp, Section::Fragments);
+/// Returns the keys of `[icmp]`, `[fragments]` and `[vrrp]`, each with whether its values are the same.
+fn optional_rows(one: &Settings, other: &Settings) -> [(Key, bool); 4] {
+    let (icmp, fragments, vrrp) = (Section::Icmp, Section::Fragments, Section::Vrrp);
     let same_echo = one.icmp.echo == other.icmp.echo;
     let same_errors = one.icmp.errors == other.icmp.errors;
     let same_pass = one.fragments.pass == other.fragments.pass;
+    let same_peer_only = one.vrrp.peer_only == other.vrrp.peer_only;
     [
         (Key::new(icmp, Name::Echo), same_echo),
         (Key::new(icmp, Name::Errors), same_errors),
         (Key::new(fragments, Name::Pass), same_pass),
+        (Key::new(vrrp, Name::PeerOnly), same_peer_only),
     ]
 }
 
@@ -124,7 +128,7 @@ pub fn differing_keys(
     let mut found = Vec::new(alloc);
     add_failing(&ports_and_inside_rows(one, other), &mut found)?;
     add_failing(&outside_rows(one, other), &mut found)?;
-    add_failing(&icmp_and_fragment_rows(one, other), &mut found)?;
+    add_failing(&optional_rows(one, other), &mut found)?;
     let rows = gateway_rows(Section::GatewayZero, &one.zero, &other.zero);
     add_failing(&rows, &mut found)?;
     let rows = gateway_rows(Section::GatewayOne, &one.one, &other.one);
@@ -137,19 +141,21 @@ pub fn differing_keys(
 
 /// Whether the two boxes may have different values at a key for the minutes of a change box by box: each box does as its
 /// own value says, and no pair stands for another flow. The values at all other keys must agree on both boxes; those are
-/// exactly the keys in the digest.
+/// exactly the keys in the digest. Some more must agree where `peer_only` is true ([`must_agree`]).
 pub fn may_differ(key: Key) -> bool {
     match key.name {
         Some(Name::Zero | Name::One | Name::Virtual | Name::Prefix | Name::Vrid) => false,
         Some(
             Name::HostLimit
             | Name::Alone
+            | Name::InwardRefresh
             | Name::Wire
             | Name::Router
             | Name::Mtu
             | Name::Echo
             | Name::Errors
             | Name::Pass
+            | Name::PeerOnly
             | Name::InsideIp
             | Name::InsideMac
             | Name::OutsideIp
@@ -166,5 +172,20 @@ pub fn may_differ(key: Key) -> bool {
             | Name::Mac,
         )
         | None => true,
+    }
+}
+
+/// Whether two settings must agree at a key: where it may not differ, and where one of them takes the other box's
+/// advertisements alone and the key says what those have.
+pub fn must_agree(key: Key, one: &Settings, other: &Settings) -> bool {
+    let is_peer_only = one.vrrp.peer_only || other.vrrp.peer_only;
+    !may_differ(key) || is_peer_only && is_advertised(key)
+}
+
+/// Whether the value at a key stands in advertisements (RFC 9568, section 5).
+fn is_advertised(key: Key) -> bool {
+    match key.name {
+        Some(Name::InsideIp | Name::OutsideIp | Name::Priority | Name::Interval) => true,
+        _ => false,
     }
 }

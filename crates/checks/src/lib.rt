@@ -15,7 +15,7 @@ mod warnings;
 
 pub use checking::check;
 pub use comparing::compare;
-pub use differences::{differing_keys, may_differ};
+pub use differences::{differing_keys, may_differ, must_agree};
 pub use digests::digest;
 pub use options::CheckOptions;
 pub use warning_kinds::{Warning, WarningKind};

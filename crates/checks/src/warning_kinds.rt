@@ -11,6 +11,8 @@ pub(crate) const KEPT: u16 = 300;
 pub enum WarningKind {
     /// The range has one port.
     OnePort,
+    /// No limit is set for a host.
+    NoLimit,
     /// A gateway never makes pairs alone.
     NeverAlone,
     /// A gateway makes pairs alone only once packets that wait for a pair are lost.
@@ -23,6 +25,10 @@ pub enum WarningKind {
     SameNumber,
     /// The address is that of the network itself.
     NetworkAddress,
+    /// The router is no static neighbour.
+    LearntRouter,
+    /// Advertisements of all stations count.
+    AnyAdvertisement,
     /// The box has this MAC on its other side too.
     SameMac,
     /// The interval is as short as a round of a box.
@@ -52,6 +58,7 @@ impl fmt::Display for WarningKind {
     fn fmt<W: fmt::Write>(&self, f: &mut fmt::Formatter<W>) -> fmt::Result {
         let text = match self {
             WarningKind::OnePort => "the range has one port, for one UDP and one TCP pair",
+            WarningKind::NoLimit => "left out: one inside host can take all ports",
             WarningKind::NeverAlone =>
                 "0 or left out: new connections wait for the other box while it doesn't answer",
             WarningKind::LateAlone => {
@@ -67,6 +74,10 @@ impl fmt::Display for WarningKind {
             WarningKind::SameNumber =>
                 "as on the inside: right only where the two networks are apart",
             WarningKind::NetworkAddress => "this is the address of the network itself",
+            WarningKind::LearntRouter =>
+                "no [[neighbour]]: a forged ARP packet can lead its packets elsewhere",
+            WarningKind::AnyAdvertisement =>
+                "false or left out: any station's advertisement can make a side Backup",
             WarningKind::SameMac =>
                 "as on the inside: a switch of both networks would learn it now here, now there",
             WarningKind::ShortInterval =>

@@ -3,6 +3,7 @@
 use crate::warning_kinds::KEPT;
 use crate::{Warning, WarningKind};
 use addresses::Ip;
+use nat_types::Side;
 use settings::{GatewaySettings, InterfaceSettings, Neighbour, PortRange, Settings};
 use settings_file::{Key, Name, Section, add_left_out_ports, add_port_clashes, is_network_address};
 use std::alloc::{AllocError, Global};
@@ -11,8 +12,9 @@ use std::alloc::{AllocError, Global};
 /// socket's path, less the end of its name.
 const MAX_BOOT_FILE_PATH: usize = 107 - ".control/socket".len();
 
-/// Returns all warnings of settings: those of the ports, of the networks, of each gateway, of both gateways and of the
-/// neighbours, then the loopback ports that two keys have, and those that are left out beside others of their place.
+/// Returns all warnings of settings: those of the ports, of the networks, of advertisements, of each gateway, of both
+/// gateways and of the neighbours, then the loopback ports that two keys have, and those that are left out beside others
+/// of their place.
 ///
 /// # Errors
 ///
@@ -23,6 +25,7 @@ pub fn warnings_of(alloc: Global, settings: &Settings) -> Result<Vec<Warning>, A
     add_warnings(&port_warnings(settings), &mut found)?;
     add_warnings(&inside_warnings(settings), &mut found)?;
     add_warnings(&outside_warnings(settings), &mut found)?;
+    add_warnings(&[vrrp_warning(settings)], &mut found)?;
     add_warnings(&gateway_warnings(Section::GatewayZero, zero), &mut found)?;
     add_warnings(&gateway_warnings(Section::GatewayOne, one), &mut found)?;
     add_warnings(&pair_warnings(zero, one), &mut found)?;
@@ -63,14 +66,21 @@ fn warn_if(condition: bool, section: Section, name: Name, kind: WarningKind) -> 
     }
 }
 
-fn port_warnings(settings: &Settings) -> [Option<Warning>; 4] {
+fn port_warnings(settings: &Settings) -> [Option<Warning>; 5] {
     let Settings { ports, alone, .. } = settings;
     let one_zero = has_one_port(ports.zero);
     let one_one = has_one_port(ports.one);
+    let is_unlimited = ports.host_limit.is_none();
     let (is_never, is_late) = (*alone == 0, *alone > KEPT);
     [
         warn_if(one_zero, Section::Ports, Name::Zero, WarningKind::OnePort),
         warn_if(one_one, Section::Ports, Name::One, WarningKind::OnePort),
+        warn_if(
+            is_unlimited,
+            Section::Ports,
+            Name::HostLimit,
+            WarningKind::NoLimit,
+        ),
         warn_if(
             is_never,
             Section::Ports,
@@ -99,11 +109,12 @@ fn inside_warnings(settings: &Settings) -> [Option<Warning>; 2] {
     ]
 }
 
-fn outside_warnings(settings: &Settings) -> [Option<Warning>; 4] {
+fn outside_warnings(settings: &Settings) -> [Option<Warning>; 5] {
     let (section, network) = (Section::Outside, &settings.outside);
     let martian = is_martian(network.virtual_ip);
     let same_number = settings.inside.virtual_router == network.virtual_router;
     let is_network = is_network_address(settings.router, network.prefix_length);
+    let is_learnt = !has_router(settings);
     let uncut = loses_uncut(settings, network);
     [
         warn_if(martian, section, Name::Virtual, WarningKind::Martian),
@@ -114,8 +125,26 @@ fn outside_warnings(settings: &Settings) -> [Option<Warning>; 4] {
             Name::Router,
             WarningKind::NetworkAddress,
         ),
+        warn_if(is_learnt, section, Name::Router, WarningKind::LearntRouter),
         warn_if(uncut, section, Name::Mtu, WarningKind::Uncut),
     ]
+}
+
+/// Whether the router is a static neighbour.
+fn has_router(settings: &Settings) -> bool {
+    let neighbours = settings.neighbours.as_slice();
+    neighbours
+        .iter()
+        .any(|it| it.side == Side::Outside && it.ip == settings.router)
+}
+
+fn vrrp_warning(settings: &Settings) -> Option<Warning> {
+    warn_if(
+        !settings.vrrp.peer_only,
+        Section::Vrrp,
+        Name::PeerOnly,
+        WarningKind::AnyAdvertisement,
+    )
 }
 
 fn gateway_warnings(section: Section, gateway: &GatewaySettings) -> [Option<Warning>; 4] {

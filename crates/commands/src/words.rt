@@ -7,7 +7,7 @@ use nat_types::{GatewayId, Side};
 use std::fs::Files;
 use std::net::Net;
 
-/// How many bytes of a reply are read at most. The longest reply is a page of pairs with 1,285 bytes.
+/// How many bytes of a reply are read at most. The longest reply is a report with 1,301 bytes.
 pub(crate) const MAX_REPLY: usize = 4_096;
 
 /// Returns the path of a box's control socket, by the settings at a path.

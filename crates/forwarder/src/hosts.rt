@@ -1,8 +1,7 @@
 //! ARP packets that came in (RFC 826).
 ghost use Rattle.std.specs.Prelude.{◌≡◌};
-ghost use Rattle.packet_rules.specs.Arping.{is_learnable};
-ghost use Rattle.interfaces.specs.Stations.{after_arp};
-ghost use Rattle.spec_step.specs.Parts.{answered_by, arp_taken};
+ghost use Rattle.interfaces.specs.Stations.{after_arp, teaches};
+ghost use Rattle.spec_step.specs.Parts.{answered_by, arp_taken, waits_for_sender};
 ghost use Rattle.spec_step.specs.Shown.{station_on, with_station};
 ghost use Rattle.forwarder.specs.Forwarder.{scene_on, shown_of};
 ghost use Rattle.forwarder.specs.Room.{HasRoomFor, LeavesPlaces, Spends, an_arp_packet, and_kept};
@@ -17,21 +16,28 @@ use output::OutputBuffer;
 use waiting::WaitsFor;
 
 impl Forwarder {
-    /// Learns the sender of a packet, where it is one that the interface learns, and returns
-    /// whether it is.
-    fn hear(&mut self, side: Side, packet: &ArpPacket) -> bool
-        ensures learnt { result
-            ≡ is_learnable (station_on (shown_of self.old) side).network packet.now }
+    /// Whether a packet waits for the sender of an ARP packet, as its next hop on that side.
+    fn waits_for_sender(&self, side: Side, packet: &ArpPacket) -> bool
+        ensures { result ≡ waits_for_sender (shown_of self.now) side packet.now }
+    {
+        !self.kept.has_place(WaitsFor::Hop(side, packet.sender_ip))
+    }
+
+    /// Learns or renews the sender of a packet, where it is one that the interface learns, and
+    /// returns whether it is. `waited_for` says whether a packet waits there for the sender.
+    fn hear(&mut self, side: Side, packet: &ArpPacket, waited_for: bool) -> bool
+        ensures taught { result
+            ≡ teaches (station_on (shown_of self.old) side) packet.now waited_for }
         ensures shown { let station = station_on (shown_of self.old) side in
             shown_of self.new ≡ with_station (shown_of self.old) side
-            (after_arp station packet.now self.old.moment) }
+            (after_arp station packet.now waited_for self.old.moment) }
         ensures core { self.new.core ≡ self.old.core }
         ensures link { self.new.link ≡ self.old.link }
         ensures kept { self.new.kept ≡ self.old.kept }
     {
         match side {
-            Side::Inside => self.inside.learn(packet, self.moment),
-            Side::Outside => self.outside.learn(packet, self.moment),
+            Side::Inside => self.inside.learn(packet, waited_for, self.moment),
+            Side::Outside => self.outside.learn(packet, waited_for, self.moment),
         }
     }
 
@@ -57,8 +63,9 @@ impl Forwarder {
         }
     }
 
-    /// Takes an ARP packet: its sender may be learnt, a request is answered, and the packet that
-    /// waited for the sender's hardware address is taken again.
+    /// Takes an ARP packet: its sender may be learnt or renewed, and a request is answered. Where
+    /// the sender was learnt or renewed, the packet that waited for its hardware address is taken
+    /// again.
     #[cold]
     pub fn take_arp(&mut self, page: &mut OutputBuffer, side: Side, packet: &ArpPacket)
         requires room { HasRoomFor (and_kept an_arp_packet self.old) self.old page.old }
@@ -68,9 +75,10 @@ impl Forwarder {
         ensures places { LeavesPlaces self.old self.new }
     {
         let mac = self.station(side).answer_to(packet);
-        let learns = self.hear(side, packet);
+        let waited_for = self.waits_for_sender(side, packet);
+        let taught = self.hear(side, packet, waited_for);
         self.answer(page, side, packet, mac);
-        if learns {
+        if taught {
             self.release_one(page, WaitsFor::Hop(side, packet.sender_ip));
         }
     }

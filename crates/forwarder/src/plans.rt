@@ -125,6 +125,16 @@ impl Forwarder {
         }
     }
 
+    /// Returns the plan of a packet that is too long for the side at which it leaves.
+    #[cold]
+    fn plan_long(&self, flow: Flow, way: Direction) -> Result<Plan, Reason>
+        ensures { result
+            ≡ and_then (plan_on (shown_of self.now) flow way) (if_fits false) }
+    {
+        let plan = self.plan_on(flow, way)?;
+        if_fits(false, plan)
+    }
+
     #[inline(always)]
     fn plan_on(&self, flow: Flow, way: Direction) -> Result<Plan, Reason>
         ensures { result ≡ plan_on (shown_of self.now) flow way }

@@ -1,6 +1,6 @@
 //! Packets that go on at once.
-ghost use Rattle.std.specs.Prelude.{◌≡◌, ◌≤◌, ◌+◌, if◌then◌else◌, length};
-ghost use Rattle.activity.specs.declared.packets.Packet.{Packet as Carried};
+ghost use Rattle.std.specs.Prelude.{◌≡◌, ◌≤◌, ◌+◌, length};
+ghost use Rattle.bind_core.specs.Cores.{packet_at};
 ghost use Rattle.waiting.specs.Packets.{beyond};
 ghost use Rattle.spec_binding.specs.WellFormed.{IsWellFormedEndpoint};
 ghost use Rattle.arp.specs.Neighbours.{asks_at};
@@ -10,7 +10,7 @@ ghost use Rattle.packet_rules.specs.Frames.{sent_frame};
 ghost use Rattle.packet_rules.specs.Steps.{IsForwardable};
 ghost use Rattle.spec_step.specs.declared.plans.Plan.TheVariants.{Send};
 ghost use Rattle.spec_step.specs.Parts.{by_plan, carried_all, carried_by, framed};
-ghost use Rattle.spec_step.specs.Parts.{neighbour_asked, renewed_behind};
+ghost use Rattle.spec_step.specs.Parts.{neighbour_sent, renewed_behind};
 ghost use Rattle.spec_step.specs.Parts.{remote, wanted_by, wanted_for};
 ghost use Rattle.spec_step.specs.Verdict.{exit_by};
 ghost use Rattle.spec_step.specs.Shown.{station_on};
@@ -103,14 +103,10 @@ impl Forwarder {
         flags: TcpFlags,
     )
         requires room { HasRoomFor (notes_alone 1) self.old page.old }
-        ensures scene { let packet : Carried = record {
-          remote = remote;
-          way = way;
-          flags = flags;
-          at = self.old.moment;
-        }
-            in scene_on self.new page.new ≡ carried_by (scene_on self.old page.old) key packet }
+        ensures scene { let packet = packet_at self.old.core remote way flags self.old.moment in
+            scene_on self.new page.new ≡ carried_by (scene_on self.old page.old) key packet }
         ensures rest { self.new ≡ record self.old { core = self.new.core } }
+        ensures refresh { self.new.core.inward_refresh ≡ self.old.core.inward_refresh }
         ensures spends { Spends (notes_alone 1) self.old page.old self.new page.new }
     {
         let mut notes = page.take_notes();
@@ -181,14 +177,13 @@ impl Forwarder {
         page.make_whole_frame(by.direction().exit(), &frame);
     }
 
-    /// Whether a neighbour on a side is to be asked for; if so, it counts as asked for now.
+    /// Notes that a packet was sent to a neighbour on a side, and returns whether the neighbour is
+    /// to be asked for; if so, it counts as asked for now.
     #[inline(always)]
     fn ask_neighbour(&mut self, exit: Side, hop: Ip) -> bool
         ensures asks { result ≡ asks_at hop.0 self.old.moment
             (station_on (shown_of self.old) exit).neighbours }
-        ensures shown { shown_of self.new
-            ≡ (if result then neighbour_asked (shown_of self.old) exit hop
-            else shown_of self.old) }
+        ensures shown { shown_of self.new ≡ neighbour_sent (shown_of self.old) exit hop }
         ensures core { self.new.core ≡ self.old.core }
         ensures link { self.new.link ≡ self.old.link }
         ensures kept { self.new.kept ≡ self.old.kept }
@@ -199,7 +194,8 @@ impl Forwarder {
         }
     }
 
-    /// Sends an ARP request for a neighbour to which a packet was just sent, where one is due.
+    /// Notes that a packet was just sent to a neighbour, and sends an ARP request for it where one
+    /// is due.
     #[inline(always)]
     pub(crate) fn ask_behind(&mut self, page: &mut OutputBuffer, exit: Side, hop: Ip)
         requires room { HasRoomFor (frames_alone 1) self.old page.old }

@@ -6,6 +6,7 @@ use Rattle.std.proofs.lemmas.List.{get_or-drop, get_or-take, length-drop, length
 use Rattle.std.proofs.lemmas.List.FromFn.{fill_by_all}
 use Rattle.byteorder.specs.Numbers.{big_from-lt}
 use Rattle.ipv4.specs.Header.{IsIpv4, header_of, options_of, payload_of}
+use Rattle.ipv4.specs.Options.{has_source_route}
 use Rattle.fragments.specs.Bytes.{AreBytes}
 use Rattle.fragments.specs.Cut.{IsCut, IsPiece, cut, identified, is_last_piece, piece, piece_count, piece_fields, piece_options, piece_payload, step_of}
 use Rattle.fragments.specs.Fragment.{carried, carries, end_of, first_of, ipv4_in, is_last, more_of, starts}
@@ -13,6 +14,7 @@ use Rattle.fragments.specs.Header.{header_with}
 use Rattle.fragments.specs.Options.{later_options}
 use Rattle.fragments.specs.Whole.{IsComplete, byte_at, first_header_length, is_marked, payload_again, payload_end, reassembled, whole_fields, whole_service}
 use Rattle.fragments.proofs.Later.{same_room}
+use Rattle.fragments.proofs.Routed.{later-route}
 use Rattle.fragments.proofs.Orders.{AreSame, byte_of, byte-found, same-whole}
 use Rattle.fragments.proofs.Ranges.{PassesOnce, any-one, counts-none, counts-one}
 use Rattle.fragments.proofs.Shares.{FlagsAre, Holds, before, beyond-ends, flag-alone, flags-are, holder, within-ends}
@@ -127,6 +129,14 @@ options-size packet k = by (k == 0)
     by true = refl
     by false = same_room (options_of packet)
 
+options-route : (packet : List ℕ) (k : ℕ) → has_source_route (piece_options packet k) ≡ has_source_route (options_of packet)
+unfolding piece_options
+options-route packet k = by (k == 0)
+  where
+    by : (b : Bool) → has_source_route (cond b (options_of packet) (later_options (options_of packet))) ≡ has_source_route (options_of packet)
+    by true = refl
+    by false = later-route (options_of packet)
+
 flag-bits : (b : Bool) → (let x : ℕ = cond b 0 0x2000 in x) ≡ 8192 * cond b 0 1
 flag-bits true = refl
 flag-bits false = refl
@@ -170,6 +180,7 @@ writes mtu identification frame k is there =
       flags = (piece-flags mtu identification frame k is there).fits;
       source = big_from-lt 0 4 (drop 12 (ipv4_in frame)) (bytes-behind 12 (ipv4_in frame) (bytes-behind 14 frame is.bytes));
       destination = big_from-lt 0 4 (drop 16 (ipv4_in frame)) (bytes-behind 16 (ipv4_in frame) (bytes-behind 14 frame is.bytes));
+      no_source_route = options-route (ipv4_in frame) k ∙ right.no_source_route;
     }
 
 -- what stands in the k-th behind its Ethernet header

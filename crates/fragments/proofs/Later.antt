@@ -3,7 +3,8 @@ use Rattle.std.proofs.Common.{◌≡◌, ℕ, zero, suc, ◌+◌, ◌<◌, ◌�
 use Rattle.std.proofs.lemmas.Bool.{leb-true, and_parts}
 use Rattle.std.proofs.lemmas.Bool.Decides.{nat_tests}
 use Rattle.std.proofs.lemmas.List.{length-replicate, length-take-le, take-take, take-append-drop, take_at, drop_at, drop-drop, drop_all, get_or-take}
-use Rattle.fragments.specs.Options.{later_from, later_options, option_later, option_size}
+use Rattle.ipv4.specs.Options.{option_size}
+use Rattle.fragments.specs.Options.{later_from, later_options, option_later}
 
 -- an option lies within the options
 pub size-within : (options : List ℕ) → option_size options ≤ length options
@@ -24,7 +25,7 @@ length-option size options fits = by (nat_le 128 (slice_index options 0))
     by true = length-take-le size options fits
     by false = length-replicate size 1
 
-some-size : (n : ℕ) → (n == 0) ≡ false → 0 < n
+pub some-size : (n : ℕ) → (n == 0) ≡ false → 0 < n
 some-size n some = grind (arith, nat_tests)
 
 -- later options take as much room as the first ones

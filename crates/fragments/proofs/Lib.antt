@@ -16,6 +16,7 @@ mod Making
 mod Orders
 mod Placing
 mod Ranges
+mod Routed
 mod Shares
 mod Sizes
 mod Spelling

@@ -7,9 +7,10 @@ use Rattle.std.proofs.lemmas.List.FromFn.{get_or-map-range_with_len, length-map-
 use Rattle.sums.specs.Sum.{word_sum}
 use Rattle.frames.specs.Frame.{frame_of}
 use Rattle.ipv4.specs.Order.{first_fault}
-use Rattle.ipv4.specs.Header.{IsIpv4, has_wrong_sum, header_of, ipv4_refusal, is_unbroken}
+use Rattle.ipv4.specs.Header.{IsIpv4, has_wrong_sum, header_of, ipv4_refusal, is_unbroken, options_of}
+use Rattle.ipv4.specs.Options.{has_source_route}
 use Rattle.ipv4.specs.declared.faults.Ipv4Fault.{Ipv4Fault}
-use Rattle.ipv4.specs.declared.faults.Ipv4Fault.TheVariants.{TooShort, BadVersion, BadLength, BadHeaderSum, Fragment}
+use Rattle.ipv4.specs.declared.faults.Ipv4Fault.TheVariants.{TooShort, BadVersion, BadLength, BadHeaderSum, SourceRoute, Fragment}
 use Rattle.fragments.specs.Bytes.{AreBytes}
 use Rattle.fragments.specs.Cut.{IsCut, IsMtu, IsIpv4Frame, MayBeCut, cut, identified, is_cuttable, is_long, piece, piece_count, pieces}
 use Rattle.fragments.specs.Fragment.{ipv4_in}
@@ -19,37 +20,40 @@ use Rattle.fragments.proofs.Orders.{AreSame}
 use Rattle.fragments.proofs.Sizes.{word-fits}
 
 -- ---- a whole packet, by its tests on numbers in the place of bytes
-abbrev refusal : (long version size total more offset : ℕ) → Bool → Option Ipv4Fault
-refusal long version size total more offset wrong =
+abbrev refusal : (long version size total more offset : ℕ) → (wrong routed : Bool) → Option Ipv4Fault
+refusal long version size total more offset wrong routed =
     first_fault (
     (nat_lt long 20, TooShort)
     ∷ (not (version == 4) || nat_lt size 20, BadVersion)
     ∷ (nat_lt total size || nat_lt long total, BadLength)
     ∷ (wrong, BadHeaderSum)
+    ∷ (routed, SourceRoute)
     ∷ (not (more == 0) || not (offset == 0), Fragment)
     ∷ [])
 
-record IsWhole (long version size total more offset : ℕ) (wrong : Bool) : Type 0 where
+record IsWhole (long version size total more offset : ℕ) (wrong routed : Bool) : Type 0 where
   pub fixed : 20 ≤ long
   pub version_four : version ≡ 4
   pub fields : 20 ≤ size
   pub header : size ≤ total
   pub there : total ≤ long
   pub sum : wrong ≡ false
+  pub no_source_route : routed ≡ false
   pub last : more ≡ 0
   pub first : offset ≡ 0
 
-whole : (long version size total more offset : ℕ) (wrong : Bool) → is_none (refusal long version size total more offset wrong) ≡ true → IsWhole long version size total more offset wrong
-whole long version size total more offset wrong e =
+whole : (long version size total more offset : ℕ) (wrong routed : Bool) → is_none (refusal long version size total more offset wrong routed) ≡ true → IsWhole long version size total more offset wrong routed
+whole long version size total more offset wrong routed e =
     let a : 20 ≤ long = grind (arith, nat_tests) in
     let b : version ≡ 4 = grind (arith, nat_tests) in
     let c : 20 ≤ size = grind (arith, nat_tests) in
     let d : size ≤ total = grind (arith, nat_tests) in
     let f : total ≤ long = grind (arith, nat_tests) in
     let g : wrong ≡ false = grind (arith, nat_tests) in
-    let h : more ≡ 0 = grind (arith, nat_tests) in
-    let i : offset ≡ 0 = grind (arith, nat_tests) in
-    record { fixed = a; version_four = b; fields = c; header = d; there = f; sum = g; last = h; first = i }
+    let h : routed ≡ false = grind (arith, nat_tests) in
+    let i : more ≡ 0 = grind (arith, nat_tests) in
+    let j : offset ≡ 0 = grind (arith, nat_tests) in
+    record { fixed = a; version_four = b; fields = c; header = d; there = f; sum = g; no_source_route = h; last = i; first = j }
 
 right : (n : ℕ) → (not (n % 65535 == 0) || (n == 0)) ≡ false → (n % 65535 ≡ 0) × (0 < n)
 right n e = grind (arith, nat_tests)
@@ -57,7 +61,7 @@ right n e = grind (arith, nat_tests)
 pub whole-packet : (packet : List ℕ) → is_none (ipv4_refusal packet) ≡ true → IsIpv4 packet
 whole-packet packet e =
     let size : ℕ = (header_of packet).header_length in
-    let p = whole (length packet) (header_of packet).version size (header_of packet).total_length (header_of packet).more_fragments (header_of packet).fragment_offset (has_wrong_sum (take size packet)) e in
+    let p = whole (length packet) (header_of packet).version size (header_of packet).total_length (header_of packet).more_fragments (header_of packet).fragment_offset (has_wrong_sum (take size packet)) (has_source_route (options_of packet)) e in
     record {
       long = p.fixed;
       version = p.version_four;
@@ -65,6 +69,7 @@ whole-packet packet e =
       holds_header = p.header;
       there = p.there;
       sum = right (word_sum (take size packet)) p.sum;
+      no_source_route = p.no_source_route;
       last = p.last;
       first = p.first;
     }

@@ -6,6 +6,7 @@ use Rattle.std.proofs.lemmas.List.FromFn.{length-map-range_with_len}
 use Rattle.nat_types.specs.declared.gateways.Side.{Side}
 use Rattle.nat_types.specs.declared.gateways.Side.TheVariants.{Inside, Outside}
 use Rattle.ipv4.specs.Header.{header_of, options_of}
+use Rattle.ipv4.specs.Options.{has_source_route}
 use Rattle.fragments.specs.Fragment.{IsFragment, ipv4_in, is_broken, starts, trimmed}
 use Rattle.fragments.specs.Gathered.{AreApart, AreKept, Datagram, Gathered, IsKept, IsOf, IsPartial, MakesWhole, after, after_end, after_join, arrived, effect_of, ended, is_named, joined, left_by, left_first, none_there, of_side, refused, taken, without_first, without_old}
 use Rattle.fragments.specs.Header.{header_with}
@@ -13,7 +14,7 @@ use Rattle.fragments.specs.Name.{name_of}
 use Rattle.fragments.specs.Whole.{IsReady, byte_at, first_fragment, first_header_length, payload_end, reassembled, whole_fields, whole_length}
 use Rattle.fragments.proofs.Counting.{all-of, found-all, found-of, found-passes, whole-complete, whole-within}
 use Rattle.fragments.proofs.Keeping.{apart-more, completes, each-more, kept-none, kept-without, kept-young, same-name, taken-kept, unbroken-each}
-use Rattle.fragments.proofs.Spelling.{length-header, length-options, length-parts}
+use Rattle.fragments.proofs.Spelling.{behind-parts, length-header, length-options, length-parts, options-written}
 use Rattle.fragments.proofs.Trimming.{trimmed-fragment}
 use Rattle.fragments.specs.declared.names.Name.{Name}
 use Rattle.fragments.specs.declared.datagrams.Effect.{Effect}
@@ -108,30 +109,56 @@ length-whole name fs ready each =
     let there = found-of starts fs (omega (arith, ready.complete.first)) in
     length-from fs there.0 there.1 (found-all (IsOf name) starts fs there.0 each there.1).fragment_is
 
--- a whole frame has at most 14 + 65,535 bytes
-arrived-most : (now : ℕ) (f : List ℕ) (ds : List Datagram) → IsFragment f → is_broken f ≡ false → AreKept ds → (o : Option Datagram) → find (is_named (name_of f)) ds ≡ o → IfSome (arrived now f o ds).made (λ (w : List ℕ). length w ≤ 65549)
-arrived-most now f ds is fine kept None found = tt
-arrived-most now f ds is fine kept (Some d) found = on (effect_of d.fragments f) refl
-  where
-    on : (e : Effect) → effect_of d.fragments f ≡ e → IfSome (joined e (name_of f) (d.fragments ++ f ∷ []) ds).made (λ (w : List ℕ). length w ≤ 65549)
-    on Repeats effect = tt
-    on Contradicts effect = tt
-    on Waits effect = tt
-    on TooLong effect = tt
-    on Completes effect =
-        let known = ready-there f ds d is fine kept found effect in
-        omega (arith, length-whole (name_of f) (d.fragments ++ f ∷ []) known.0 known.1, known.0.short)
+-- ---- its options are those of the fragment with offset 0, so none is a source route
+options-from : (fs : List (List ℕ)) (first : List ℕ) → find starts fs ≡ Some first → IsFragment first → options_of (ipv4_in (reassembled fs)) ≡ options_of (ipv4_in first)
+unfolding reassembled
+options-from fs first found is =
+    let same : first_fragment fs ≡ first = ap (λ (o : Option (List ℕ)). unwrap_or o []) found in
+    let packet : List ℕ = ipv4_in first in
+    let payload : List ℕ = map (byte_at fs) (range_with_len 0 (payload_end fs)) in
+    let options : 20 + length (options_of packet) ≡ (header_of packet).header_length = length-options packet is.header.holds_fields (omega (arith, is.header.holds_header, is.header.there)) in
+    rw same (ap options_of (behind-parts first (header_with (whole_fields fs) packet (options_of packet)) payload is.whole)
+    ∙ options-written (whole_fields fs) packet (options_of packet) payload (sym options))
 
+route-whole : (name : Name) (fs : List (List ℕ)) → IsReady fs → AllByRecursion (IsOf name) fs → has_source_route (options_of (ipv4_in (reassembled fs))) ≡ false
+route-whole name fs ready each =
+    let there = found-of starts fs (omega (arith, ready.complete.first)) in
+    let is : IsFragment there.0 = (found-all (IsOf name) starts fs there.0 each there.1).fragment_is in
+    ap has_source_route (options-from fs there.0 there.1 is) ∙ is.header.no_source_route
+
+-- ---- what each whole frame has that is made
+module _ (P : List ℕ → Type 0) (each : (name : Name) (fs : List (List ℕ)) → IsReady fs → AllByRecursion (IsOf name) fs → P (reassembled fs)) where
+  arrived-made : (now : ℕ) (f : List ℕ) (ds : List Datagram) → IsFragment f → is_broken f ≡ false → AreKept ds → (o : Option Datagram) → find (is_named (name_of f)) ds ≡ o → IfSome (arrived now f o ds).made P
+  arrived-made now f ds is fine kept None found = tt
+  arrived-made now f ds is fine kept (Some d) found = on (effect_of d.fragments f) refl
+    where
+      on : (e : Effect) → effect_of d.fragments f ≡ e → IfSome (joined e (name_of f) (d.fragments ++ f ∷ []) ds).made P
+      on Repeats effect = tt
+      on Contradicts effect = tt
+      on Waits effect = tt
+      on TooLong effect = tt
+      on Completes effect =
+          let known = ready-there f ds d is fine kept found effect in
+          each (name_of f) (d.fragments ++ f ∷ []) known.0 known.1
+
+  taken-made : (now : ℕ) (frame : List ℕ) (ds : List Datagram) → IsFragment frame → AreKept ds → IfSome (taken now frame ds).made P
+  unfolding taken
+  taken-made now frame ds is kept = by (is_broken (trimmed frame)) refl
+    where
+      f : List ℕ
+      f = trimmed frame
+
+      by : (b : Bool) → is_broken f ≡ b → IfSome (cond b (refused None ds) (arrived now f (find (is_named (name_of f)) ds) ds)).made P
+      by true broken = tt
+      by false fine = arrived-made now f ds (trimmed-fragment frame is) fine kept (find (is_named (name_of f)) ds) refl
+
+-- at most 14 + 65,535 bytes
 pub taken-most : (now : ℕ) (frame : List ℕ) (ds : List Datagram) → IsFragment frame → AreKept ds → IfSome (taken now frame ds).made (λ (w : List ℕ). length w ≤ 65549)
-unfolding taken
-taken-most now frame ds is kept = by (is_broken (trimmed frame)) refl
-  where
-    f : List ℕ
-    f = trimmed frame
+taken-most = taken-made (λ (w : List ℕ). length w ≤ 65549) (λ name fs ready each. omega (arith, length-whole name fs ready each, ready.short))
 
-    by : (b : Bool) → is_broken f ≡ b → IfSome (cond b (refused None ds) (arrived now f (find (is_named (name_of f)) ds) ds)).made (λ (w : List ℕ). length w ≤ 65549)
-    by true broken = tt
-    by false fine = arrived-most now f ds (trimmed-fragment frame is) fine kept (find (is_named (name_of f)) ds) refl
+-- no source route
+pub taken-route : (now : ℕ) (frame : List ℕ) (ds : List Datagram) → IsFragment frame → AreKept ds → IfSome (taken now frame ds).made (λ (w : List ℕ). has_source_route (options_of (ipv4_in w)) ≡ false)
+taken-route = taken-made (λ (w : List ℕ). has_source_route (options_of (ipv4_in w)) ≡ false) route-whole
 
 -- ---- both sides
 either : (P : List ℕ → Type 0) (o : Option (List ℕ)) (w : List ℕ) → IfSome o P → P w → P (unwrap_or o w)

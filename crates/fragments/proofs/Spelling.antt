@@ -1,9 +1,10 @@
 -- What is read from a frame whose header was written.
-use Rattle.std.proofs.Common.{◌≡◌, ℕ, ◌+◌, ◌-◌, ◌*◌, ◌/◌, ◌%◌, ◌^◌, ◌<◌, ◌≤◌, List, [], ◌∷◌, ◌++◌, length, take, drop, slice_index, refl, ap, ◌∙◌, sym, subst, arith, append_assoc, length-append, length-drop}
+use Rattle.std.proofs.Common.{◌≡◌, ℕ, ◌+◌, ◌-◌, ◌*◌, ◌/◌, ◌%◌, ◌^◌, ◌<◌, ◌≤◌, false, List, [], ◌∷◌, ◌++◌, length, take, drop, slice_index, refl, ap, ◌∙◌, sym, subst, arith, append_assoc, length-append, length-drop}
 use Rattle.std.proofs.lemmas.List.{length-take-le, drop_at, take_at, take_all}
 use Rattle.byteorder.specs.Numbers.{big_number-reads_back}
 use Rattle.sums.specs.Sum.{IsRight, checksum_of}
 use Rattle.ipv4.specs.Header.{header_of, options_of, payload_of}
+use Rattle.ipv4.specs.Options.{has_source_route}
 use Rattle.fragments.specs.Fragment.{HasHeader, ipv4_in}
 use Rattle.byteorder.specs.Endian.{big_bytes}
 use Rattle.fragments.specs.Header.{fixed_summed, header_with}
@@ -12,7 +13,7 @@ use Rattle.fragments.specs.declared.headers.Fields.{Fields}
 word-written : (x : ℕ) → x < 65536 → x / 256 % 256 * 256 + (x % 256 * 1 + 0) ≡ x
 word-written x h = omega arith
 
--- what is written of a packet: its header's version is 4, and lengths and fields agree
+-- what is written of a packet: its header's version is 4, lengths and fields agree, and no option is a source route
 pub record Writes (fields : Fields) (packet options payload : List ℕ) : Type 0 where
   pub version : (header_of packet).version ≡ 4
   pub header : (header_of packet).header_length ≡ 20 + length options
@@ -22,6 +23,7 @@ pub record Writes (fields : Fields) (packet options payload : List ℕ) : Type 0
   pub flags : fields.flags < 65536
   pub source : (header_of packet).source < 256 ^ 4
   pub destination : (header_of packet).destination < 256 ^ 4
+  pub no_source_route : has_source_route options ≡ false
 
 -- a packet with these fields, options and payload, as it is read
 pub record Spelled (fields : Fields) (packet options payload bytes : List ℕ) : Type 0 where
@@ -42,6 +44,11 @@ pub length-header : (fields : Fields) (packet options : List ℕ) → length (he
 unfolding header_with fixed_summed
 length-header fields packet options = omega arith
 
+-- the options of a packet whose header was written
+pub options-written : (fields : Fields) (packet options payload : List ℕ) → (header_of packet).header_length ≡ 20 + length options → options_of (header_with fields packet options ++ payload) ≡ options
+unfolding header_with fixed_summed
+options-written fields packet options payload size = take_at options payload ((header_of packet).header_length - 20) (omega (arith, size))
+
 -- the first 20 bytes and the options have a right checksum
 right-header : (fields : Fields) (packet options : List ℕ) → (header_of packet).version ≡ 4 → IsRight (header_with fields packet options)
 unfolding header_with fixed_summed
@@ -55,6 +62,7 @@ spelled fields packet options payload is =
     let size : length written ≡ (header_of packet).header_length = length-header fields packet options ∙ sym is.header in
     let total : (header_of bytes).total_length ≡ fields.total = word-written fields.total is.fits in
     let behind : 20 + length options - 20 ≡ length options = omega arith in
+    let options_are : options_of bytes ≡ options = options-written fields packet options payload is.header in
     record {
       service = refl;
       identification = word-written fields.identification is.identification;
@@ -65,7 +73,7 @@ spelled fields packet options payload is =
       protocol = refl;
       source = big_number-reads_back 4 (header_of packet).source [] is.source;
       destination = big_number-reads_back 4 (header_of packet).destination [] is.destination;
-      options_are = take_at options payload ((header_of packet).header_length - 20) (omega (arith, is.header));
+      options_are = options_are;
       payload_is =
           ap (λ (n : ℕ). take (n - (header_of packet).header_length) (drop (header_of packet).header_length bytes)) total
           ∙ (ap (λ (xs : List ℕ). take (fields.total - (header_of packet).header_length) xs) (drop_at written payload (header_of packet).header_length size)
@@ -77,6 +85,7 @@ spelled fields packet options payload is =
         holds_header = omega (arith, total, is.total);
         there = omega (arith, total, is.total, size, length-append written payload);
         sum = subst IsRight (sym (take_at written payload (header_of packet).header_length size)) (right-header fields packet options is.version);
+        no_source_route = ap has_source_route options_are ∙ is.no_source_route;
       };
     }
 

@@ -1,9 +1,10 @@
 -- A frame without its padding carries the same fragment.
-use Rattle.std.proofs.Common.{◌≡◌, ℕ, ◌+◌, ◌-◌, ◌≤◌, List, [], ◌∷◌, ◌++◌, length, take, refl, ap, ◌∙◌, sym, subst, arith}
+use Rattle.std.proofs.Common.{◌≡◌, ℕ, ◌+◌, ◌-◌, ◌≤◌, List, [], ◌∷◌, ◌++◌, length, take, drop, refl, ap, ◌∙◌, sym, subst, arith}
 use Rattle.std.proofs.Math.Seq.{take-append-add}
 use Rattle.std.proofs.lemmas.List.{drop-take, length-take-le, take-take, length-drop}
 use Rattle.sums.specs.Sum.{IsRight}
-use Rattle.ipv4.specs.Header.{Header, header_of, is_fragment}
+use Rattle.ipv4.specs.Header.{Header, header_of, is_fragment, options_of}
+use Rattle.ipv4.specs.Options.{has_source_route}
 use Rattle.fragments.specs.Fragment.{HasHeader, IsFragment, ipv4_in, trimmed}
 
 -- the fields of a header are read from its first 20 bytes
@@ -14,6 +15,16 @@ header-front (b0 ∷ b1 ∷ b2 ∷ b3 ∷ b4 ∷ b5 ∷ b6 ∷ b7 ∷ b8 ∷ b9 
     ap (λ (n : ℕ). header_of (take n (front ++ rest))) more
     ∙ ap header_of (take-append-add front rest (t - 20))
 header-front _ t low long = absurd (omega arith)
+
+-- so are the options, which lie within the packet
+options-front : (p : List ℕ) (t : ℕ) → 20 ≤ t → 20 ≤ length p → (header_of p).header_length ≤ t → options_of (take t p) ≡ options_of p
+options-front p t low long fits =
+    let size : ℕ = (header_of p).header_length in
+    let more : t ≡ 20 + (t - 20) = omega arith in
+    ap (λ (h : Header). take (h.header_length - 20) (drop 20 (take t p))) (header-front p t low long)
+    ∙ ap (λ (n : ℕ). take (size - 20) (drop 20 (take n p))) more
+    ∙ ap (take (size - 20)) (drop-take 20 (t - 20) p)
+    ∙ take-take (size - 20) (t - 20) (drop 20 p) (omega (arith, fits))
 
 cut-header : (p : List ℕ) (t : ℕ) → (header_of p).total_length ≡ t → HasHeader p → HasHeader (take t p)
 cut-header p t is has =
@@ -30,6 +41,7 @@ cut-header p t is has =
       there = omega (arith, total, size);
       sum = subst (λ (h : Header). IsRight (take h.header_length (take t p))) (sym same)
           (subst IsRight (sym (take-take (header_of p).header_length t p short)) has.sum);
+      no_source_route = ap has_source_route (options-front p t low has.long short) ∙ has.no_source_route;
     }
 
 pub trimmed-fragment : (frame : List ℕ) → IsFragment frame → IsFragment (trimmed frame)

@@ -126,8 +126,8 @@ pub record IsCut (mtu identification : ℕ) (frame : List ℕ) : Type 0 where
   pub limits : IsMtu mtu
   pub fits : identification < 65536
 
--- what each fragment of such a packet is: a frame of at most `mtu` bytes of IPv4 with a right header, and it is a fragment
--- where there are several. Each but the last carries as many bytes as a multiple of 8 allows
+-- what each fragment of such a packet is: a frame of at most `mtu` bytes of IPv4 with a right header without a source route,
+-- and it is a fragment where there are several. Each but the last carries as many bytes as a multiple of 8 allows
 pub record IsPiece (mtu identification : ℕ) (frame : List ℕ) (k : ℕ) : Type 0 where
   pub header : HasHeader (ipv4_in (piece mtu identification frame k))
   pub short : length (piece mtu identification frame k) ≤ 14 + mtu

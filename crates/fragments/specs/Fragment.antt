@@ -1,16 +1,17 @@
 -- Fragments of IPv4 packets, and which bytes of its datagram's payload each carries (RFC 791, sections 2.3 and 3.2;
 -- RFC 815).
-use Rattle.std.specs.Prelude.{◌≡◌, ◌≤◌, ℕ, ◌+◌, ◌*◌, ◌%◌, Bool, true, not, ◌==◌, ◌&&◌, ◌||◌, nat_le, nat_lt, List, length, take}
+use Rattle.std.specs.Prelude.{◌≡◌, ◌≤◌, ℕ, ◌+◌, ◌*◌, ◌%◌, Bool, true, false, not, ◌==◌, ◌&&◌, ◌||◌, nat_le, nat_lt, List, length, take}
 use Rattle.std.specs.Str.{bytes_eq}
 use Rattle.sums.specs.Sum.{IsRight}
 use Rattle.frames.specs.Frame.{IsFrame, frame_of}
-use Rattle.ipv4.specs.Header.{header_of, is_fragment, payload_of}
+use Rattle.ipv4.specs.Header.{header_of, is_fragment, options_of, payload_of}
+use Rattle.ipv4.specs.Options.{has_source_route}
 
 -- the IPv4 packet in a frame, with the padding behind it
 abbrev pub ipv4_in : List ℕ → List ℕ
 ipv4_in frame = (frame_of frame).body
 
--- bytes begin with a whole IPv4 packet that has a right header, be it a fragment or not
+-- bytes begin with a whole IPv4 packet that has a right header without a source route, be it a fragment or not
 pub record HasHeader (packet : List ℕ) : Type 0 where
   pub long : 20 ≤ length packet
   pub version : (header_of packet).version ≡ 4
@@ -18,6 +19,7 @@ pub record HasHeader (packet : List ℕ) : Type 0 where
   pub holds_header : (header_of packet).header_length ≤ (header_of packet).total_length
   pub there : (header_of packet).total_length ≤ length packet
   pub sum : IsRight (take (header_of packet).header_length packet)
+  pub no_source_route : has_source_route (options_of packet) ≡ false
 
 -- a frame carries a fragment: More Fragments is set, or the offset isn't 0
 pub record IsFragment (frame : List ℕ) : Type 0 where

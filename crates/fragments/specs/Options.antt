@@ -1,16 +1,6 @@
 -- The options of all fragments of a packet but the first (RFC 791, section 3.1).
-use Rattle.std.specs.Prelude.{ℕ, zero, suc, nat_le, ◌==◌, ◌&&◌, List, [], ◌∷◌, ◌++◌, length, take, drop, replicate, slice_index, if◌then◌else◌}
-
--- the bytes of the option that begins here: of No Operation (1) one, of any other as many as its second byte says. 0 where
--- the options end: with End of Option List (0), or where that length is missing, below 2 or beyond the header
-abbrev pub option_size : List ℕ → ℕ
-option_size [] = 0
-option_size (kind ∷ rest) =
-    let size = slice_index rest 0 in
-    (if kind == 0 then 0
-    else if kind == 1 then 1
-    else if nat_le 2 size && nat_le size (length (kind ∷ rest)) then size
-    else 0)
+use Rattle.std.specs.Prelude.{ℕ, zero, suc, nat_le, ◌==◌, List, ◌++◌, length, take, drop, replicate, slice_index, if◌then◌else◌}
+use Rattle.ipv4.specs.Options.{option_size}
 
 -- the option here, of so many bytes, in later fragments: as it is where it is copied (its first byte is 128 or more), else
 -- No Operation

@@ -2,8 +2,10 @@
 //! within its bounds.
 ghost use Rattle.std.specs.Prelude.{◌≡◌, ◌≤◌, ◌<◌, ◌↔◌, ◌+◌, ℕ, List, Some, false, length, true};
 ghost use Rattle.std.specs.List.{AllByRecursion, Contains};
+ghost use Rattle.std.specs.Option.{IfSome};
 ghost use Rattle.nat_types.specs.declared.gateways.Side.{Side};
-ghost use Rattle.ipv4.specs.Header.{header_of, ipv4_refusal, is_fragment};
+ghost use Rattle.ipv4.specs.Header.{header_of, ipv4_refusal, is_fragment, options_of};
+ghost use Rattle.ipv4.specs.Options.{has_source_route};
 ghost use Rattle.ipv4.specs.declared.faults.Ipv4Fault.TheVariants.{Fragment};
 ghost use Rattle.fragments.specs.Fragment.{HasHeader, IsFragment, ipv4_in, is_broken, trimmed};
 ghost use Rattle.fragments.specs.Whole.{IsComplete, is_whole, reassembled};
@@ -11,9 +13,10 @@ ghost use Rattle.fragments.specs.Gathered.{AreApart, AreKept, Gathered, IsKept, 
 ghost use Rattle.fragments.specs.Gathered.{after, is_young, none_there, of_side, taken, without_old};
 ghost use Rattle.fragments.specs.declared.gatherings.Came.TheVariants.{Whole};
 ghost use Rattle.fragments.specs.Bytes.{AreBytes};
+ghost use Rattle.fragments.specs.Options.{later_options};
 ghost use Rattle.fragments.specs.Cut.{IsCut, IsMtu, IsPiece, cut, identified, is_long, piece_count, pieces};
 
-/// A packet is refused as a fragment exactly where it has a right header and is one.
+/// A packet is refused as a fragment exactly where it has a right header without a source route and is one.
 pub fn fragment_grammar()
     ensures { (packet : List ℕ) → (ipv4_refusal packet ≡ Some Fragment)
         ↔ (HasHeader packet × (is_fragment (header_of packet) ≡ true)) }
@@ -66,8 +69,8 @@ pub fn whole_again()
         → reassembled others ≡ identified identification frame }
 {}
 
-/// A packet is cut into at most 128 fragments with right headers, of at most `mtu` bytes of IPv4. Each but the last carries
-/// as many bytes as a multiple of 8 allows.
+/// A packet is cut into at most 128 fragments with right headers without a source route, of at most `mtu` bytes of IPv4.
+/// Each but the last carries as many bytes as a multiple of 8 allows.
 pub fn cut_law()
     ensures few { (mtu identification : ℕ) (frame : List ℕ)
         → IsCut mtu identification frame → piece_count mtu (ipv4_in frame) ≤ 128 }
@@ -90,4 +93,14 @@ pub fn pieces_law()
         → AllByRecursion (λ f. length f ≤ 14 + mtu) (pieces mtu frame) }
     ensures few { (mtu : ℕ) (frame : List ℕ) → IsMtu mtu → AreBytes frame
         → is_long mtu frame ≡ true → length (pieces mtu frame) ≤ 128 }
+{}
+
+/// A whole has no source route, since its options are those of the fragment with offset 0. The options of later fragments
+/// have one exactly where those of the packet have one; so no piece of a packet has one.
+pub fn route_law()
+    ensures whole { (now : ℕ) (frame : List ℕ) (datagrams : List Partial) → IsFragment frame
+        → AreKept datagrams → IfSome (taken now frame datagrams).made
+        (λ whole. has_source_route (options_of (ipv4_in whole)) ≡ false) }
+    ensures later { (options : List ℕ)
+        → has_source_route (later_options options) ≡ has_source_route options }
 {}

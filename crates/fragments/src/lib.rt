@@ -20,7 +20,8 @@ pub use cuts::{append_piece, piece_count};
 pub use cutters::{Cutter, is_long};
 pub use gatherings::{Came, Gathering, Loss};
 pub use laws::{
-    bounded, complete_law, cut_law, fragment_grammar, order_law, pieces_law, whole_again, whole_law,
+    bounded, complete_law, cut_law, fragment_grammar, order_law, pieces_law, route_law,
+    whole_again, whole_law,
 };
 pub use names::Name;
 pub use numbering::set_identification;

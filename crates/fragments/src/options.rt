@@ -6,55 +6,19 @@
 //! 07 03 04   94 04 00 00   00
 //! 01 01 01   94 04 00 00   00
 //! ```
-ghost use Rattle.std.specs.Prelude.{◌≡◌, ◌≤◌, ◌<◌, ◌∷◌, length, take};
-ghost use Rattle.fragments.specs.Options.{later_options, option_later, option_size};
+ghost use Rattle.std.specs.Prelude.{◌≡◌, ◌≤◌, ◌<◌, length, take};
+ghost use Rattle.fragments.specs.Options.{later_options, option_later};
+
+use ipv4::option_size;
 
 /// The most bytes of options.
 const LONGEST: usize = 40;
-
-/// End of Option List.
-const END: u8 = 0;
 
 /// No Operation, an option of one byte.
 const NO_OPERATION: u8 = 1;
 
 /// The least first byte of an option that is copied into all fragments.
 const COPIED: u8 = 128;
-
-/// Returns the bytes of the option that begins here, or 0 where the options end.
-fn option_size(options: &[u8]) -> usize
-    ensures value { result ≡ option_size options.now }
-    ensures within { result ≤ length options.now }
-{
-    match options {
-        [] => 0,
-        [kind, rest @ ..] => size_of(*kind, rest),
-    }
-}
-
-/// Returns the bytes of the option that begins with this byte and goes on with these.
-fn size_of(kind: u8, rest: &[u8]) -> usize
-    ensures value { result ≡ option_size (kind ∷ rest.now) }
-    ensures within { result ≤ length (kind ∷ rest.now) }
-{
-    if kind == END {
-        return 0;
-    }
-    if kind == NO_OPERATION {
-        return 1;
-    }
-    match rest {
-        [] => 0,
-        [size, ..] => {
-            let size = usize::from(*size);
-            if size >= 2 && size <= rest.len() + 1 {
-                size
-            } else {
-                0
-            }
-        }
-    }
-}
 
 /// Writes No Operation over each byte of an option that isn't copied.
 fn blank_option(option: &mut [u8])

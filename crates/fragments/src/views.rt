@@ -59,7 +59,7 @@ fn is_part(packet: &[u8]) -> bool
     }
 }
 
-/// Whether a frame carries a fragment whose header is right.
+/// Whether a frame carries a fragment whose header is right, and has no source route.
 pub fn is_fragment(frame: &[u8]) -> bool
     ensures { IsTrue result ↔ IsFragment frame.now }
 {

@@ -65,7 +65,7 @@ impl<'a, R: Files<File = File> + Net + Eprint + Env + AllocGlobal> Parts<'a, R> 
         let sink = Sink::new(StandardError(rt), start.format);
         let filtered = FilteredLog::new(sink, read_filter(rt, start.log)?);
         let mappings = start.mappings.then(|| Mappings::new(alloc)).transpose()?;
-        let log = EventLog::new(filtered, mappings);
+        let log = EventLog::new(filtered, settings.vrrp.peer_only, mappings);
         let capture = start
             .capture
             .map(|path| open_capture(rt, path))

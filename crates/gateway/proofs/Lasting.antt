@@ -30,7 +30,7 @@ use Rattle.vrrp_states.specs.Table.{Event as RouterEvent, IsMoment}
 use Rattle.vrrp_states.specs.declared.Action.{Action}
 use Rattle.spec_step.specs.declared.events.Event.{Event}
 use Rattle.spec_step.specs.declared.events.Event.TheVariants.{Frame, Datagram as Comes, Tick, Stop, PeerOff, Side as SideIs}
-use Rattle.spec_step.specs.Parts.{acted, all_framed, all_idle_done, all_sought_done, alone_taken, answered_by, arp_taken, datagram_read, datagram_taken, framed, frames_of, gone_alone, handed_in, has_synced, heard_by, heard_unless, idle_done, idle_taken, link_answered, link_ticked, old_dropped, peer_told, record_done, record_shown, records_done, released, reset, side_plugged, sought_done, wait_ended, with_link, with_routers}
+use Rattle.spec_step.specs.Parts.{acted, all_framed, all_idle_done, all_sought_done, alone_taken, answered_by, arp_heard, arp_taken, datagram_read, datagram_taken, framed, frames_of, gone_alone, handed_in, has_synced, heard_by, heard_unless, idle_done, idle_taken, is_taught, link_answered, link_ticked, old_dropped, peer_told, record_done, record_shown, records_done, released, reset, side_plugged, sought_done, wait_ended, waits_for_sender, with_link, with_routers}
 use Rattle.spec_step.specs.declared.turns.Turn.{Turn}
 use Rattle.spec_step.specs.declared.turns.Turn.TheVariants.{Leaves, Returns, Stays as Remains}
 use Rattle.spec_step.specs.GivingWay.{TakesTurn, left, returned, turn_of}
@@ -63,30 +63,35 @@ both-stay : (s : GatewayAndOutput) (e : RouterEvent) (s2 : GatewayAndOutput) →
 both-stay s e s2 b =
     stays-then s.shown b.between.shown s2.shown (router-stays s Inside e b.between b.inside) (router-stays b.between Outside e s2 b.outside)
 
-heard-network : (station : Interface) (p : ArpPacket) (now : ℕ) → (after_arp station p now).network ≡ station.network
+heard-network : (station : Interface) (p : ArpPacket) (waited_for : Bool) (now : ℕ) → (after_arp station p waited_for now).network ≡ station.network
 unfolding after_arp
-heard-network station p now = at (is_learnable station.network p)
+heard-network station p waited_for now = at (is_learnable station.network p)
   where
-    at : (b : Bool) → (let i : Interface = cond b (with_neighbour station p now) station in i.network) ≡ station.network
+    at : (b : Bool) → (let i : Interface = cond b (with_neighbour station p waited_for now) station in i.network) ≡ station.network
     at true = refl
     at false = refl
+
+heard-by-stays : (g : Shown) (side : Side) (p : ArpPacket) → Stays g (arp_heard g side p)
+heard-by-stays g side p =
+    let waited = waits_for_sender g side p in
+    station-stays g side (after_arp (station_on g side) p waited g.moment) (heard-network (station_on g side) p waited g.moment)
 
 answered-stays : (s : GatewayAndOutput) (side : Side) (p : ArpPacket) (o : Option Mac) → Stays s.shown (answered_by s side p o).shown
 answered-stays s side p None = stays-here s.shown
 answered-stays s side p (Some mac) = stays-here s.shown
 
-arp-by : (s told : GatewayAndOutput) (side : Side) (p : ArpPacket) (learns : Bool) → Stays s.shown told.shown → Stays s.shown (let r : GatewayAndOutput = cond learns (released told (One (wait.Hop side p.sender_ip))) told in r.shown)
+arp-by : (s told : GatewayAndOutput) (side : Side) (p : ArpPacket) (taught : Bool) → Stays s.shown told.shown → Stays s.shown (let r : GatewayAndOutput = cond taught (released told (One (wait.Hop side p.sender_ip))) told in r.shown)
 arp-by s told side p true x = stays-then s.shown told.shown (released told (One (wait.Hop side p.sender_ip))).shown x (released-stays told (One (wait.Hop side p.sender_ip)))
 arp-by s told side p false x = x
 
 arp-stays : (s : GatewayAndOutput) (side : Side) (p : ArpPacket) → Stays s.shown (arp_taken s side p).shown
 arp-stays s side p =
     let station = station_on s.shown side in
-    let heard = scene (with_station s.shown side (after_arp station p s.shown.moment)) s.told in
+    let heard = scene (arp_heard s.shown side p) s.told in
     let answer = answer_to station.network (is_active station) p in
     let told = answered_by heard side p answer in
-    arp-by s told side p (is_learnable station.network p)
-    (stays-then s.shown heard.shown told.shown (station-stays s.shown side (after_arp station p s.shown.moment) (heard-network station p s.shown.moment)) (answered-stays heard side p answer))
+    arp-by s told side p (is_taught s.shown side p)
+    (stays-then s.shown heard.shown told.shown (heard-by-stays s.shown side p) (answered-stays heard side p answer))
 
 frame-stays : (s : GatewayAndOutput) (side : Side) (bytes : List ℕ) (r : Result Reading Reason) (s2 : GatewayAndOutput) → FrameDoes s side bytes r s2 → Stays s.shown s2.shown
 frame-stays s side bytes (Ok (Arp p)) s2 does = stays-as s.shown (arp_taken s side p) s2 does (arp-stays s side p)

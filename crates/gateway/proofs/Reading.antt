@@ -134,6 +134,7 @@ ipv4-part side network active frame part = at (ipv4_refusal frame.body) refl par
     at (Some fault.TheVariants.BadVersion) is has = absurd (cc)
     at (Some fault.TheVariants.BadLength) is has = absurd (cc)
     at (Some fault.TheVariants.BadHeaderSum) is has = absurd (cc)
+    at (Some fault.TheVariants.SourceRoute) is has = absurd (cc)
     at (Some fault.TheVariants.NotUdpTcp) is has = absurd (cc)
     at (Some fault.TheVariants.BadTransport) is has = absurd (cc)
 

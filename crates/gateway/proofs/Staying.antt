@@ -25,7 +25,7 @@ use Rattle.packet_rules.specs.declared.readings.Asked.{Asked as Echo}
 use Rattle.packet_rules.specs.declared.readings.Reading.{Reading}
 use Rattle.packet_rules.specs.declared.readings.Reading.TheVariants.{Arp, Advert, Packet, Error, Asked}
 use Rattle.packet_rules.specs.declared.reasons.Reason.{Reason}
-use Rattle.packet_rules.specs.declared.reasons.Reason.TheVariants.{ShortFrame, NotMine, BadHeader, BadLength, BadHeaderSum, Fragment, TtlOver, NotUdpTcp, BadTransport, BadArp, BadAdvert, NotUp, NoBinding, NoPort, CannotWait, BadDatagram, OldWord, HostLimit, TooLong, TooMany}
+use Rattle.packet_rules.specs.declared.reasons.Reason.TheVariants.{ShortFrame, NotMine, BadHeader, BadLength, BadHeaderSum, Fragment, TtlOver, NotUdpTcp, BadTransport, BadArp, BadAdvert, NotUp, NoBinding, NoPort, CannotWait, BadDatagram, OldWord, HostLimit, TooLong, TooMany, SourceRoute}
 use Rattle.packet_rules.specs.declared.translations.Translation.{Translation}
 use Rattle.packet_rules.specs.declared.translations.Translation.TheVariants.{Outward, Inward, Hairpin}
 use Rattle.packet_rules.specs.Flows.{source_of}
@@ -37,7 +37,7 @@ use Rattle.spec_step.specs.declared.plans.Reply.{Reply}
 use Rattle.spec_step.specs.declared.plans.Reply.TheVariants as reply
 use Rattle.spec_step.specs.declared.plans.Plan.{Plan}
 use Rattle.spec_step.specs.declared.plans.Plan.TheVariants.{Send, Ask, AskAgain, Wait as WaitFor}
-use Rattle.spec_step.specs.Parts.{all_taken, asked_again, by_plan, by_refusal, by_row, by_verdict, carried_all, carried_by, flow_taken, released, retaken_by, taken_again, flags_in, framed, neighbour_asked, renewed_behind, request_by, wanted_by, wanted_for, by_error_plan, by_error_verdict, error_taken, by_reply, by_reply_verdict, complained, complained_to, counted, echo_taken, size_in, refused, sender_in}
+use Rattle.spec_step.specs.Parts.{all_taken, asked_again, by_plan, by_refusal, by_row, by_verdict, carried_all, carried_by, flow_taken, released, retaken_by, taken_again, flags_in, framed, neighbour_sent, renewed_behind, request_by, wanted_by, wanted_for, by_error_plan, by_error_verdict, error_taken, by_reply, by_reply_verdict, complained, complained_to, counted, echo_taken, size_in, refused, sender_in}
 use Rattle.spec_step.specs.Shown.{GatewayAndOutput, Shown, is_apart, scene, station_on, with_station}
 use Rattle.spec_step.specs.Verdict.{exit_by, hop_by, plan_of, reading_on, error_hop, error_plan, hop_back, next_back, reply_to}
 use Rattle.icmp.specs.declared.packets.ErrorFlow.{ErrorFlow}
@@ -91,17 +91,20 @@ wanted-for-stays s flow (Outward p) = wanted-stays s (source_of flow)
 wanted-for-stays s flow (Inward p) = stays-here s.shown
 wanted-for-stays s flow (Hairpin own other) = wanted-stays s (source_of flow)
 
--- asking for a neighbour, or for a next hop again, changes none of these
-neighbour-stays : (g : Shown) (exit : Side) (hop : Ip) → Stays g (neighbour_asked g exit hop)
+-- sending to a neighbour, and asking for it or for a next hop again, changes none of these
+neighbour-stays : (g : Shown) (exit : Side) (hop : Ip) → Stays g (neighbour_sent g exit hop)
 neighbour-stays g Inside hop = record { moment = refl; capacity = refl; zero = refl; one = refl; networks = refl; inside = refl; outside = refl }
 neighbour-stays g Outside hop = record { moment = refl; capacity = refl; zero = refl; one = refl; networks = refl; inside = refl; outside = refl }
 
 renewed-stays : (s : GatewayAndOutput) (exit : Side) (hop : Ip) → Stays s.shown (renewed_behind s exit hop).shown
 renewed-stays s exit hop = at (asks_at hop.0 s.shown.moment (station_on s.shown exit).neighbours)
   where
-    at : (b : Bool) → Stays s.shown (let r : GatewayAndOutput = cond b (framed (scene (neighbour_asked s.shown exit hop) s.told) exit (request_by s.shown exit hop)) s in r.shown)
+    sent : GatewayAndOutput
+    sent = scene (neighbour_sent s.shown exit hop) s.told
+
+    at : (b : Bool) → Stays s.shown (let r : GatewayAndOutput = cond b (framed sent exit (request_by s.shown exit hop)) sent in r.shown)
     at true = neighbour-stays s.shown exit hop
-    at false = stays-here s.shown
+    at false = neighbour-stays s.shown exit hop
 
 again-asked-stays : (s : GatewayAndOutput) (exit : Side) (hop : Ip) → Stays s.shown (asked_again s exit hop).shown
 again-asked-stays s exit hop = at (asks_again s.shown.moment (wait.Hop exit hop) s.shown.kept)
@@ -175,6 +178,7 @@ refused-stays s side exit bytes BadDatagram = stays-here s.shown
 refused-stays s side exit bytes OldWord = stays-here s.shown
 refused-stays s side exit bytes HostLimit = stays-here s.shown
 refused-stays s side exit bytes TooMany = stays-here s.shown
+refused-stays s side exit bytes SourceRoute = stays-here s.shown
 
 -- the side at which a packet would leave
 abbrev exit_taken : GatewayAndOutput → Side → Flow → Side
@@ -201,6 +205,7 @@ refusal-stays s side bytes flow OldWord = stays-here s.shown
 refusal-stays s side bytes flow HostLimit = stays-here s.shown
 refusal-stays s side bytes flow TooLong = refused-stays s side (exit_taken s side flow) bytes TooLong
 refusal-stays s side bytes flow TooMany = stays-here s.shown
+refusal-stays s side bytes flow SourceRoute = stays-here s.shown
 
 verdict-stays : (s : GatewayAndOutput) (side : Side) (bytes : List ℕ) (flow : Flow) (r : Result Plan Reason) → Stays s.shown (by_verdict s side bytes flow r).shown
 verdict-stays s side bytes flow (Ok plan) = plan-stays s side bytes flow plan

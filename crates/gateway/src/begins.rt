@@ -189,8 +189,16 @@ fn begin_unsynced(
     let zero = bounds_of(settings.ports.zero);
     let one = bounds_of(settings.ports.one);
     let parts = parts_of(alloc, settings, id, boot)?;
-    let limit = settings.ports.host_limit;
-    let core = Core::unsynced(alloc, id, zero, one, limit, settings.alone, hashers)?;
+    let core = Core::unsynced(
+        alloc,
+        id,
+        zero,
+        one,
+        settings.ports.host_limit,
+        settings.alone,
+        settings.ports.inward_refresh,
+        hashers,
+    )?;
     Ok(joined(settings, id, parts, core))
 }
 
@@ -212,8 +220,15 @@ fn begin_founded(
     let zero = bounds_of(settings.ports.zero);
     let one = bounds_of(settings.ports.one);
     let parts = parts_of(alloc, settings, GatewayId::Zero, boot)?;
-    let limit = settings.ports.host_limit;
-    let core = Core::founder(alloc, zero, one, limit, settings.alone, hashers)?;
+    let core = Core::founder(
+        alloc,
+        zero,
+        one,
+        settings.ports.host_limit,
+        settings.alone,
+        settings.ports.inward_refresh,
+        hashers,
+    )?;
     let mut forwarder = joined(settings, GatewayId::Zero, parts, core);
     start_routers(&mut forwarder);
     Ok(forwarder)

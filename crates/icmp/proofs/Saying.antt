@@ -4,6 +4,7 @@ use Rattle.std.proofs.lemmas.List.{get_or-drop}
 use Rattle.std.proofs.Math.Seq.{take-length}
 use Rattle.sums.specs.Sum.{IsRight}
 use Rattle.ipv4.specs.Header.{header_of, word_at}
+use Rattle.ipv4.proofs.Offered.{route-none}
 use Rattle.icmp.specs.Ask.{IsAsk}
 use Rattle.icmp.specs.Own.{flags_of, identification_of, own_message, own_packet, IsOwnPacket, IsReplyTo, reply_message}
 use Rattle.icmp.specs.Query.{IsQuery, query_of, query_data}
@@ -52,6 +53,7 @@ spelled cutting service from to message numbered small from_fits to_fits fits =
         holds_header = omega (arith, total);
         there = omega (arith, total, size);
         sum = sum;
+        no_source_route = route-none;
         last = flags.1.0;
         first = flags.1.1;
       };

@@ -1,5 +1,5 @@
 -- What callers see of an interface of a gateway, and how each event changes it.
-use Rattle.std.specs.Prelude.{◌≡◌, ℕ, Bool, true, false, List, [], map, length, None, if◌then◌else◌}
+use Rattle.std.specs.Prelude.{◌≡◌, ℕ, Bool, true, false, ◌&&◌, ◌||◌, List, [], map, length, None, if◌then◌else◌}
 use Rattle.std.specs.List.{filter}
 use Rattle.nat_types.specs.declared.gateways.GatewayId.{GatewayId}
 use Rattle.nat_types.specs.declared.gateways.Side.{Side}
@@ -10,13 +10,13 @@ use Rattle.settings.specs.Parts.{gateway_of}
 use Rattle.arp.specs.declared.caches.Neighbour.{Neighbour}
 use Rattle.arp.specs.declared.packets.ArpPacket.{ArpPacket}
 use Rattle.arp.specs.Macs.{KnowsMacs}
-use Rattle.arp.specs.Neighbours.{Neighbours, with_entry}
+use Rattle.arp.specs.Neighbours.{Neighbours, has_entry, taught}
 use Rattle.vrrp_states.specs.declared.State.{State}
 use Rattle.vrrp_states.specs.declared.State.TheVariants.{Initialize, Backup, Active}
 use Rattle.vrrp_states.specs.declared.Action.{Action}
 use Rattle.vrrp_states.specs.Table.{Router, Event, IsStep, new_router}
 use Rattle.packet_rules.specs.declared.networks.Network.{Network}
-use Rattle.packet_rules.specs.Arping.{is_learnable}
+use Rattle.packet_rules.specs.Arping.{is_for_us, is_learnable}
 use Rattle.packet_rules.specs.Networks.{network_of, networks_of}
 use Rattle.interfaces.specs.declared.cables.Cable.{Cable}
 use Rattle.interfaces.specs.declared.cables.Cable.TheVariants.{In}
@@ -93,20 +93,30 @@ with_reply station now = record station { said = replied now station.said }
 abbrev pub with_complaint : Interface → ℕ → Interface
 with_complaint station now = record station { said = complained now station.said }
 
--- the sender of an ARP packet is learnt or renewed
-abbrev pub with_neighbour : Interface → ArpPacket → ℕ → Interface
-with_neighbour station p now = record station {
-  neighbours = record station.neighbours {
-    learnt = with_entry
-        (record { address = p.sender_ip; mac = p.sender_mac; at = now; asked = now })
-        station.neighbours.learnt;
-  };
+-- an address that has no entry is learnt from an ARP packet that is for the interface, or whose sender is waited for: a
+-- packet waits there for the sender as its next hop (RFC 826, "Packet Reception")
+abbrev pub may_come_in : Interface → ArpPacket → Bool → Bool
+may_come_in station p waited_for = is_for_us station.network p || waited_for
+
+-- the sender of an ARP packet is learnt or renewed: it is one that is learnt, and its address has an entry or may come
+-- in
+abbrev pub teaches : Interface → ArpPacket → Bool → Bool
+teaches station p waited_for =
+    is_learnable station.network p
+    && (has_entry p.sender_ip.0 station.neighbours.learnt || may_come_in station p waited_for)
+
+-- the interface after an ARP packet of a sender that is learnt
+abbrev pub with_neighbour : Interface → ArpPacket → Bool → ℕ → Interface
+with_neighbour station p waited_for now = record station {
+  neighbours =
+      taught p.sender_ip p.sender_mac (may_come_in station p waited_for) now
+      station.neighbours;
 }
 
 -- the interface after it heard an ARP packet
-unfoldable pub after_arp : Interface → ArpPacket → ℕ → Interface
-after_arp station p now =
-    (if is_learnable station.network p then with_neighbour station p now else station)
+unfoldable pub after_arp : Interface → ArpPacket → Bool → ℕ → Interface
+after_arp station p waited_for now =
+    (if is_learnable station.network p then with_neighbour station p waited_for now else station)
 
 -- all hardware addresses have six bytes
 pub record IsWired (station : Interface) : Type 0 where

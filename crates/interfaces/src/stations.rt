@@ -1,6 +1,6 @@
 //! An interface with its state.
-ghost use Rattle.std.specs.Prelude.{◌≡◌, true, ℕ, ◌≤◌, ◌+◌, ◌++◌, IfOk, IfErr, IfSome, OnErr, length, vec_len, vec_capacity, if◌then◌else◌};
-ghost use Rattle.arp.specs.Neighbours.{mac_at, asks_at, asked_at};
+ghost use Rattle.std.specs.Prelude.{◌≡◌, true, ℕ, ◌≤◌, ◌+◌, ◌++◌, ◌&&◌, IfOk, IfErr, IfSome, OnErr, length, vec_len, vec_capacity};
+ghost use Rattle.arp.specs.Neighbours.{mac_at, asks_at, has_entry, sent_at};
 ghost use Rattle.arp.specs.declared.packets.TheConstants.{ARP_FRAME};
 ghost use Rattle.vrrp_packet.specs.declared.TheConstants.{ADVERT_FRAME};
 ghost use Rattle.vrrp_states.specs.declared.Action.TheVariants.{Nothing};
@@ -12,7 +12,7 @@ ghost use Rattle.packet_rules.specs.Asked.{IsWhole};
 ghost use Rattle.packet_rules.specs.declared.reasons.Reason.TheVariants.{TtlOver};
 ghost use Rattle.packet_rules.specs.Steps.{reading_of, Carries};
 ghost use Rattle.interfaces.specs.Cables.{is_in, is_whole, plugged};
-ghost use Rattle.interfaces.specs.Stations.{is_active, is_active_in, is_on, fixed_of, fixed_on, new_station, IsRouterStep, after_arp, with_complaint, with_plug, with_reply, IsWired};
+ghost use Rattle.interfaces.specs.Stations.{is_active, is_active_in, is_on, fixed_of, fixed_on, new_station, IsRouterStep, after_arp, teaches, with_complaint, with_plug, with_reply, IsWired};
 ghost use Rattle.interfaces.specs.Tallies.{may_complain, may_reply};
 ghost use Rattle.interfaces.specs.Memory.{LacksInterface};
 ghost use Rattle.memory.specs.Memory.{WasRefused};
@@ -242,18 +242,22 @@ impl Interface {
         self.router.stop()
     }
 
-    /// Learns or renews the sender of an ARP packet at `now`, if the sender is one that is learnt, and returns whether
-    /// it is.
+    /// Renews the sender of an ARP packet at `now`, if the sender is one that is learnt. Where its address has no
+    /// entry, learns it if the packet is for the interface, or if the sender is `waited_for`: a packet waits there for
+    /// it as next hop. Returns whether the sender was learnt or renewed, so that its address has an entry now.
     #[tactic(auto, unfolding(crate::specs::Stations::after_arp))]
-    pub fn learn(&mut self, packet: &ArpPacket, now: u64) -> bool
-        ensures learnt { result ≡ is_learnable self.old.network packet.now }
-        ensures after { self.new ≡ after_arp self.old packet.now now }
+    pub fn learn(&mut self, packet: &ArpPacket, waited_for: bool, now: u64) -> bool
+        ensures teaches { result ≡ teaches self.old packet.now waited_for }
+        ensures has { result ≡ (is_learnable self.old.network packet.now
+            && has_entry packet.now.sender_ip.0 self.new.neighbours.learnt) }
+        ensures after { self.new ≡ after_arp self.old packet.now waited_for now }
     {
-        let learns = packet_rules::is_learnt(&self.network, packet);
-        if learns {
-            self.cache.learn(packet.sender_ip, packet.sender_mac, now);
+        if !packet_rules::is_learnt(&self.network, packet) {
+            return false;
         }
-        learns
+        let may_come_in = packet_rules::is_for_us(&self.network, packet) || waited_for;
+        self.cache
+            .learn(packet.sender_ip, packet.sender_mac, may_come_in, now)
     }
 
     /// Returns the hardware address of a neighbour that is static, or was learnt and is valid at `now`, or None where
@@ -266,17 +270,15 @@ impl Interface {
         self.cache.mac_of(address, now)
     }
 
-    /// Whether a packet that was sent to a neighbour at `now` must be followed by an ARP request for its address. The
-    /// answer is true where the neighbour isn't static, was learnt or renewed 90,000 centiseconds ago or more, and was
-    /// last asked for 100 ago or more. The neighbour then counts as asked for at `now`.
+    /// Notes that a packet was sent to a neighbour at `now`, and returns whether an ARP request for its address must
+    /// follow. That is so where the neighbour isn't static, was learnt or renewed 3,000 centiseconds ago or more or got
+    /// another hardware address by its last renewal, and was learnt and last asked for 100 ago or more. The neighbour
+    /// then counts as asked for at `now`.
     #[inline(always)]
     pub fn ask(&mut self, address: Ip, now: u64) -> bool
         ensures asks { result ≡ asks_at address.0 now self.old.neighbours }
         ensures after { self.new
-            ≡ record self.old {
-              neighbours = (if result then asked_at address.0 now self.old.neighbours
-                  else self.old.neighbours);
-            } }
+            ≡ record self.old { neighbours = sent_at address.0 now self.old.neighbours } }
     {
         self.cache.ask(address, now)
     }

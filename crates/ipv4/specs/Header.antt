@@ -1,12 +1,13 @@
 -- IPv4 headers (RFC 791, section 3.1).
-use Rattle.std.specs.Prelude.{◌≡◌, ◌≤◌, ℕ, ◌-◌, ◌*◌, ◌/◌, ◌%◌, Bool, ◌==◌, nat_lt, not, ◌||◌, List, [], ◌∷◌, length, take, drop, slice_index, Option}
+use Rattle.std.specs.Prelude.{◌≡◌, ◌≤◌, ℕ, ◌-◌, ◌*◌, ◌/◌, ◌%◌, Bool, false, ◌==◌, nat_lt, not, ◌||◌, List, [], ◌∷◌, length, take, drop, slice_index, Option}
 use Rattle.byteorder.specs.Endian.{big_number}
 use Rattle.sums.specs.Sum.{word_sum, IsRight}
+use Rattle.ipv4.specs.Options.{has_source_route}
 use Rattle.ipv4.specs.Order.{first_fault}
 use Rattle.ipv4.specs.declared.header.TheConstants.{DONT_FRAGMENT, MORE_FRAGMENTS}
 use Rattle.ipv4.specs.declared.header.field.TheConstants.{FIXED}
 use Rattle.ipv4.specs.declared.faults.Ipv4Fault.{Ipv4Fault}
-use Rattle.ipv4.specs.declared.faults.Ipv4Fault.TheVariants.{TooShort, BadVersion, BadLength, BadHeaderSum, Fragment}
+use Rattle.ipv4.specs.declared.faults.Ipv4Fault.TheVariants.{TooShort, BadVersion, BadLength, BadHeaderSum, SourceRoute, Fragment}
 
 -- the 16-bit word at a place
 abbrev pub word_at : ℕ → List ℕ → ℕ
@@ -56,7 +57,7 @@ payload_of bytes =
     let header = header_of bytes in
     take (header.total_length - header.header_length) (drop header.header_length bytes)
 
--- the bytes begin with a whole IPv4 packet that has a right header and is no fragment
+-- the bytes begin with a whole IPv4 packet that has a right header without a source route and is no fragment
 pub record IsIpv4 (bytes : List ℕ) : Type 0 where
   pub long : FIXED ≤ length bytes
   pub version : (header_of bytes).version ≡ 4
@@ -64,6 +65,7 @@ pub record IsIpv4 (bytes : List ℕ) : Type 0 where
   pub holds_header : (header_of bytes).header_length ≤ (header_of bytes).total_length
   pub there : (header_of bytes).total_length ≤ length bytes
   pub sum : IsRight (take (header_of bytes).header_length bytes)
+  pub no_source_route : has_source_route (options_of bytes) ≡ false
   pub last : (header_of bytes).more_fragments ≡ 0
   pub first : (header_of bytes).fragment_offset ≡ 0
 
@@ -92,5 +94,6 @@ ipv4_refusal bytes =
       BadLength,
     )
     ∷ (has_wrong_sum (take header.header_length bytes), BadHeaderSum)
+    ∷ (has_source_route (options_of bytes), SourceRoute)
     ∷ (is_fragment header, Fragment)
     ∷ [])

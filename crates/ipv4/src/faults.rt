@@ -15,6 +15,9 @@ pub enum Ipv4Fault {
     BadLength,
     #[error("a wrong header checksum")]
     BadHeaderSum,
+    /// An option is a loose or a strict source route.
+    #[error("a source route")]
+    SourceRoute,
     #[error("a fragment")]
     Fragment,
     #[error("neither UDP nor TCP")]

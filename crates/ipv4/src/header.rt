@@ -24,10 +24,12 @@ ghost use Rattle.byteorder.specs.Endian.{big_bytes};
 ghost use Rattle.addresses.specs.Transport.{protocol_numbered};
 ghost use Rattle.frames.specs.Bytes.{Puts};
 ghost use Rattle.ipv4.specs.Header.{header_of, options_of, payload_of, IsIpv4, is_fragment, is_unbroken, ipv4_refusal};
+ghost use Rattle.ipv4.specs.Options.{has_source_route};
 ghost use Rattle.ipv4.specs.declared.header.TheConstants.{DONT_FRAGMENT, MORE_FRAGMENTS};
 ghost use Rattle.ipv4.specs.declared.header.field.TheConstants.{FIXED};
 
 use crate::Ipv4Fault;
+use crate::options::has_source_route;
 use addresses::{Ip, Protocol};
 use byteorder::{BigEndian, ByteOrder};
 use frames::Refused;
@@ -96,6 +98,9 @@ impl<'a> Ipv4View<'a> {
         }
         if !is_right(&bytes[..header_length]) {
             return Err(Ipv4Fault::BadHeaderSum);
+        }
+        if source_route(bytes, header_length) {
+            return Err(Ipv4Fault::SourceRoute);
         }
         if fragment(bytes) {
             return Err(Ipv4Fault::Fragment);
@@ -292,6 +297,18 @@ fn destination(bytes: &[u8]) -> Ip
     ensures { result.0 ≡ (header_of bytes.now).destination }
 {
     Ip(BigEndian::read_u32(&bytes[field::DESTINATION]))
+}
+
+/// Whether one of the options is a source route. A header without options is told by its length.
+#[inline(always)]
+fn source_route(bytes: &[u8], header_length: usize) -> bool
+    requires long { 20 ≤ length bytes.now }
+    requires header { header_length ≡ (header_of bytes.now).header_length }
+    requires low { 20 ≤ header_length }
+    requires high { header_length ≤ length bytes.now }
+    ensures { result ≡ has_source_route (options_of bytes.now) }
+{
+    header_length > field::FIXED && has_source_route(&bytes[field::FIXED..header_length])
 }
 
 fn fragment(bytes: &[u8]) -> bool

@@ -4,6 +4,7 @@
 mod faults;
 mod flows;
 mod header;
+mod options;
 mod packets;
 mod tcp;
 mod transports;
@@ -12,6 +13,7 @@ mod udp;
 pub use faults::Ipv4Fault;
 pub use flows::Flow;
 pub use header::{Ipv4View, Ipv4ViewMut, ipv4_grammar};
+pub use options::option_size;
 pub use packets::{Packet, Size};
 pub use tcp::{TcpView, TcpViewMut, tcp_grammar};
 pub use transports::{Transport, transport_grammar};

@@ -4,23 +4,28 @@ use crate::limiter::Limiter;
 use crate::{Cause, Entry, Journal, LeftOutPackets, Mappings, Origin, TimedEntry};
 use log::{Level, Log, Metadata, Record};
 use nat_types::Note;
+use packet_rules::Reason;
 
 /// The log of a box. Of the events of a second that had no effect, the first of each origin and cause is written at once; when
-/// the second has ended, one record says how many others there were. So these events are at most 168 records a second: two
-/// for each of 4 origins and 21 causes. Timestamps are in centiseconds since the box's start.
+/// the second has ended, one record says how many others there were. So these events are at most 176 records a second: two
+/// for each of 4 origins and 22 causes. Timestamps are in centiseconds since the box's start.
 #[derive(Drop)]
 pub struct EventLog<L> {
     log: L,
+    /// Whether the box takes the other box's advertisements alone, so that each one dropped isn't that box's.
+    peer_only: bool,
     limiter: Limiter,
     /// The mappings that have begun, where mappings are logged.
     mappings: Option<Mappings>,
 }
 
 impl<L: Journal> EventLog<L> {
-    /// Returns the log of a box that starts now, over another log. With `mappings`, none of which has begun, mappings are logged.
-    pub fn new(log: L, mappings: Option<Mappings>) -> EventLog<L> {
+    /// Returns the log of a box that starts now, over another log. With `peer_only` the box takes the other box's
+    /// advertisements alone. With `mappings`, none of which has begun, mappings are logged.
+    pub fn new(log: L, peer_only: bool, mappings: Option<Mappings>) -> EventLog<L> {
         EventLog {
             log,
+            peer_only,
             limiter: Limiter::new(0),
             mappings,
         }
@@ -42,7 +47,16 @@ impl<L: Journal> EventLog<L> {
     pub fn write_dropped(&mut self, timestamp: u64, origin: Origin, cause: Cause) {
         self.advance_to(timestamp);
         if self.limiter.count(origin, cause) {
-            self.write(timestamp, Entry::First(origin, cause));
+            self.write(timestamp, Entry::First(origin, self.told_as(cause)));
+        }
+    }
+
+    /// Returns the cause as a record tells it.
+    fn told_as(&self, cause: Cause) -> Cause {
+        if self.peer_only && cause == Cause::Dropped(Reason::BadAdvert) {
+            Cause::NotOtherBox
+        } else {
+            cause
         }
     }
 
@@ -95,7 +109,7 @@ impl<L: Journal> EventLog<L> {
             for cause in Cause::ALL {
                 let others = limiter.others(origin, cause);
                 if others > 0 {
-                    let entry = Entry::Others(origin, cause, others);
+                    let entry = Entry::Others(origin, self.told_as(cause), others);
                     self.write_of(limiter.second, timestamp, entry);
                 }
             }

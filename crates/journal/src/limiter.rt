@@ -4,8 +4,8 @@ ghost use Rattle.std.specs.Prelude.{◌<◌};
 use crate::{Cause, Origin};
 use std::mem;
 
-/// How many counts there are: one for each of 4 origins and 21 causes.
-const COUNTS: usize = 84;
+/// How many counts there are: one for each of 4 origins and 22 causes.
+const COUNTS: usize = 88;
 
 /// The counts of the events of one second that had no effect, by origin and cause.
 #[derive(Drop)]
@@ -46,9 +46,9 @@ impl Limiter {
     }
 }
 
-/// Returns the index of the count of an origin and a cause. Each origin has 21 counts, one for each cause.
+/// Returns the index of the count of an origin and a cause. Each origin has 22 counts, one for each cause.
 fn index_of(origin: Origin, cause: Cause) -> usize
-    ensures small { result < 84 }
+    ensures small { result < 88 }
 {
-    21 * usize::from(origin as u8) + usize::from(cause.number())
+    22 * usize::from(origin as u8) + usize::from(cause.number())
 }

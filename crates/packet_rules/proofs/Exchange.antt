@@ -6,6 +6,7 @@ use Rattle.sums.specs.Sum.{checksum_of, IsRight}
 use Rattle.addresses.specs.declared.internet.Ip.{Ip}
 use Rattle.frames.specs.Frame.{frame_of}
 use Rattle.ipv4.specs.Header.{IsIpv4, header_of, payload_of, ipv4_refusal}
+use Rattle.ipv4.proofs.Offered.{route-none}
 use Rattle.vrrp_packet.specs.declared.Advert.{Advert as Message}
 use Rattle.vrrp_packet.specs.Message.{advert_refusal, IsAdvert, IsWritable, advert_of, advert_bytes}
 use Rattle.packet_rules.specs.declared.networks.Network.{Network}
@@ -16,7 +17,7 @@ use Rattle.packet_rules.specs.declared.reasons.Reason.TheVariants.{BadAdvert}
 use Rattle.packet_rules.specs.Adverts.{own_advert, advert_header, advert_packet, advert_frame}
 use Rattle.packet_rules.specs.Asked.{is_asked, is_echo, is_to_box}
 use Rattle.packet_rules.specs.Networks.{vrrp_mac, is_addressed, is_virtual}
-use Rattle.packet_rules.specs.Steps.{reason_of, size_refusal, up_refusal, destination_refusal, header_refusal, is_vrrp, is_from_peer, advert_reading, ipv4_reading, other_reading, body_reading, reading_of, unless}
+use Rattle.packet_rules.specs.Steps.{reason_of, size_refusal, up_refusal, destination_refusal, header_refusal, is_vrrp, counts, is_from_peer, advert_reading, ipv4_reading, other_reading, body_reading, reading_of, unless}
 use Rattle.nat_types.specs.declared.gateways.Side.{Side}
 
 -- the codecs' laws, as far as they speak of an advertisement's packet
@@ -52,6 +53,7 @@ packet-ipv4 source advert = record {
   holds_header = omega arith;
   there = omega arith;
   sum = header-right source;
+  no_source_route = route-none;
   last = refl;
   first = refl;
 }
@@ -76,9 +78,10 @@ ok-reading b a own s from t same source =
 
 packet-read : (c : Codecs) (network peer : Network) (priority interval : ℕ) → IsWritable (own_advert network priority interval) → network.own_ip.0 < 2 ^ 32
     → peer.interface.virtual_router ≡ network.interface.virtual_router → peer.own_ip.0 ≢ network.own_ip.0
+    → counts peer.peer network.own_ip.0 (own_advert network priority interval) ≡ true
     → advert_reading peer (advert_packet network.own_ip.0 (own_advert network priority interval)) ≡ Ok (Advert (own_advert network priority interval) network.own_ip)
 unfolding advert_reading is_from_peer
-packet-read c network peer priority interval writable fits router other =
+packet-read c network peer priority interval writable fits router other counted =
     let own = own_advert network priority interval in
     let packet = advert_packet network.own_ip.0 own in
     let read = c.read packet own writable refl refl in
@@ -86,7 +89,12 @@ packet-read c network peer priority interval writable fits router other =
     let source = source-there network.own_ip.0 own fits in
     let named = same-number _ _ (ap (λ (a : Message). a.router) read.1 ∙ sym router) in
     let foreign = other-number _ _ (λ e. other (sym e ∙ source)) in
-    ok-reading _ _ own _ network.own_ip (two-true _ _ none (two-true _ _ named foreign)) read.1 source
+    let heard =
+    ap (counts peer.peer (header_of packet).source) read.1
+    ∙ ap (λ s. counts peer.peer s own) source
+    ∙ counted
+    in
+    ok-reading _ _ own _ network.own_ip (two-true _ _ none (two-true _ _ named (two-true _ _ foreign heard))) read.1 source
 
 -- an advertisement is no Echo
 no-echo : (network peer : Network) (active : Bool) (priority interval : ℕ) → is_echo (frame_of (advert_frame network priority interval)).body ≡ false
@@ -108,22 +116,24 @@ otherwise true x y r other is = cc
 
 body-read : (c : Codecs) (side : Side) (network peer : Network) (active : Bool) (priority interval : ℕ) → IsWritable (own_advert network priority interval) → network.own_ip.0 < 2 ^ 32
     → peer.interface.virtual_router ≡ network.interface.virtual_router → peer.own_ip.0 ≢ network.own_ip.0
+    → counts peer.peer network.own_ip.0 (own_advert network priority interval) ≡ true
     → body_reading side peer active (frame_of (advert_frame network priority interval)) ≡ Ok (Advert (own_advert network priority interval) network.own_ip)
 unfolding body_reading ipv4_reading header_refusal other_reading is_vrrp
-body-read c side network peer active priority interval writable fits router other =
+body-read c side network peer active priority interval writable fits router other counted =
     let packet = advert_packet network.own_ip.0 (own_advert network priority interval) in
     passes (option_map reason_of (ipv4_refusal packet)) _ _
     (ap (option_map reason_of) (c.ipv4 packet (packet-ipv4 _ _)))
     (otherwise (is_asked peer active (frame_of (advert_frame network priority interval))) _ _ _ (not-asked network peer active priority interval)
-    (packet-read c network peer priority interval writable fits router other))
+    (packet-read c network peer priority interval writable fits router other counted))
 
 pub advert-read : (c : Codecs) (side : Side) (network peer : Network) (active : Bool) (priority interval : ℕ) → IsWritable (own_advert network priority interval) → network.own_ip.0 < 2 ^ 32
     → peer.interface.virtual_router ≡ network.interface.virtual_router → peer.own_ip.0 ≢ network.own_ip.0
+    → counts peer.peer network.own_ip.0 (own_advert network priority interval) ≡ true
     → reading_of side peer active true (advert_frame network priority interval) ≡ Ok (Advert (own_advert network priority interval) network.own_ip)
 unfolding size_refusal up_refusal destination_refusal
-advert-read c side network peer active priority interval writable fits router other =
+advert-read c side network peer active priority interval writable fits router other counted =
     let frame = frame_of (advert_frame network priority interval) in
     passes (size_refusal (advert_frame network priority interval)) _ _ refl
     (passes (up_refusal true) _ _ refl
     (passes (destination_refusal peer active frame) _ _ (no-refusal _ _ (two-true _ _ (addressed peer active) refl))
-    (body-read c side network peer active priority interval writable fits router other)))
+    (body-read c side network peer active priority interval writable fits router other counted)))

@@ -1,6 +1,7 @@
 mod Cut
 mod ErrorSorts
 mod Exchange
+mod Hearing
 mod Learning
 mod OwnSorts
 mod Passing

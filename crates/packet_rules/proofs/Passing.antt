@@ -27,6 +27,11 @@ use Rattle.packet_rules.specs.declared.networks.Network.{Network}
 use Rattle.packet_rules.specs.declared.readings.Reading.{Reading}
 use Rattle.packet_rules.specs.declared.readings.Reading.TheVariants.{Arp, Advert, Packet, Error, Asked}
 use Rattle.packet_rules.specs.declared.readings.Asked.{Asked as AskedValue}
+use Rattle.addresses.specs.declared.internet.Ip.{Ip}
+use Rattle.arp.specs.declared.packets.ArpPacket.{ArpPacket}
+use Rattle.icmp.specs.declared.packets.ErrorPacket.{ErrorPacket as ErrorValue}
+use Rattle.ipv4.specs.declared.packets.Packet.{Packet as PacketValue}
+use Rattle.vrrp_packet.specs.declared.Advert.{Advert as Message}
 use Rattle.packet_rules.specs.declared.reasons.Reason.{Reason}
 use Rattle.packet_rules.specs.declared.reasons.Reason.TheVariants.{ShortFrame, NotMine, NotUp, TtlOver, BadArp, BadAdvert}
 use Rattle.frames.specs.declared.ethernet.TheConstants.{LONGEST_WHOLE}
@@ -44,7 +49,7 @@ pub record Grammars : Type 0 where
   pub ask : (message : List ℕ) → (ask_refusal message ≡ None) ↔ IsAsk message
   pub advert : (packet : List ℕ) → (advert_refusal packet ≡ None) ↔ IsAdvert packet
 
-unless-passes : (o : Option Reason) (step : Result Reading Reason) (r : Reading) → unless o step ≡ Ok r → (o ≡ None) × (step ≡ Ok r)
+pub unless-passes : (o : Option Reason) (step : Result Reading Reason) (r : Reading) → unless o step ≡ Ok r → (o ≡ None) × (step ≡ Ok r)
 unless-passes None step r is = (refl, is)
 unless-passes (Some reason) step r is = cc
 
@@ -52,7 +57,7 @@ none-passes : (b : Bool) (reason : Reason) → cond b None (Some reason) ≡ Non
 none-passes true reason is = refl
 none-passes false reason is = cc
 
-ok-passes : (b : Bool) (x r : Reading) (reason : Reason) → (let y : Result Reading Reason = cond b (Ok x) (Err reason) in y) ≡ Ok r → (b ≡ true) × (x ≡ r)
+pub ok-passes : (b : Bool) (x r : Reading) (reason : Reason) → (let y : Result Reading Reason = cond b (Ok x) (Err reason) in y) ≡ Ok r → (b ≡ true) × (x ≡ r)
 ok-passes true x r reason is = (refl, cc)
 ok-passes false x r reason is = cc
 
@@ -264,6 +269,7 @@ fault-other fault.TheVariants.BadHeaderSum e = cc
 fault-other fault.TheVariants.Fragment e = cc
 fault-other fault.TheVariants.NotUdpTcp e = cc
 fault-other fault.TheVariants.BadTransport e = cc
+fault-other fault.TheVariants.SourceRoute e = cc
 
 fault-over : (o : Option Ipv4Fault) (step : Result Reading Reason) → unless (option_map reason_of o) step ≡ Err TtlOver → o ≡ None
 fault-over None step is = refl
@@ -292,61 +298,73 @@ over-whole g side network active up bytes is =
     let s3 = destination-over network active bytes _ s2 in
     record { whole = s1.0; short = s1.1.0; ipv4 = body-over g side network active bytes ((frame_of bytes).ethertype == 2054) s3 }
 
--- nothing else is read as an Echo to the box
-abbrev Never : Result Reading Reason → Type 0
-Never r = (asked : AskedValue) → r ≢ Ok (Asked asked)
+-- a packet that is translated, and an error that is passed on, isn't read as this
+pub record IsApart (x : Reading) : Type 0 where
+  pub packet : (p : PacketValue) → Packet p ≢ x
+  pub error : (p : ErrorValue) → Error p ≢ x
 
-never-unless : (o : Option Reason) (step : Result Reading Reason) → Never step → Never (unless o step)
-never-unless None step never = never
-never-unless (Some reason) step never = λ asked e. cc
+-- a step doesn't read this
+abbrev pub Never : Reading → Result Reading Reason → Type 0
+Never x r = r ≢ Ok x
 
-never-either : (b : Bool) (x y : Result Reading Reason) → Never x → Never y → Never (cond b x y)
-never-either true x y first second = first
-never-either false x y first second = second
+never-unless : (x : Reading) (o : Option Reason) (step : Result Reading Reason) → Never x step → Never x (unless o step)
+never-unless x None step never = never
+never-unless x (Some reason) step never = λ e. cc
 
-never-arp : (body : List ℕ) → Never (arp_reading body)
+never-either : (x : Reading) (b : Bool) (first second : Result Reading Reason) → Never x first → Never x second → Never x (cond b first second)
+never-either x true first second a b = a
+never-either x false first second a b = b
+
+pub never-arp : (x : Reading) → ((p : ArpPacket) → Arp p ≢ x) → (body : List ℕ) → Never x (arp_reading body)
 unfolding arp_reading
-never-arp body = never-either (is_none (arp_refusal body)) _ _ (λ asked e. cc) (λ asked e. cc)
+never-arp x apart body = never-either x (is_none (arp_refusal body)) _ _ (λ e. apart (packet_of body) cc) (λ e. cc)
 
-never-advert : (network : Network) (packet : List ℕ) → Never (advert_reading network packet)
+never-advert : (x : Reading) → ((message : Message) (from : Ip) → Advert message from ≢ x) → (network : Network) (packet : List ℕ) → Never x (advert_reading network packet)
 unfolding advert_reading
-never-advert network packet = never-either (is_none (advert_refusal packet) && is_from_peer network packet) _ _ (λ asked e. cc) (λ asked e. cc)
+never-advert x apart network packet =
+    never-either x (is_none (advert_refusal packet) && is_from_peer network packet) _ _ (λ e. apart (advert_of (payload_of packet)) (record { 0 = (header_of packet).source }) cc) (λ e. cc)
 
-never-transport : (packet : List ℕ) → Never (transport_reading packet)
+never-transport : (x : Reading) → IsApart x → (packet : List ℕ) → Never x (transport_reading packet)
 unfolding transport_reading
-never-transport packet = never-unless (transport_refusal packet) _ (never-unless (ttl_refusal packet) _ (λ asked e. cc))
+never-transport x apart packet = never-unless x (transport_refusal packet) _ (never-unless x (ttl_refusal packet) _ (λ e. apart.packet (packet_read packet) cc))
 
-never-query : (side : Side) (packet : List ℕ) → Never (query_reading side packet)
+never-query : (x : Reading) → IsApart x → (side : Side) (packet : List ℕ) → Never x (query_reading side packet)
 unfolding query_reading
-never-query side packet = never-unless (query_refusal side packet) _ (never-unless (ttl_refusal packet) _ (λ asked e. cc))
+never-query x apart side packet = never-unless x (query_refusal side packet) _ (never-unless x (ttl_refusal packet) _ (λ e. apart.packet (packet_read packet) cc))
 
-never-error : (side : Side) (packet : List ℕ) → Never (error_reading side packet)
+never-error : (x : Reading) → IsApart x → (side : Side) (packet : List ℕ) → Never x (error_reading side packet)
 unfolding error_reading
-never-error side packet = never-unless (error_refusal packet) _ (never-unless (ttl_refusal packet) _ (never-unless (about_refusal side packet) _ (λ asked e. cc)))
+never-error x apart side packet =
+    never-unless x (error_refusal packet) _ (never-unless x (ttl_refusal packet) _ (never-unless x (about_refusal side packet) _ (λ e. apart.error (error_packet_of packet) cc)))
 
-never-icmp : (side : Side) (packet : List ℕ) → Never (icmp_reading side packet)
+never-icmp : (x : Reading) → IsApart x → (side : Side) (packet : List ℕ) → Never x (icmp_reading side packet)
 unfolding icmp_reading
-never-icmp side packet = never-either (has_error_kind (payload_of packet)) _ _ (never-error side packet) (never-query side packet)
+never-icmp x apart side packet = never-either x (has_error_kind (payload_of packet)) _ _ (never-error x apart side packet) (never-query x apart side packet)
 
-never-packet : (side : Side) (network : Network) (bytes : List ℕ) → Never (packet_reading side network (frame_of bytes))
+pub never-packet : (x : Reading) → IsApart x → (side : Side) (network : Network) (bytes : List ℕ) → Never x (packet_reading side network (frame_of bytes))
 unfolding packet_reading
-never-packet side network bytes =
+never-packet x apart side network bytes =
     let packet = (frame_of bytes).body in
-    never-unless (virtual_refusal network (frame_of bytes)) _ (never-either ((header_of packet).protocol == PROTOCOL) _ _ (never-icmp side packet) (never-transport packet))
+    never-unless x (virtual_refusal network (frame_of bytes)) _ (never-either x ((header_of packet).protocol == PROTOCOL) _ _ (never-icmp x apart side packet) (never-transport x apart packet))
 
-never-other : (side : Side) (network : Network) (bytes : List ℕ) → Never (other_reading side network (frame_of bytes))
+-- nothing else is read as an Echo to the box
+apart-asked : (asked : AskedValue) → IsApart (Asked asked)
+apart-asked asked = record { packet = λ p e. cc; error = λ p e. cc }
+
+never-other : (asked : AskedValue) (side : Side) (network : Network) (bytes : List ℕ) → Never (Asked asked) (other_reading side network (frame_of bytes))
 unfolding other_reading
-never-other side network bytes = never-either (is_vrrp (frame_of bytes).body) _ _ (never-advert network (frame_of bytes).body) (never-packet side network bytes)
+never-other asked side network bytes =
+    never-either (Asked asked) (is_vrrp (frame_of bytes).body) _ _ (never-advert (Asked asked) (λ message from e. cc) network (frame_of bytes).body) (never-packet (Asked asked) (apart-asked asked) side network bytes)
 
 read-asked : (side : Side) (network : Network) (bytes : List ℕ) (asked : AskedValue) (b : Bool)
     → (let x : Result Reading Reason = cond b (Ok (Asked (asked_of (frame_of bytes).body))) (other_reading side network (frame_of bytes)) in x) ≡ Ok (Asked asked) → b ≡ true
 read-asked side network bytes asked true is = refl
-read-asked side network bytes asked false is = absurd (never-other side network bytes asked is)
+read-asked side network bytes asked false is = absurd (never-other asked side network bytes is)
 
 type-asked : (side : Side) (network : Network) (active : Bool) (bytes : List ℕ) (asked : AskedValue) (b : Bool)
     → cond b (arp_reading (frame_of bytes).body) (ipv4_reading side network active (frame_of bytes)) ≡ Ok (Asked asked) → is_asked network active (frame_of bytes) ≡ true
 unfolding ipv4_reading
-type-asked side network active bytes asked true is = absurd (never-arp (frame_of bytes).body asked is)
+type-asked side network active bytes asked true is = absurd (never-arp (Asked asked) (λ p e. cc) (frame_of bytes).body is)
 type-asked side network active bytes asked false is =
     let step = unless-passes (header_refusal (frame_of bytes).body) _ (Asked asked) is in
     read-asked side network bytes asked (is_asked network active (frame_of bytes)) step.1

@@ -1,5 +1,5 @@
 -- What an interface does with an ARP packet: whom it learns, and what it answers.
-use Rattle.std.specs.Prelude.{ℕ, ◌%◌, Bool, not, ◌==◌, ◌&&◌, Option, Some, None, List, slice_index, replicate, if◌then◌else◌}
+use Rattle.std.specs.Prelude.{ℕ, ◌%◌, Bool, not, ◌==◌, ◌&&◌, ◌||◌, Option, Some, None, List, slice_index, replicate, if◌then◌else◌}
 use Rattle.std.specs.Str.{bytes_eq}
 use Rattle.addresses.specs.Address.{virtual_mac}
 use Rattle.addresses.specs.declared.ethernet.Mac.{Mac}
@@ -19,6 +19,13 @@ is_learnable network p =
     && (not (p.sender_ip.0 == network.interface.virtual_ip.0)
     && (not (bytes_eq p.sender_mac.0 (replicate 6 0))
     && (slice_index p.sender_mac.0 0 % 2 == 0))))
+
+-- a packet is for the interface (RFC 826, "Packet Reception": "Am I the target protocol address?"): its target is the
+-- own or the virtual address, in whatever state the router is
+abbrev pub is_for_us : Network → ArpPacket → Bool
+is_for_us network p =
+    (p.target_ip.0 == network.own_ip.0)
+    || (p.target_ip.0 == network.interface.virtual_ip.0)
 
 -- the virtual router's hardware address
 abbrev pub virtual_of : Network → Mac

@@ -1,19 +1,23 @@
 -- The two networks: who is addressed, where an address lies, which way a packet goes, and its next hop.
-use Rattle.std.specs.Prelude.{◌≡◌, ◌≢◌, ◌<◌, ℕ, ◌+◌, ◌-◌, ◌/◌, ◌%◌, ◌^◌, Bool, true, false, not, ◌==◌, ◌&&◌, ◌||◌, Result, Ok, Err, List, [], ◌∷◌, length, if◌then◌else◌}
+use Rattle.std.specs.Prelude.{◌≡◌, ◌≢◌, ◌<◌, ℕ, ◌+◌, ◌-◌, ◌/◌, ◌%◌, ◌^◌, Bool, true, false, not, ◌==◌, ◌&&◌, ◌||◌, Option, None, Some, Result, Ok, Err, List, [], ◌∷◌, length, if◌then◌else◌}
 use Rattle.std.specs.Str.{bytes_eq}
 use Rattle.addresses.specs.Address.{virtual_mac}
 use Rattle.addresses.specs.Transport.{same_protocol}
 use Rattle.addresses.specs.declared.transport.Protocol.{Protocol}
 use Rattle.addresses.specs.declared.transport.Protocol.TheVariants.{Icmp}
+use Rattle.addresses.specs.declared.internet.Ip.{Ip}
 use Rattle.nat_types.specs.declared.gateways.GatewayId.{GatewayId}
+use Rattle.nat_types.specs.Same.{other}
 use Rattle.nat_types.specs.declared.gateways.Side.{Side}
 use Rattle.nat_types.specs.declared.gateways.Side.TheVariants.{Inside, Outside}
+use Rattle.settings.specs.declared.gateway_settings.GatewaySettings.{GatewaySettings}
 use Rattle.settings.specs.declared.interfaces.InterfaceSettings.{InterfaceSettings}
 use Rattle.settings.specs.declared.whole.Settings.{Settings}
 use Rattle.settings.specs.Parts.{gateway_of}
 use Rattle.packet_rules.specs.declared.reasons.Reason.{Reason}
 use Rattle.packet_rules.specs.declared.reasons.Reason.TheVariants.{NoBinding}
 use Rattle.packet_rules.specs.declared.networks.Network.{Network}
+use Rattle.packet_rules.specs.declared.networks.Peer.{Peer}
 use Rattle.packet_rules.specs.declared.networks.Networks.{Networks}
 use Rattle.packet_rules.specs.declared.networks.Direction.{Direction}
 use Rattle.packet_rules.specs.declared.networks.Direction.TheVariants.{Outward, Inward, Hairpin}
@@ -29,15 +33,23 @@ abbrev pub network_of : Networks → Side → Network
 network_of networks Inside = networks.inside
 network_of networks Outside = networks.outside
 
+-- what the other gateway's advertisements have where this is its address, if they alone count
+abbrev pub peer_at : Settings → GatewaySettings → Ip → Option Peer
+peer_at settings there ip =
+    (if settings.vrrp.peer_only
+    then Some (record { ip = ip; priority = there.priority; interval = there.interval })
+    else None)
+
 -- the two networks of one gateway, by the settings
 abbrev pub networks_of : Settings → GatewayId → Networks
-networks_of settings id = record {
+networks_of settings id = let there = gateway_of settings (other id) in record {
   inside = record {
     interface = settings.inside;
     own_mac = (gateway_of settings id).inside_mac;
     own_ip = (gateway_of settings id).inside_ip;
     outside_ip = settings.outside.virtual_ip;
     icmp = settings.icmp;
+    peer = peer_at settings there there.inside_ip;
   };
   outside = record {
     interface = settings.outside;
@@ -45,6 +57,7 @@ networks_of settings id = record {
     own_ip = (gateway_of settings id).outside_ip;
     outside_ip = settings.outside.virtual_ip;
     icmp = settings.icmp;
+    peer = peer_at settings there there.outside_ip;
   };
   router = settings.router;
   pass = settings.fragments.pass;

@@ -1,6 +1,6 @@
 -- Which of the first steps of the packet path refuses a frame, and what a frame that passes is read
 -- as.
-use Rattle.std.specs.Prelude.{◌≤◌, ◌≡◌, ℕ, Bool, not, ◌==◌, ◌&&◌, ◌||◌, nat_le, Option, Some, None, is_none, Result, Ok, Err, List, length, slice_index, if◌then◌else◌}
+use Rattle.std.specs.Prelude.{◌≤◌, ◌≡◌, ℕ, Bool, true, not, ◌==◌, ◌&&◌, ◌||◌, nat_le, Option, Some, None, is_none, Result, Ok, Err, List, length, slice_index, if◌then◌else◌}
 use Rattle.std.specs.Option.{option_map}
 use Rattle.frames.specs.Frame.{Frame, frame_of}
 use Rattle.ipv4.specs.Header.{IsIpv4, header_of, payload_of, ipv4_refusal}
@@ -15,12 +15,14 @@ use Rattle.icmp.specs.Query.{IsTranslatable, kind_number, query_packet_refusal}
 use Rattle.ipv4.specs.declared.faults.Ipv4Fault as fault
 use Rattle.ipv4.specs.declared.faults.Ipv4Fault.{Ipv4Fault}
 use Rattle.arp.specs.Packet.{arp_refusal, packet_of}
+use Rattle.vrrp_packet.specs.declared.Advert.{Advert as Message}
 use Rattle.vrrp_packet.specs.Message.{advert_refusal, advert_of}
 use Rattle.packet_rules.specs.declared.reasons.Reason.{Reason}
-use Rattle.packet_rules.specs.declared.reasons.Reason.TheVariants.{ShortFrame, NotMine, BadHeader, BadLength, BadHeaderSum, Fragment, TtlOver, NotUdpTcp, BadTransport, BadArp, BadAdvert, NotUp, NoBinding}
+use Rattle.packet_rules.specs.declared.reasons.Reason.TheVariants.{ShortFrame, NotMine, BadHeader, BadLength, BadHeaderSum, Fragment, TtlOver, NotUdpTcp, BadTransport, BadArp, BadAdvert, NotUp, NoBinding, SourceRoute}
 use Rattle.packet_rules.specs.declared.readings.Reading.{Reading}
 use Rattle.packet_rules.specs.declared.readings.Reading.TheVariants.{Arp, Advert, Packet, Error, Asked}
 use Rattle.packet_rules.specs.declared.networks.Network.{Network}
+use Rattle.packet_rules.specs.declared.networks.Peer.{Peer}
 use Rattle.frames.specs.declared.ethernet.TheConstants.{LONGEST_WHOLE}
 use Rattle.packet_rules.specs.Asked.{IsAskable, asked_of, is_asked}
 use Rattle.packet_rules.specs.Flows.{error_in, packet_in}
@@ -37,6 +39,7 @@ reason_of fault.TheVariants.BadHeaderSum = BadHeaderSum
 reason_of fault.TheVariants.Fragment = Fragment
 reason_of fault.TheVariants.NotUdpTcp = NotUdpTcp
 reason_of fault.TheVariants.BadTransport = BadTransport
+reason_of fault.TheVariants.SourceRoute = SourceRoute
 
 -- the reason for a fault of an ICMP message; NotAsked drops no packet, since a packet that is no Echo to the box goes
 -- on to the next step
@@ -78,11 +81,22 @@ unfoldable pub is_vrrp : List ℕ → Bool
 is_vrrp packet =
     ((header_of packet).protocol == 112) && ((header_of packet).destination == 0xe0000012)
 
--- 5. an advertisement is of the interface's virtual router, and of another gateway
+-- 5. an advertisement from an address counts: of every gateway, or of the peer alone: it comes from the peer's address,
+-- and has its priority or 0, and its interval
+abbrev pub counts : Option Peer → ℕ → Message → Bool
+counts None source advert = true
+counts (Some peer) source advert =
+    (source == peer.ip.0)
+    && (((advert.priority == peer.priority) || (advert.priority == 0))
+    && (advert.interval == peer.interval))
+
+-- 5. an advertisement is of the interface's virtual router, and of another gateway whose advertisements count
 unfoldable pub is_from_peer : Network → List ℕ → Bool
 is_from_peer network packet =
-    ((advert_of (payload_of packet)).router == network.interface.virtual_router)
-    && not ((header_of packet).source == network.own_ip.0)
+    let advert = advert_of (payload_of packet) in
+    let source = (header_of packet).source in
+    (advert.router == network.interface.virtual_router)
+    && (not (source == network.own_ip.0) && counts network.peer source advert)
 
 -- 5. the advertisement in a packet, or BadAdvert where it carries none of another gateway for the virtual router
 unfoldable pub advert_reading : Network → List ℕ → Result Reading Reason

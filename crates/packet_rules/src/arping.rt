@@ -1,7 +1,7 @@
 //! What an interface does with ARP packets (RFC 826): whom it learns, and what it answers.
 ghost use Rattle.std.specs.Prelude.{◌≡◌, ◌≤◌, ◌+◌, ◌++◌, vec_len, vec_capacity};
 ghost use Rattle.arp.specs.declared.packets.TheConstants.{ARP_FRAME};
-ghost use Rattle.packet_rules.specs.Arping.{is_learnable, mac_here, answer_to, answer_frame, request_frame};
+ghost use Rattle.packet_rules.specs.Arping.{is_for_us, is_learnable, mac_here, answer_to, answer_frame, request_frame};
 
 use crate::networks::Network;
 use addresses::{Ip, Mac};
@@ -22,6 +22,14 @@ pub fn is_learnt(network: &Network, packet: &ArpPacket) -> bool
         mac: packet.sender_mac,
     };
     arp::is_learnable(&interface, &sender)
+}
+
+/// Whether an ARP packet is for an interface: its sender asks for the interface's primary or virtual address, or
+/// answers it.
+pub fn is_for_us(network: &Network, packet: &ArpPacket) -> bool
+    ensures { result ≡ is_for_us network.now packet.now }
+{
+    packet.target_ip == network.own_ip || packet.target_ip == network.interface.virtual_ip
 }
 
 #[tactic(auto, unfolding(crate::specs::Arping::mac_here))]

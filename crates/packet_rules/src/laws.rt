@@ -1,14 +1,16 @@
 //! What follows from the definitions, and the numbers that they take from the code.
-ghost use Rattle.std.specs.Prelude.{◌≡◌, ◌≢◌, ◌<◌, ◌^◌, ℕ, Bool, true, false, Ok, Err, List, length};
+ghost use Rattle.std.specs.Prelude.{◌≡◌, ◌≢◌, ◌<◌, ◌^◌, ◌⊎◌, ℕ, Bool, true, false, Ok, Err, Some, List, length};
 ghost use Rattle.addresses.specs.declared.ethernet.Mac.{Mac as MacValue};
 ghost use Rattle.addresses.specs.declared.internet.Ip.{Ip as IpValue};
 ghost use Rattle.arp.specs.declared.packets.ArpPacket.{ArpPacket as ArpValue};
 ghost use Rattle.packet_rules.specs.declared.networks.Network.{Network as NetworkValue};
 ghost use Rattle.packet_rules.specs.declared.networks.Networks.{Networks as NetworksValue};
+ghost use Rattle.packet_rules.specs.declared.networks.Peer.{Peer as PeerValue};
 ghost use Rattle.packet_rules.specs.declared.readings.Reading.{Reading as ReadingValue};
 ghost use Rattle.packet_rules.specs.declared.translations.Translation.{Translation as TranslationValue};
 ghost use Rattle.frames.specs.declared.ethernet.TheConstants.{LONGEST_WHOLE};
 ghost use Rattle.vrrp_packet.specs.Message.{IsWritable};
+ghost use Rattle.vrrp_packet.specs.declared.Advert.{Advert as AdvertValue};
 ghost use Rattle.packet_rules.specs.declared.readings.Reading.TheVariants.{Advert, Asked};
 ghost use Rattle.packet_rules.specs.declared.readings.Asked.{Asked as AskedValue};
 ghost use Rattle.packet_rules.specs.declared.reasons.Reason.TheVariants.{TtlOver};
@@ -21,7 +23,7 @@ ghost use Rattle.packet_rules.specs.Frames.{sent_frame, is_translation, way_of};
 ghost use Rattle.nat_types.specs.declared.gateways.Side.{Side as SideValue};
 ghost use Rattle.packet_rules.specs.Flows.{flow_in};
 ghost use Rattle.packet_rules.specs.Networks.{IsWired, direction_of, exit_of};
-ghost use Rattle.packet_rules.specs.Steps.{reading_of, IsForwardable, IsOfSide, IsPassable, Carries};
+ghost use Rattle.packet_rules.specs.Steps.{counts, reading_of, IsForwardable, IsOfSide, IsPassable, Carries};
 
 use arp::arp_grammar;
 use icmp::{ask_grammar, error_packet_grammar, query_packet_grammar};
@@ -89,12 +91,24 @@ pub fn frames_law()
         → is_error_frame (advert_frame network priority interval) ≡ false }
 {}
 
-/// States that the other gateway reads at its interface what a router advertises.
+/// States that where the peer's advertisements alone count, an advertisement that is read has the peer's address, its
+/// interval, and its priority or 0.
+pub fn peer_alone()
+    ensures { (side : SideValue) (network : NetworkValue) (active up : Bool) (frame : List ℕ)
+        (advert : AdvertValue) (from : IpValue) (peer : PeerValue) → network.peer ≡ Some peer
+        → reading_of side network active up frame ≡ Ok (Advert advert from)
+        → (from.0 ≡ peer.ip.0) × (advert.interval ≡ peer.interval)
+        × ((advert.priority ≡ peer.priority) ⊎ (advert.priority ≡ 0)) }
+{}
+
+/// States that the other gateway reads at its interface what a router advertises, where that counts there.
 pub fn advert_law()
     ensures { (side : SideValue) (network peer : NetworkValue) (active : Bool)
-        (priority interval : ℕ) → IsWritable (own_advert network priority interval) → network.own_ip.0 < 2 ^ 32
+        (priority interval : ℕ) → IsWritable (own_advert network priority interval)
+        → network.own_ip.0 < 2 ^ 32
         → peer.interface.virtual_router ≡ network.interface.virtual_router
         → peer.own_ip.0 ≢ network.own_ip.0
+        → counts peer.peer network.own_ip.0 (own_advert network priority interval) ≡ true
         → reading_of side peer active true (advert_frame network priority interval)
         ≡ Ok (Advert (own_advert network priority interval) network.own_ip) }
 {

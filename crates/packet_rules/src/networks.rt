@@ -1,12 +1,22 @@
 //! The gateway's two networks: whether a frame addresses the gateway, which way a packet goes, and its next hop.
 ghost use Rattle.std.specs.Prelude.{◌≡◌, ◌<◌, ◌^◌, length};
 ghost use Rattle.settings.specs.Parts.{gateway_of};
-ghost use Rattle.packet_rules.specs.Networks.{network_of, networks_of, IsPlaced, IsWired, is_virtual, is_addressed, lies_in, is_martian, hairpin_direction, inside_direction, outside_direction, direction_of, outside_hop, exit_of};
+ghost use Rattle.packet_rules.specs.Networks.{network_of, networks_of, peer_at, IsPlaced, IsWired, is_virtual, is_addressed, lies_in, is_martian, hairpin_direction, inside_direction, outside_direction, direction_of, outside_hop, exit_of};
 
 use crate::Reason;
 use addresses::{Ip, Mac, Protocol};
 use nat_types::{GatewayId, Side};
-use settings::{IcmpSettings, InterfaceSettings, Settings};
+use settings::{GatewaySettings, IcmpSettings, InterfaceSettings, Settings};
+
+/// What the other gateway's advertisements have at a side.
+#[derive(Clone, Copy, Debug, PartialEq, Eq)]
+pub struct Peer {
+    /// The other gateway's own address there.
+    pub ip: Ip,
+    pub priority: u8,
+    /// The interval in centiseconds.
+    pub interval: u16,
+}
 
 /// One of a gateway's two networks.
 #[derive(Clone, Copy, Debug, PartialEq, Eq)]
@@ -20,6 +30,8 @@ pub struct Network {
     pub outside_ip: Ip,
     /// The settings of the ICMP messages that the gateway sends of its own.
     pub icmp: IcmpSettings,
+    /// The other gateway, where its advertisements alone count.
+    pub peer: Option<Peer>,
 }
 
 impl Network {
@@ -98,6 +110,7 @@ fn networks_at(settings: &Settings, id: GatewayId) -> Networks
     ensures { result ≡ networks_of settings.now id }
 {
     let own = settings.gateway(id);
+    let there = settings.gateway(id.other());
     Networks {
         inside: Network {
             interface: settings.inside,
@@ -105,6 +118,7 @@ fn networks_at(settings: &Settings, id: GatewayId) -> Networks
             own_ip: own.inside_ip,
             outside_ip: settings.outside.virtual_ip,
             icmp: settings.icmp,
+            peer: peer_at(settings, there, there.inside_ip),
         },
         outside: Network {
             interface: settings.outside,
@@ -112,10 +126,25 @@ fn networks_at(settings: &Settings, id: GatewayId) -> Networks
             own_ip: own.outside_ip,
             outside_ip: settings.outside.virtual_ip,
             icmp: settings.icmp,
+            peer: peer_at(settings, there, there.outside_ip),
         },
         router: settings.router,
         pass: settings.fragments.pass,
     }
+}
+
+/// Returns what the other gateway's advertisements have where this is its address, if they alone count.
+fn peer_at(settings: &Settings, there: &GatewaySettings, ip: Ip) -> Option<Peer>
+    ensures { result ≡ peer_at settings.now there.now ip }
+{
+    if !settings.vrrp.peer_only {
+        return None;
+    }
+    Some(Peer {
+        ip,
+        priority: there.priority,
+        interval: there.interval,
+    })
 }
 
 /// Reminds the prover that a gateway's addresses have 32 bits. The call does nothing at run time.

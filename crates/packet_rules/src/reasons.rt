@@ -30,10 +30,11 @@ pub enum Reason {
     HostLimit,
     TooLong,
     TooMany,
+    SourceRoute,
 }
 
 impl Reason {
-    /// Returns the reason's number, from 1 to 20.
+    /// Returns the reason's number, from 1 to 21.
     pub fn number(self) -> u8
         ensures { result ≡ number_of self }
     {
@@ -68,6 +69,7 @@ impl fmt::Display for Reason {
             Reason::HostLimit => "the host has all the pairs that it may have",
             Reason::TooLong => "the packet is too long for its side",
             Reason::TooMany => "too many answers in this second",
+            Reason::SourceRoute => "the packet has a source route",
         })
     }
 }

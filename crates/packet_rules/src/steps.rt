@@ -1,5 +1,5 @@
 //! The first steps of the packet path: which frames are taken, and what they are read as.
-ghost use Rattle.std.specs.Prelude.{◌≡◌, ◌≤◌, IfOk, IfErr, Ok, OnOk, length};
+ghost use Rattle.std.specs.Prelude.{◌≡◌, ◌≤◌, ◌==◌, ◌&&◌, IfOk, IfErr, Ok, OnOk, length, not};
 ghost use Rattle.std.specs.Result.{result_err};
 ghost use Rattle.frames.specs.Frame.{frame_of};
 ghost use Rattle.frames.specs.declared.ethernet.TheConstants.{LONGEST_WHOLE};
@@ -9,13 +9,14 @@ ghost use Rattle.icmp.specs.Packet.{IsErrorPacket, error_packet_of};
 ghost use Rattle.packet_rules.specs.Asked.{IsWhole, asked_of};
 ghost use Rattle.packet_rules.specs.declared.readings.Reading.TheVariants.{Asked};
 ghost use Rattle.packet_rules.specs.declared.reasons.Reason.TheVariants.{TtlOver};
-ghost use Rattle.packet_rules.specs.Steps.{reason_of, reason_of_icmp, size_refusal, destination_refusal, header_refusal, virtual_refusal, transport_refusal, query_refusal, error_refusal, about_refusal, ttl_refusal, is_vrrp, is_from_peer, arp_reading, advert_reading, transport_reading, query_reading, error_reading, icmp_reading, packet_reading, other_reading, ipv4_reading, body_reading, reading_of, Carries};
+ghost use Rattle.packet_rules.specs.Steps.{reason_of, reason_of_icmp, size_refusal, destination_refusal, header_refusal, virtual_refusal, counts, transport_refusal, query_refusal, error_refusal, about_refusal, ttl_refusal, is_vrrp, is_from_peer, arp_reading, advert_reading, transport_reading, query_reading, error_reading, icmp_reading, packet_reading, other_reading, ipv4_reading, body_reading, reading_of, Carries};
 
 use crate::asking::{asked, is_asked};
 use crate::laws::readings_law;
-use crate::networks::{Network, is_for_gateway, is_to_virtual};
+use crate::networks::{Network, Peer, is_for_gateway, is_to_virtual};
 use crate::queries::{kind_entering, kind_leaving};
 use crate::{Reading, Reason};
+use addresses::Ip;
 use frames::{EthView, EtherType};
 use icmp::{ErrorPacket, IcmpFault};
 use ipv4::{Ipv4Fault, Ipv4View, Packet};
@@ -33,6 +34,7 @@ fn reason_for(fault: Ipv4Fault) -> Reason
         Ipv4Fault::Fragment => Reason::Fragment,
         Ipv4Fault::NotUdpTcp => Reason::NotUdpTcp,
         Ipv4Fault::BadTransport => Reason::BadTransport,
+        Ipv4Fault::SourceRoute => Reason::SourceRoute,
     }
 }
 
@@ -112,6 +114,32 @@ fn is_for_vrrp(packet: &Ipv4View<'_>) -> bool
     packet.protocol() == vrrp_packet::PROTOCOL && packet.destination() == vrrp_packet::GROUP
 }
 
+/// Whether an advertisement from an address counts: of every gateway, or of the peer alone.
+fn counts(peer: Option<Peer>, source: Ip, advert: &Advert) -> bool
+    ensures { result ≡ counts peer source.0 advert.now }
+{
+    match peer {
+        None => true,
+        Some(peer) => {
+            source == peer.ip
+                && (advert.priority == peer.priority || advert.priority == 0)
+                && advert.interval == peer.interval
+        }
+    }
+}
+
+/// Whether an advertisement from an address is of the interface's virtual router, and of another gateway whose
+/// advertisements count.
+fn is_from_peer(network: &Network, source: Ip, advert: &Advert) -> bool
+    ensures { result ≡ ((advert.now.router == network.now.interface.virtual_router)
+        && (not (source.0 == network.now.own_ip.0)
+        && counts network.now.peer source.0 advert.now)) }
+{
+    advert.router == network.interface.virtual_router
+        && source != network.own_ip
+        && counts(network.peer, source, advert)
+}
+
 #[tactic(auto, unfolding(crate::specs::Steps::advert_reading, crate::specs::Steps::is_from_peer))]
 #[cold]
 fn read_advert(network: &Network, packet: &Ipv4View<'_>) -> Result<Reading, Reason>
@@ -120,7 +148,7 @@ fn read_advert(network: &Network, packet: &Ipv4View<'_>) -> Result<Reading, Reas
     let from = packet.source();
     match vrrp_packet::parse(packet) {
         Ok(advert) => {
-            if advert.router == network.interface.virtual_router && from != network.own_ip {
+            if is_from_peer(network, from, &advert) {
                 Ok(Reading::Advert(advert, from))
             } else {
                 Err(Reason::BadAdvert)

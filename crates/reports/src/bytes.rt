@@ -1,15 +1,14 @@
 //! Values as bytes: numbers of 8 bytes, big-endian; flags and small numbers of one.
 
-use crate::MAX_PAGE_ENTRIES;
 use arrayvec::ArrayVec;
 use std::fmt::{self, Display, Formatter};
 
 /// The version of the bytes of reports and pages, which is their first byte.
-pub const VERSION: u8 = 4;
+pub const VERSION: u8 = 5;
 
-/// How many bytes a report or a page has at most: those of a full page, which has 3 bytes before its entries, and 10 for
-/// each. A report has at most 1,267.
-pub const MAX_REPORT_BYTES: usize = 3 + 10 * MAX_PAGE_ENTRIES;
+/// How many bytes a report or a page has at most: those of a report where the other box was heard. A page has 3 bytes
+/// before its entries, and 10 for each, so at most 1,283.
+pub const MAX_REPORT_BYTES: usize = 1_299;
 
 /// The bytes of a report or a page.
 pub type ReportBytes = ArrayVec<u8, MAX_REPORT_BYTES>;

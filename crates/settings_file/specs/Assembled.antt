@@ -9,7 +9,7 @@ use Rattle.settings_file.specs.declared.keys.Section.TheVariants.{Inside, Outsid
 use Rattle.settings_file.specs.declared.keys.Name.TheVariants.{Zero, One, Router}
 use Rattle.settings_file.specs.Document.{address_at}
 use Rattle.settings_file.specs.Neighbours.{neighbours_of, neighbour_in}
-use Rattle.settings_file.specs.Values.{IsRange, IsLimit, IsAlone, IsInterface, IsIcmp, IsFragments, IsGateway}
+use Rattle.settings_file.specs.Values.{IsRange, IsLimit, IsAlone, IsRefreshed, IsInterface, IsIcmp, IsFragments, IsVrrp, IsGateway}
 use Rattle.settings_file.specs.Settings.{overlap}
 use Rattle.settings_file.specs.Ids.{same_ids}
 
@@ -19,11 +19,13 @@ pub record AreValues (t : Members) (v : Values) : Type 0 where
   pub one_ports : IsRange t One v.one_ports
   pub limit_is : IsLimit t v.host_limit
   pub alone_is : IsAlone t v.alone
+  pub refresh_is : IsRefreshed t v.inward_refresh
   pub inside_is : IsInterface t Inside v.inside
   pub outside_is : IsInterface t Outside v.outside
   pub router_is : address_at t Outside Router ≡ Some v.router.0
   pub icmp_is : IsIcmp t v.icmp
   pub fragments_are : IsFragments t v.fragments
+  pub vrrp_is : IsVrrp t v.vrrp
   pub zero_is : IsGateway t GatewayZero v.zero
   pub one_is : IsGateway t GatewayOne v.one
   pub neighbours_are : option_map (map neighbour_in) (neighbours_of t) ≡ Some (map (λ n. Some n) v.neighbours.items)
@@ -42,11 +44,13 @@ pub record IsAssembled (v : Values) (s : Settings) : Type 0 where
   pub one_ports : s.ports.one ≡ v.one_ports
   pub host_limit : s.ports.host_limit ≡ v.host_limit
   pub alone : s.alone ≡ v.alone
+  pub inward_refresh : s.inward_refresh ≡ v.inward_refresh
   pub inside : s.inside ≡ v.inside
   pub outside : s.outside ≡ v.outside
   pub router : s.router ≡ v.router
   pub icmp : s.icmp ≡ v.icmp
   pub fragments : s.fragments ≡ v.fragments
+  pub vrrp : s.vrrp ≡ v.vrrp
   pub zero : s.zero ≡ v.zero
   pub one : s.one ≡ v.one
   pub neighbours : s.neighbours ≡ v.neighbours

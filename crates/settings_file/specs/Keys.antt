@@ -1,9 +1,9 @@
 -- The keys of the settings, in the order of their text.
 use Rattle.std.specs.Prelude.{ℕ, List, codes, Some, None}
 use Rattle.settings_file.specs.declared.keys.Section.{Section}
-use Rattle.settings_file.specs.declared.keys.Section.TheVariants.{Ports, Inside, Outside, Icmp, Fragments, GatewayZero, GatewayOne, Neighbour}
+use Rattle.settings_file.specs.declared.keys.Section.TheVariants.{Ports, Inside, Outside, Icmp, Fragments, Vrrp, GatewayZero, GatewayOne, Neighbour}
 use Rattle.settings_file.specs.declared.keys.Name.{Name}
-use Rattle.settings_file.specs.declared.keys.Name.TheVariants.{Zero, One, HostLimit, Alone, Virtual, Prefix, Vrid, Wire, Router, Mtu, Echo, Errors, Pass}
+use Rattle.settings_file.specs.declared.keys.Name.TheVariants.{Zero, One, HostLimit, Alone, InwardRefresh, Virtual, Prefix, Vrid, Wire, Router, Mtu, Echo, Errors, Pass, PeerOnly}
 use Rattle.settings_file.specs.declared.keys.Name.TheVariants.{InsideIp, InsideMac, OutsideIp, OutsideMac, Priority, Interval, Preempt, BootFile, Link, InsidePort, OutsidePort}
 use Rattle.settings_file.specs.declared.keys.Name.TheVariants.{Side, Ip, Mac}
 use Rattle.settings_file.specs.declared.keys.Key.{Key}
@@ -15,6 +15,7 @@ section_text Inside = codes "inside"
 section_text Outside = codes "outside"
 section_text Icmp = codes "icmp"
 section_text Fragments = codes "fragments"
+section_text Vrrp = codes "vrrp"
 section_text GatewayZero = codes "gateway_0"
 section_text GatewayOne = codes "gateway_1"
 section_text Neighbour = codes "neighbour"
@@ -25,6 +26,7 @@ name_text Zero = codes "zero"
 name_text One = codes "one"
 name_text HostLimit = codes "host_limit"
 name_text Alone = codes "alone"
+name_text InwardRefresh = codes "inward_refresh"
 name_text Virtual = codes "virtual"
 name_text Prefix = codes "prefix"
 name_text Vrid = codes "vrid"
@@ -34,6 +36,7 @@ name_text Mtu = codes "mtu"
 name_text Echo = codes "echo"
 name_text Errors = codes "errors"
 name_text Pass = codes "pass"
+name_text PeerOnly = codes "peer_only"
 name_text InsideIp = codes "inside_ip"
 name_text InsideMac = codes "inside_mac"
 name_text OutsideIp = codes "outside_ip"

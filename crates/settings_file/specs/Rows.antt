@@ -2,8 +2,8 @@
 use Rattle.std.specs.Prelude.{Bool, true, false, List, [], ◌∷◌, Option, is_some}
 use Rattle.toml.specs.Data.{Members}
 use Rattle.settings_file.specs.declared.keys.Section.{Section}
-use Rattle.settings_file.specs.declared.keys.Section.TheVariants.{Ports, Inside, Outside, Icmp, Fragments}
-use Rattle.settings_file.specs.declared.keys.Name.TheVariants.{Zero, One, HostLimit, Alone, Virtual, Prefix, Vrid, Wire, Router, Mtu, Echo, Errors, Pass}
+use Rattle.settings_file.specs.declared.keys.Section.TheVariants.{Ports, Inside, Outside, Icmp, Fragments, Vrrp}
+use Rattle.settings_file.specs.declared.keys.Name.TheVariants.{Zero, One, HostLimit, Alone, InwardRefresh, Virtual, Prefix, Vrid, Wire, Router, Mtu, Echo, Errors, Pass, PeerOnly}
 use Rattle.settings_file.specs.declared.keys.Name.TheVariants.{InsideIp, InsideMac, OutsideIp, OutsideMac, Priority, Interval, Preempt, BootFile, Link, InsidePort, OutsidePort}
 use Rattle.settings_file.specs.declared.keys.Key.{Key}
 use Rattle.settings_file.specs.Keys.{key, whole}
@@ -17,6 +17,7 @@ port_rows t =
     ∷ (key Ports One, is_some (range_at t Ports One))
     ∷ (key Ports HostLimit, is_some (optional_at 1 65535 t Ports HostLimit))
     ∷ (key Ports Alone, is_some (zero_or 50 65535 t Ports Alone))
+    ∷ (key Ports InwardRefresh, is_some (flag_or true t Ports InwardRefresh))
     ∷ []
 
 unfoldable pub bad_ports : Members → Option Key
@@ -69,6 +70,16 @@ fragment_rows t =
 
 unfoldable pub bad_fragments : Members → Option Key
 bad_fragments t = first_bad (fragment_rows t)
+
+-- [vrrp], which may be left out
+abbrev pub vrrp_rows : Members → List (Key × Bool)
+vrrp_rows t =
+    (whole Vrrp, is_section t Vrrp)
+    ∷ (key Vrrp PeerOnly, is_some (flag_or false t Vrrp PeerOnly))
+    ∷ []
+
+unfoldable pub bad_vrrp : Members → Option Key
+bad_vrrp t = first_bad (vrrp_rows t)
 
 -- [gateway_0] and [gateway_1], whose addresses lie in the two networks
 abbrev pub gateway_rows : Option Network → Option Network → Members → Section → List (Key × Bool)

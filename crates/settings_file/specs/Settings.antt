@@ -12,9 +12,9 @@ use Rattle.settings_file.specs.declared.faults.SettingFault.{SettingFault}
 use Rattle.settings_file.specs.declared.faults.SettingFault.TheVariants as faults
 use Rattle.settings_file.specs.Document.{number_at, address_at, mac_at, range_at}
 use Rattle.settings_file.specs.Faults.{earlier}
-use Rattle.settings_file.specs.Rows.{bad_ports, bad_inside, bad_outside, bad_icmp, bad_fragments, bad_gateway, network_at}
+use Rattle.settings_file.specs.Rows.{bad_ports, bad_inside, bad_outside, bad_icmp, bad_fragments, bad_vrrp, bad_gateway, network_at}
 use Rattle.settings_file.specs.Neighbours.{neighbours_of, neighbour_in, bad_neighbours}
-use Rattle.settings_file.specs.Values.{IsRange, IsLimit, IsAlone, IsInterface, IsIcmp, IsFragments, IsGateway}
+use Rattle.settings_file.specs.Values.{IsRange, IsLimit, IsAlone, IsRefreshed, IsInterface, IsIcmp, IsFragments, IsVrrp, IsGateway}
 use Rattle.settings_file.specs.Missing.{first_missing}
 use Rattle.settings_file.specs.Unknown.{first_unknown}
 use Rattle.settings_file.specs.Works.{Works, all_that_cant, cant_work}
@@ -27,11 +27,13 @@ pub record HoldsValues (t : Members) (settings : Settings) : Type 0 where
   pub one_ports : IsRange t One settings.ports.one
   pub limit_is : IsLimit t settings.ports.host_limit
   pub alone_is : IsAlone t settings.alone
+  pub refresh_is : IsRefreshed t settings.inward_refresh
   pub inside_is : IsInterface t Inside settings.inside
   pub outside_is : IsInterface t Outside settings.outside
   pub router_is : address_at t Outside Router ≡ Some settings.router.0
   pub icmp_is : IsIcmp t settings.icmp
   pub fragments_are : IsFragments t settings.fragments
+  pub vrrp_is : IsVrrp t settings.vrrp
   pub zero_is : IsGateway t GatewayZero settings.zero
   pub one_is : IsGateway t GatewayOne settings.one
   pub neighbours_are : option_map (map neighbour_in) (neighbours_of t) ≡ Some (map (λ n. Some n) settings.neighbours.items)
@@ -46,9 +48,10 @@ first_bad_value t =
     (earlier (bad_outside inside outside t)
     (earlier (bad_icmp t)
     (earlier (bad_fragments t)
+    (earlier (bad_vrrp t)
     (earlier (bad_gateway inside outside t GatewayZero)
     (earlier (bad_gateway inside outside t GatewayOne)
-    (bad_neighbours inside outside t)))))))
+    (bad_neighbours inside outside t))))))))
 
 -- two ranges share a port
 abbrev pub overlap : Option (ℕ × ℕ) → Option (ℕ × ℕ) → Bool

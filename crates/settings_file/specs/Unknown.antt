@@ -6,9 +6,9 @@ use Rattle.std.specs.Ordering.{is_lt, nat_cmp}
 use Rattle.std.specs.Cmp.Lexicographic.{slice_cmp}
 use Rattle.toml.specs.Data.{Data, Members, no_members, member, as_table}
 use Rattle.settings_file.specs.declared.keys.Section.{Section}
-use Rattle.settings_file.specs.declared.keys.Section.TheVariants.{Ports, Inside, Outside, Icmp, Fragments, GatewayZero, GatewayOne, Neighbour}
+use Rattle.settings_file.specs.declared.keys.Section.TheVariants.{Ports, Inside, Outside, Icmp, Fragments, Vrrp, GatewayZero, GatewayOne, Neighbour}
 use Rattle.settings_file.specs.declared.keys.Name.{Name}
-use Rattle.settings_file.specs.declared.keys.Name.TheVariants.{Zero, One, HostLimit, Alone, Virtual, Prefix, Vrid, Wire, Router, Mtu, Echo, Errors, Pass}
+use Rattle.settings_file.specs.declared.keys.Name.TheVariants.{Zero, One, HostLimit, Alone, InwardRefresh, Virtual, Prefix, Vrid, Wire, Router, Mtu, Echo, Errors, Pass, PeerOnly}
 use Rattle.settings_file.specs.declared.keys.Name.TheVariants.{InsideIp, InsideMac, OutsideIp, OutsideMac, Priority, Interval, Preempt, BootFile, Link, InsidePort, OutsidePort}
 use Rattle.settings_file.specs.declared.keys.Name.TheVariants.{Side, Ip, Mac}
 use Rattle.settings_file.specs.Keys.{section_text, name_text}
@@ -16,11 +16,12 @@ use Rattle.settings_file.specs.Neighbours.{tables_in}
 
 -- the keys that a section has
 abbrev pub names_of : Section → List Name
-names_of Ports = Zero ∷ One ∷ HostLimit ∷ Alone ∷ []
+names_of Ports = Zero ∷ One ∷ HostLimit ∷ Alone ∷ InwardRefresh ∷ []
 names_of Inside = Virtual ∷ Prefix ∷ Vrid ∷ Wire ∷ Mtu ∷ []
 names_of Outside = Virtual ∷ Prefix ∷ Vrid ∷ Wire ∷ Router ∷ Mtu ∷ []
 names_of Icmp = Echo ∷ Errors ∷ []
 names_of Fragments = Pass ∷ []
+names_of Vrrp = PeerOnly ∷ []
 names_of GatewayZero =
     InsideIp ∷ InsideMac ∷ OutsideIp ∷ OutsideMac ∷ Priority ∷ Interval ∷ Preempt ∷ BootFile ∷ Link ∷ InsidePort ∷ OutsidePort ∷ []
 names_of GatewayOne =
@@ -38,7 +39,7 @@ abbrev pub is_titled : List ℕ → Section → Bool
 is_titled text section = bytes_eq text (section_text section)
 
 abbrev pub sections : List Section
-sections = Ports ∷ Inside ∷ Outside ∷ Icmp ∷ Fragments ∷ GatewayZero ∷ GatewayOne ∷ Neighbour ∷ []
+sections = Ports ∷ Inside ∷ Outside ∷ Icmp ∷ Fragments ∷ Vrrp ∷ GatewayZero ∷ GatewayOne ∷ Neighbour ∷ []
 
 -- the section of that name
 unfoldable pub section_named : List ℕ → Option Section
@@ -76,6 +77,7 @@ unknown_under text d (Some Inside) = unknown_at Inside (as_table d)
 unknown_under text d (Some Outside) = unknown_at Outside (as_table d)
 unknown_under text d (Some Icmp) = unknown_at Icmp (as_table d)
 unknown_under text d (Some Fragments) = unknown_at Fragments (as_table d)
+unknown_under text d (Some Vrrp) = unknown_at Vrrp (as_table d)
 unknown_under text d (Some GatewayZero) = unknown_at GatewayZero (as_table d)
 unknown_under text d (Some GatewayOne) = unknown_at GatewayOne (as_table d)
 unknown_under text d (Some Neighbour) = unknown_neighbour (tables_in (Some d))

@@ -1,15 +1,16 @@
 -- Settings that stand at the keys of a document.
-use Rattle.std.specs.Prelude.{◌≡◌, ℕ, true, false, Option, Some, string_bytes}
+use Rattle.std.specs.Prelude.{◌≡◌, ℕ, Bool, true, false, Option, Some, string_bytes}
 use Rattle.toml.specs.Data.{Members}
 use Rattle.settings.specs.declared.ranges.PortRange.{PortRange}
 use Rattle.settings.specs.declared.icmp_settings.IcmpSettings.{IcmpSettings}
 use Rattle.settings.specs.declared.fragment_settings.FragmentSettings.{FragmentSettings}
+use Rattle.settings.specs.declared.vrrp_settings.VrrpSettings.{VrrpSettings}
 use Rattle.settings.specs.declared.interfaces.InterfaceSettings.{InterfaceSettings}
 use Rattle.settings.specs.declared.gateway_settings.GatewaySettings.{GatewaySettings}
 use Rattle.settings_file.specs.declared.keys.Section.{Section}
 use Rattle.settings_file.specs.declared.keys.Name.{Name}
-use Rattle.settings_file.specs.declared.keys.Section.TheVariants.{Ports, Icmp, Fragments}
-use Rattle.settings_file.specs.declared.keys.Name.TheVariants.{HostLimit, Alone, Virtual, Prefix, Vrid, Wire, Mtu, Echo, Errors, Pass}
+use Rattle.settings_file.specs.declared.keys.Section.TheVariants.{Ports, Icmp, Fragments, Vrrp}
+use Rattle.settings_file.specs.declared.keys.Name.TheVariants.{HostLimit, Alone, InwardRefresh, Virtual, Prefix, Vrid, Wire, Mtu, Echo, Errors, Pass, PeerOnly}
 use Rattle.settings_file.specs.declared.keys.Name.TheVariants.{InsideIp, InsideMac, OutsideIp, OutsideMac, Priority, Interval, Preempt, BootFile, Link, InsidePort, OutsidePort}
 use Rattle.settings_file.specs.Document.{number_at, number_or, zero_or, optional_at, flag_or, text_at, address_at, mac_at, range_at}
 
@@ -24,6 +25,10 @@ IsLimit t limit = optional_at 1 65535 t Ports HostLimit ≡ Some limit
 -- after how many centiseconds without an answer a gateway makes pairs alone: 0, never, where it is left out
 abbrev pub IsAlone : Members → ℕ → Type 0
 IsAlone t alone = zero_or 50 65535 t Ports Alone ≡ Some alone
+
+-- whether each packet inward keeps its pair: where it is left out, it does
+abbrev pub IsRefreshed : Members → Bool → Type 0
+IsRefreshed t refresh = flag_or true t Ports InwardRefresh ≡ Some refresh
 
 -- a network: where they are left out, mtu is 1500 and wire is none
 pub record IsInterface (t : Members) (s : Section) (interface : InterfaceSettings) : Type 0 where
@@ -41,6 +46,10 @@ pub record IsIcmp (t : Members) (icmp : IcmpSettings) : Type 0 where
 -- whether packets in fragments are taken: not where it is left out
 abbrev pub IsFragments : Members → FragmentSettings → Type 0
 IsFragments t fragments = flag_or false t Fragments Pass ≡ Some fragments.pass
+
+-- whether the other gateway's advertisements alone count: where it is left out, everyone's do
+abbrev pub IsVrrp : Members → VrrpSettings → Type 0
+IsVrrp t vrrp = flag_or false t Vrrp PeerOnly ≡ Some vrrp.peer_only
 
 -- a gateway: where they are left out, priority and interval are 100, preempt is true, and the ports are none
 pub record IsGateway (t : Members) (s : Section) (gateway : GatewaySettings) : Type 0 where

@@ -57,13 +57,14 @@ fn bad_in_sections(
     document: &Table,
     inside: Option<Prefix>,
     outside: Option<Prefix>,
-) -> [Option<Key>; 15] {
+) -> [Option<Key>; 16] {
     let (ports, inner, outer) = (Section::Ports, Section::Inside, Section::Outside);
     [
         fields::required_range(document, ports, Name::Zero).err(),
         fields::required_range(document, ports, Name::One).err(),
         limits::host_limit(document).err(),
         limits::alone(document).err(),
+        fields::flag_or(document, ports, Name::InwardRefresh, true).err(),
         fields::required_address(document, inner, Name::Virtual).err(),
         limits::prefix_length(document, inner).err(),
         limits::virtual_router(document, inner).err(),
@@ -78,15 +79,17 @@ fn bad_in_sections(
     ]
 }
 
-/// Returns the keys of ICMP and of fragments whose values are bad.
-fn bad_in_optional_sections(document: &Table) -> [Option<Key>; 5] {
-    let (icmp, fragments) = (Section::Icmp, Section::Fragments);
+/// Returns the keys of ICMP, of fragments and of VRRP whose values are bad.
+fn bad_in_optional_sections(document: &Table) -> [Option<Key>; 7] {
+    let (icmp, fragments, vrrp) = (Section::Icmp, Section::Fragments, Section::Vrrp);
     [
         bad_section(document, icmp),
         fields::flag_or(document, icmp, Name::Echo, false).err(),
         fields::flag_or(document, icmp, Name::Errors, false).err(),
         bad_section(document, fragments),
         fields::flag_or(document, fragments, Name::Pass, false).err(),
+        bad_section(document, vrrp),
+        fields::flag_or(document, vrrp, Name::PeerOnly, false).err(),
     ]
 }
 

@@ -60,7 +60,7 @@ pub(crate) fn explain_unknown(source: Source<'_>, document: &Table, path: &str) 
             source.explanation(format_args!("[{name}] has {keys}"))
         }
         None => source.explanation(
-            "the sections are [ports], [inside], [outside], [icmp], [fragments], [gateway_0], [gateway_1], [[neighbour]]",
+            "the sections are [ports], [inside], [outside], [icmp], [fragments], [vrrp], [gateway_0], [gateway_1], [[neighbour]]",
         ),
     }
 }

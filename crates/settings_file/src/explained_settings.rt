@@ -138,7 +138,7 @@ pub(crate) fn explain_unworkable(
         Section::GatewayZero => explain_gateway(source, settings, key, &settings.zero),
         Section::GatewayOne => explain_gateway(source, settings, key, &settings.one),
         Section::Neighbour => explain_neighbour(source, document, settings, name, cursor),
-        Section::Ports | Section::Icmp | Section::Fragments => None,
+        Section::Ports | Section::Icmp | Section::Fragments | Section::Vrrp => None,
     }
 }
 

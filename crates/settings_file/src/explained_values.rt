@@ -153,7 +153,12 @@ fn wanted_at(document: &Table, section: Section, name: Name, value: &Value) -> W
         Name::Router | Name::OutsideIp => wanted_host(document, section, name, Section::Outside),
         Name::InsideIp => wanted_host(document, section, name, Section::Inside),
         Name::InsideMac | Name::OutsideMac => Wanted::Mac,
-        Name::Preempt | Name::Echo | Name::Errors | Name::Pass => Wanted::Flag,
+        Name::Preempt
+        | Name::Echo
+        | Name::Errors
+        | Name::Pass
+        | Name::InwardRefresh
+        | Name::PeerOnly => Wanted::Flag,
         _ => match numbers_of(name) {
             Some(numbers) if value.is_integer() => Wanted::Within(numbers),
             Some(numbers) => Wanted::Number(numbers),

@@ -1,5 +1,5 @@
-//! The sections of a document: ports, the two networks with the router, ICMP, and fragments. The errors are the first keys
-//! whose values are bad.
+//! The sections of a document: ports, the two networks with the router, ICMP, fragments and VRRP. The errors are the first
+//! keys whose values are bad.
 ghost use Rattle.std.specs.Prelude.{◌≡◌, IsTrue, ◌<◌, ◌≤◌, Some, IfOk};
 ghost use Rattle.std.specs.Option.{ForSome};
 ghost use Rattle.toml.specs.View.{table_view};
@@ -7,31 +7,50 @@ ghost use Rattle.settings_file.specs.declared.keys.Section.TheVariants.{Inside, 
 ghost use Rattle.settings_file.specs.declared.keys.Name.TheVariants.{Zero, One, Router};
 ghost use Rattle.settings_file.specs.Document.{address_at, is_apart, is_section, IsApart};
 ghost use Rattle.settings_file.specs.Faults.{FindsBad};
-ghost use Rattle.settings_file.specs.Rows.{bad_ports, bad_inside, bad_outside, bad_icmp, bad_fragments, network_at};
-ghost use Rattle.settings_file.specs.Values.{IsRange, IsLimit, IsAlone, IsInterface, IsIcmp, IsFragments};
+ghost use Rattle.settings_file.specs.Rows.{bad_ports, bad_inside, bad_outside, bad_icmp, bad_fragments, bad_vrrp, network_at};
+ghost use Rattle.settings_file.specs.Values.{IsRange, IsLimit, IsAlone, IsRefreshed, IsInterface, IsIcmp, IsFragments, IsVrrp};
 
 use crate::{Key, Name, Section, fields, limits};
 use addresses::{Ip, Prefix};
-use settings::{FragmentSettings, IcmpSettings, InterfaceSettings, PortRange};
+use settings::{FragmentSettings, IcmpSettings, InterfaceSettings, PortRange, VrrpSettings};
 use toml::Table;
 
-/// Returns the port ranges of gateway 0 and of gateway 1, the limit of each inside host, where there is one, and after
-/// how many centiseconds without an answer a gateway makes pairs alone.
+/// The values of `[ports]`.
+#[derive(Clone, Copy)]
+pub(crate) struct PortValues {
+    pub(crate) zero: PortRange,
+    pub(crate) one: PortRange,
+    pub(crate) host_limit: Option<u16>,
+    pub(crate) alone: u16,
+    pub(crate) inward_refresh: bool,
+    ghost limited: { ForSome host_limit (λ most. 0 < most) },
+    ghost alone_late: { alone < 50 → alone ≡ 0 },
+}
+
+/// Returns the port ranges of gateway 0 and of gateway 1, the limit of each inside host, where there is one, after how
+/// many centiseconds without an answer a gateway makes pairs alone, and whether packets inward keep their pairs.
 #[tactic(auto, unfolding(crate::specs::Rows::bad_ports))]
-pub(crate) fn ports(document: &Table) -> Result<(PortRange, PortRange, Option<u16>, u16), Key>
-    ensures zero { IfOk result (λ r. IsRange (table_view document.now) Zero r.0) }
-    ensures one { IfOk result (λ r. IsRange (table_view document.now) One r.1) }
-    ensures limit { IfOk result (λ r. IsLimit (table_view document.now) r.2) }
-    ensures limited { IfOk result (λ r. ForSome r.2 (λ most. 0 < most)) }
-    ensures alone { IfOk result (λ r. IsAlone (table_view document.now) r.3) }
-    ensures late { IfOk result (λ r. r.3 < 50 → r.3 ≡ 0) }
+pub(crate) fn ports(document: &Table) -> Result<PortValues, Key>
+    ensures zero { IfOk result (λ r. IsRange (table_view document.now) Zero r.zero) }
+    ensures one { IfOk result (λ r. IsRange (table_view document.now) One r.one) }
+    ensures limit { IfOk result (λ r. IsLimit (table_view document.now) r.host_limit) }
+    ensures alone { IfOk result (λ r. IsAlone (table_view document.now) r.alone) }
+    ensures refresh { IfOk result
+        (λ r. IsRefreshed (table_view document.now) r.inward_refresh) }
     ensures bad { FindsBad (bad_ports (table_view document.now)) result }
 {
     let zero = fields::required_range(document, Section::Ports, Name::Zero)?;
     let one = fields::required_range(document, Section::Ports, Name::One)?;
-    let limit = limits::host_limit(document)?;
+    let host_limit = limits::host_limit(document)?;
     let alone = limits::alone(document)?;
-    Ok((zero, one, limit, alone))
+    let inward_refresh = fields::flag_or(document, Section::Ports, Name::InwardRefresh, true)?;
+    Ok(PortValues {
+        zero,
+        one,
+        host_limit,
+        alone,
+        inward_refresh,
+    })
 }
 
 /// Returns the settings of the inside network.
@@ -127,4 +146,17 @@ pub(crate) fn fragments(document: &Table) -> Result<FragmentSettings, Key>
     }
     let pass = fields::flag_or(document, Section::Fragments, Name::Pass, false)?;
     Ok(FragmentSettings { pass })
+}
+
+/// Returns whose advertisements a gateway takes.
+#[tactic(auto, unfolding(crate::specs::Rows::bad_vrrp))]
+pub(crate) fn vrrp(document: &Table) -> Result<VrrpSettings, Key>
+    ensures ok { IfOk result (IsVrrp (table_view document.now)) }
+    ensures bad { FindsBad (bad_vrrp (table_view document.now)) result }
+{
+    if !is_section(document, Section::Vrrp) {
+        return Err(Key::whole(Section::Vrrp));
+    }
+    let peer_only = fields::flag_or(document, Section::Vrrp, Name::PeerOnly, false)?;
+    Ok(VrrpSettings { peer_only })
 }

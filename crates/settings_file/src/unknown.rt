@@ -12,7 +12,13 @@ use std::alloc::{AllocError, Global};
 use toml::{Table, Value};
 
 /// The keys of `[ports]`.
-const PORTS_KEYS: [Name; 4] = [Name::Zero, Name::One, Name::HostLimit, Name::Alone];
+const PORTS_KEYS: [Name; 5] = [
+    Name::Zero,
+    Name::One,
+    Name::HostLimit,
+    Name::Alone,
+    Name::InwardRefresh,
+];
 
 /// The keys of `[inside]`.
 const INSIDE_KEYS: [Name; 5] = [
@@ -38,6 +44,9 @@ const ICMP_KEYS: [Name; 2] = [Name::Echo, Name::Errors];
 
 /// The keys of `[fragments]`.
 const FRAGMENT_KEYS: [Name; 1] = [Name::Pass];
+
+/// The keys of `[vrrp]`.
+const VRRP_KEYS: [Name; 1] = [Name::PeerOnly];
 
 /// The keys of `[gateway_0]` and `[gateway_1]`.
 const GATEWAY_KEYS: [Name; 11] = [
@@ -87,6 +96,7 @@ fn is_known(section: Section, text: &str) -> bool
         Section::Outside => any_has_text(&OUTSIDE_KEYS, text),
         Section::Icmp => any_has_text(&ICMP_KEYS, text),
         Section::Fragments => any_has_text(&FRAGMENT_KEYS, text),
+        Section::Vrrp => any_has_text(&VRRP_KEYS, text),
         Section::GatewayZero | Section::GatewayOne => any_has_text(&GATEWAY_KEYS, text),
         Section::Neighbour => any_has_text(&NEIGHBOUR_KEYS, text),
     }
@@ -100,6 +110,7 @@ pub(crate) fn keys_of(section: Section) -> &'static [Name] {
         Section::Outside => &OUTSIDE_KEYS,
         Section::Icmp => &ICMP_KEYS,
         Section::Fragments => &FRAGMENT_KEYS,
+        Section::Vrrp => &VRRP_KEYS,
         Section::GatewayZero | Section::GatewayOne => &GATEWAY_KEYS,
         Section::Neighbour => &NEIGHBOUR_KEYS,
     }
@@ -116,6 +127,7 @@ pub(crate) fn section_named(text: &str) -> Option<Section>
         "outside" => Some(Section::Outside),
         "icmp" => Some(Section::Icmp),
         "fragments" => Some(Section::Fragments),
+        "vrrp" => Some(Section::Vrrp),
         "gateway_0" => Some(Section::GatewayZero),
         "gateway_1" => Some(Section::GatewayOne),
         "neighbour" => Some(Section::Neighbour),

@@ -10,7 +10,7 @@ use crate::{Section, SettingFault, sections};
 use addresses::Ip;
 use settings::{
     FragmentSettings, GatewaySettings, IcmpSettings, InterfaceSettings, Neighbour, PortRange,
-    PortRanges, Settings,
+    PortRanges, Settings, VrrpSettings,
 };
 use std::alloc::Global;
 use toml::Table;
@@ -22,11 +22,13 @@ pub(crate) struct Values {
     pub(crate) one_ports: PortRange,
     pub(crate) host_limit: Option<u16>,
     pub(crate) alone: u16,
+    pub(crate) inward_refresh: bool,
     pub(crate) inside: InterfaceSettings,
     pub(crate) outside: InterfaceSettings,
     pub(crate) router: Ip,
     pub(crate) icmp: IcmpSettings,
     pub(crate) fragments: FragmentSettings,
+    pub(crate) vrrp: VrrpSettings,
     pub(crate) zero: GatewaySettings,
     pub(crate) one: GatewaySettings,
     pub(crate) neighbours: Vec<Neighbour>,
@@ -57,26 +59,29 @@ impl Values {
         ensures ok { IfOk result (AreValues (table_view document.now)) }
         ensures bad { FindsBadValue (first_bad_value (table_view document.now)) result }
     {
-        let (zero_ports, one_ports, host_limit, alone) = sections::ports(document)?;
+        let ports = sections::ports(document)?;
         let inside = sections::inside(document)?;
         let (outside, router) = sections::outside(document, inside.network())?;
         let icmp = sections::icmp(document)?;
         let fragments = sections::fragments(document)?;
+        let vrrp = sections::vrrp(document)?;
         let inner = inside.network();
         let outer = outside.network();
         let zero = gateway(alloc, document, Section::GatewayZero, inner, outer)?;
         let one = gateway(alloc, document, Section::GatewayOne, inner, outer)?;
         let neighbours = neighbours(alloc, document, inner, outer)?;
         Ok(Values {
-            zero_ports,
-            one_ports,
-            host_limit,
-            alone,
+            zero_ports: ports.zero,
+            one_ports: ports.one,
+            host_limit: ports.host_limit,
+            alone: ports.alone,
+            inward_refresh: ports.inward_refresh,
             inside,
             outside,
             router,
             icmp,
             fragments,
+            vrrp,
             zero,
             one,
             neighbours,
@@ -109,11 +114,13 @@ impl Values {
         Ok(Settings {
             ports,
             alone: self.alone,
+            inward_refresh: self.inward_refresh,
             inside: self.inside,
             outside: self.outside,
             router: self.router,
             icmp: self.icmp,
             fragments: self.fragments,
+            vrrp: self.vrrp,
             zero: self.zero,
             one: self.one,
             neighbours: self.neighbours,

@@ -29,7 +29,7 @@ use Rattle.spec_binding.specs.Uses.{Accounts, KnowUses, Knows, uses_after, uses_
 use Rattle.spec_binding.proofs.Knowing.{know-as}
 use Rattle.spec_binding.proofs.Leaving.{change-leaves}
 
--- ---- a use in the present life is listed
+-- ---- a use in the present life that counts is listed
 
 put : (b : Bool) (use_at at : ℕ) (uses : List ℕ) → b ≡ true → use_at ≡ at → IsAmong use_at (cond b (at ∷ uses) uses)
 put true use_at at uses is here = inl here
@@ -43,21 +43,21 @@ kept : (b : Bool) (use_at : ℕ) (uses : List ℕ) → (b ≡ true → ⊥) → 
 kept true use_at uses other is = absurd (other refl)
 kept false use_at uses other is = is
 
-listed-after : (g : GatewayId) (pair : Pair) (use_at : ℕ) (by : GatewayId) (at : ℕ) (what : NoteKind) (Before : Type 0) (uses : List ℕ) → (Before → IsAmong use_at uses) → UsesAt g pair use_at by at what Before → IsAmong use_at (uses_after g pair by at what uses)
-listed-after g pair use_at by at (Used noted) Before uses old (inl w) =
-    put (same g by && same_pair pair noted) use_at at uses (and_from (same g by) (same_pair pair noted) (same-true g by w.0) (pair-true pair noted w.1)) w.2
-listed-after g pair use_at by at (Used noted) Before uses old (inr w) = stays (same g by && same_pair pair noted) use_at at uses (old w)
-listed-after g pair use_at by at (Released noted) Before uses old w = old w
-listed-after g pair use_at by at (Retaken noted) Before uses old w = old w
-listed-after g pair use_at by at (Alone noted) Before uses old w = old w
-listed-after g pair use_at by at Synced Before uses old w = old w
-listed-after g pair use_at by at Crashed Before uses old w = old w
-listed-after g pair use_at by at (Booted number) Before uses old w = kept (same g by) use_at uses (λ is. w.0 (same-eq g by is)) (old w.1)
+listed-after : (g : GatewayId) (pair : Pair) (use_at : ℕ) (by : GatewayId) (at : ℕ) (counts : Bool) (what : NoteKind) (Before : Type 0) (uses : List ℕ) → (Before → IsAmong use_at uses) → UsesAt g pair use_at by at counts what Before → IsAmong use_at (uses_after g pair by at counts what uses)
+listed-after g pair use_at by at counts (Used noted) Before uses old (inl w) =
+    put (counts && (same g by && same_pair pair noted)) use_at at uses (and_from counts (same g by && same_pair pair noted) w.3 (and_from (same g by) (same_pair pair noted) (same-true g by w.0) (pair-true pair noted w.1))) w.2
+listed-after g pair use_at by at counts (Used noted) Before uses old (inr w) = stays (counts && (same g by && same_pair pair noted)) use_at at uses (old w)
+listed-after g pair use_at by at counts (Released noted) Before uses old w = old w
+listed-after g pair use_at by at counts (Retaken noted) Before uses old w = old w
+listed-after g pair use_at by at counts (Alone noted) Before uses old w = old w
+listed-after g pair use_at by at counts Synced Before uses old w = old w
+listed-after g pair use_at by at counts Crashed Before uses old w = old w
+listed-after g pair use_at by at counts (Booted number) Before uses old w = kept (same g by) use_at uses (λ is. w.0 (same-eq g by is)) (old w.1)
 
 listed : (g : GatewayId) (pair : Pair) (use_at : ℕ) (notes : List Note) → UsedInLife g pair use_at notes → IsAmong use_at (uses_of g notes pair)
 listed g pair use_at [] is = absurd is
 listed g pair use_at (note ∷ notes) is =
-    listed-after g pair use_at note.by note.at note.what (UsedInLife g pair use_at notes) (uses_of g notes pair) (listed g pair use_at notes) is
+    listed-after g pair use_at note.by note.at note.counts note.what (UsedInLife g pair use_at notes) (uses_of g notes pair) (listed g pair use_at notes) is
 
 by-protocol : (protocol : Protocol) (use_at now : ℕ) → use_at + least_rest protocol ≤ now → use_at + rest_of protocol ≤ now
 by-protocol Icmp use_at now h = h

@@ -1,11 +1,9 @@
 -- What entries with their lives know of the uses of their pairs, after each change of both.
-use Rattle.std.proofs.Common.{◌≡◌, ℕ, suc, ◌+◌, ◌≤◌, nat_le, Bool, true, false, cond, ◌&&◌, Option, Some, None, inl, inr, List, [], ◌∷◌, length, map, refl, sym, ap, subst, ◌∙◌, arith}
+use Rattle.std.proofs.Common.{◌≡◌, ℕ, suc, ◌+◌, ◌≤◌, nat_le, Bool, true, false, cond, Option, Some, None, inl, inr, List, [], ◌∷◌, length, map, refl, sym, ap, subst, ◌∙◌, arith}
 use Rattle.std.specs.List.{insert}
 use Rattle.std.specs.Option.{option_map}
 use Rattle.std.proofs.lemmas.Bool.{both_ways, cases_Bool, cond-true, cond-false, false_from_ne_true, le-leb, leb-true}
 use Rattle.std.proofs.lemmas.List.{length-map}
-use Rattle.addresses.specs.declared.transport.Protocol.{Protocol}
-use Rattle.addresses.specs.declared.transport.Protocol.TheVariants.{Icmp, Tcp, Udp}
 use Rattle.nat_types.specs.Same.{same_key}
 use Rattle.nat_types.proofs.Offered.{key-eq, key-true}
 use Rattle.nat_types.specs.declared.pairs.EntryState.{EntryState}
@@ -13,16 +11,14 @@ use Rattle.nat_types.specs.declared.pairs.EntryState.TheVariants as state
 use Rattle.nat_types.specs.declared.pairs.Key.{Key}
 use Rattle.nat_types.specs.declared.pairs.Pair.{Pair}
 use Rattle.activity.specs.declared.packets.Packet.{Packet}
-use Rattle.activity.specs.Lives.{History, Activity, Agrees, came, is_unused, life_begun, life_carried, life_renewed, renewed, with_packet}
+use Rattle.activity.specs.Lives.{Activity, came, life_begun, life_carried, life_renewed, renewed, with_packet}
 use Rattle.activity.specs.Rests.{HaveRested}
 use Rattle.activity.specs.Lives.{least_rest}
-use Rattle.activity.specs.Places.{is_nowhere}
-use Rattle.activity.specs.Kept.{session_place}
-use Rattle.activity.proofs.Offered.{agrees-tcp, agrees-plain, accounts-came, accounts-renewed, accounts-anew, accounts-later, accounts-more, rested-later}
+use Rattle.activity.proofs.Offered.{agrees-came, agrees-renewed, agrees-carried, accounts-came, accounts-renewed, accounts-anew, accounts-later, accounts-kept, rested-later}
 use Rattle.bindings.specs.declared.entries.Entry.{Entry}
 use Rattle.bindings.specs.Entries.{has_key, slot_of, entry_in, is_pair, translates, HasDistinctKeys}
 use Rattle.bindings.specs.Lists.{place_in, put_in, with_state, without}
-use Rattle.bindings.specs.Lives.{life_in, lives_with, lives_without}
+use Rattle.bindings.specs.Lives.{life_in, lives_with, lives_without, use_counts_at, use_counts_by}
 use Rattle.bindings.specs.Revivals.{lives_of_pairs, revived_entries, revived_slot, woken, woken_entry}
 use Rattle.bindings.proofs.Offered.{either_slot, restated, slot-without, find-some, length-insert, length-lives_without, life-turned, put-begins, put-keeps, without-keeps, length-put, length-revived, life-revived, slot-revived, slot-key, slot-put, length-turn}
 use Rattle.spec_binding.specs.Uses.{IsTranslated, KnowUses, Knows}
@@ -41,21 +37,6 @@ rested-by rest now uses A without_it with_it use_at among =
     stable (use_at + rest) now (λ bad. bad (without_it (λ a. bad (with_it a use_at among)) use_at among))
 
 -- ---- lives
-
-both-true : (b : Bool) → b ≡ (b && true)
-both-true true = refl
-both-true false = refl
-
-agrees-came : (protocol : Protocol) (by_install : Bool) (now : ℕ) → Agrees protocol (came by_install now) (life_begun by_install now)
-agrees-came protocol by_install now = record { last = refl; unused = both-true by_install; sessions = λ t. refl; crowded = λ t. refl }
-
-agrees-renewed : (protocol : Protocol) (past : History) (life : Activity) (now : ℕ) → Agrees protocol past life → Agrees protocol (renewed now past) (life_renewed now life)
-agrees-renewed protocol past life now a = record { last = refl; unused = a.unused ∙ both-true (is_unused past); sessions = λ t. refl; crowded = λ t. refl }
-
-agrees-carried : (protocol : Protocol) (past : History) (life : Activity) (p : Packet) → Agrees protocol past life → Agrees protocol (with_packet p past) (life_carried protocol p life)
-agrees-carried Icmp past life p a = agrees-plain Icmp past (life_carried Icmp p life) p (λ same. cc) refl refl
-agrees-carried Udp past life p a = agrees-plain Udp past (life_carried Udp p life) p (λ same. cc) refl refl
-agrees-carried Tcp past life p a = agrees-tcp past life (life_carried Tcp p life) p (is_nowhere (session_place p life.sessions)) a refl refl refl refl refl
 
 length-with : (f : Activity → Activity) (k : Key) (es : List Entry) (ls : List Activity) → length ls ≡ length es → length (lives_with f k es ls) ≡ length es
 length-with f k [] ls same = same
@@ -286,9 +267,9 @@ know-anew now es ls u w = record {
   rested = w.rested;
 }
 
--- a pair that translates carries a packet: `v` has one use of it more than `u`
+-- a pair that translates carries a packet: `v` has one use of it more than `u`, where that use counts
 pub know-carry : (since : ℕ) (es : List Entry) (ls : List Activity) (u v : Pair → List ℕ) (k : Key) (x : Entry) (p : Packet) → slot_of es k ≡ Some x → translates x.state ≡ true → since ≤ p.at
-    → v x.pair ≡ p.at ∷ u x.pair → ((q : Pair) → (q ≡ x.pair → ⊥) → v q ≡ u q) → KnowUses since es ls u → KnowUses p.at es (lives_with (life_carried k.protocol p) k es ls) v
+    → v x.pair ≡ cond (use_counts_at es ls k p) (p.at ∷ u x.pair) (u x.pair) → ((q : Pair) → (q ≡ x.pair → ⊥) → v q ≡ u q) → KnowUses since es ls u → KnowUses p.at es (lives_with (life_carried k.protocol p) k es ls) v
 know-carry since es ls u v k x p found live le more others w = record {
   alike = length-with (life_carried k.protocol p) k es ls w.alike;
   known = λ q y h. elim (cases_Bool (same_key k q)) [
@@ -316,8 +297,8 @@ know-carry since es ls u v k x p found live le more others w = record {
     longer : Knows p.at es (lives_with (life_carried k.protocol p) k es ls) k (v x.pair)
     longer =
         let a = w.known k x found in
-        subst (λ (z : List ℕ). Knows p.at es (lives_with (life_carried k.protocol p) k es ls) k z) (sym more)
-        (with_packet p a.0, (life_carried k.protocol p a.1.0, life-here (life_carried k.protocol p) k es ls a.1.0 a.1.1, agrees-carried k.protocol a.0 a.1.0 p a.1.2), accounts-more k.protocol since a.0 (u x.pair) p le a.2)
+        subst (λ (z : List ℕ). Knows p.at es (lives_with (life_carried k.protocol p) k es ls) k z) (sym (more ∙ ap (λ (o : Option Activity). cond (use_counts_by k p o) (p.at ∷ u x.pair) (u x.pair)) a.1.1))
+        (with_packet p a.0, (life_carried k.protocol p a.1.0, life-here (life_carried k.protocol p) k es ls a.1.0 a.1.1, agrees-carried k.protocol a.0 a.1.0 p a.1.2), accounts-kept k.protocol since a.0 a.1.0 (u x.pair) p le a.1.2 a.2)
 
 pub translating-pair : (s : EntryState) → translates s ≡ true → (is_pair s ≡ true) × (translates (woken s) ≡ true)
 translating-pair (state.Pending true) h = (refl, refl)

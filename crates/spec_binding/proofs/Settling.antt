@@ -35,10 +35,10 @@ use Rattle.spec_binding.specs.declared.changes.Transition.{Transition}
 use Rattle.spec_binding.specs.declared.changes.PortRequest.{PortRequest}
 use Rattle.spec_binding.specs.declared.changes.Want.TheVariants as want
 use Rattle.spec_binding.specs.Books.{Book, IsBook, empty_book, is_lone, is_paired, is_synced, load_of}
-use Rattle.spec_binding.specs.Ledgers.{Ledger, lone_ledger, carried_ledger, go_on_all, ledger_after, release_all, lives_after, lives_loaded, may_ask, restarted_ledger, rests_for, taken_ledger}
+use Rattle.spec_binding.specs.Ledgers.{Ledger, bare_ledger, lone_ledger, carried_ledger, go_on_all, ledger_after, release_all, lives_after, lives_loaded, may_ask, restarted_ledger, rests_for, taken_ledger}
 use Rattle.spec_binding.specs.Resets.{back_in, begun_anew, restart_notes, retaken}
-use Rattle.spec_binding.specs.Rows.{after, alone_row, answered, carry_row, changed, idle_row, is_full, sought_row, load_taken, load_what, noted_by, quiet, release_row, released_row, row, row_of, taken_what, unsynced_after, unsynced_what, use_row, used_row, wish, wish_by, wish_of}
-use Rattle.spec_binding.specs.Uses.{Accounts, KnowUses, uses_after, uses_of}
+use Rattle.spec_binding.specs.Rows.{after, alone_row, answered, changed, idle_row, is_full, sought_row, load_taken, load_what, noted_by, noted_with, quiet, release_row, released_row, row, row_of, taken_what, unsynced_after, unsynced_what, use_row, used_row, wish, wish_by, wish_of}
+use Rattle.spec_binding.specs.Uses.{Accounts, KnowUses, carried_notes, use_counts, uses_after, uses_of}
 use Rattle.spec_binding.proofs.Accounting.{rested-listed, reversed-join, reversed-more, stays-accounts}
 use Rattle.spec_binding.proofs.Keeping.{alone-row-keeps, idle-keeps, unpaired}
 use Rattle.spec_binding.proofs.Knowing.{WasAt, was-at, know-add, know-anew, know-as, know-carry, know-later, know-none, know-revived}
@@ -48,8 +48,8 @@ use Rattle.spec_binding.proofs.Staying.{alone-stays, idle-stays, row-stays, wish
 
 -- ---- beginnings, time, and the other gateway's notes
 
-pub begun-accounts : (now : ℕ) (b : Book) (hashers : Hashers) (h : List Note) → b.entries ≡ [] → ((p : Pair) → uses_of b.id h p ≡ []) → Idle h → Accounts now (record { book = b; lives = []; hashers = hashers }) h
-begun-accounts now b hashers h empty none idle = record {
+pub begun-accounts : (now : ℕ) (b : Book) (refresh : Bool) (hashers : Hashers) (h : List Note) → b.entries ≡ [] → ((p : Pair) → uses_of b.id h p ≡ []) → Idle h → Accounts now (bare_ledger b refresh hashers) h
+begun-accounts now b refresh hashers h empty none idle = record {
   uses = subst (λ (es : List Entry). KnowUses now es [] (uses_of b.id h)) (sym empty) (know-none now (uses_of b.id h) none);
   none = λ un. none;
   idle = idle;
@@ -58,20 +58,21 @@ begun-accounts now b hashers h empty none idle = record {
 pub later-accounts : (since now : ℕ) (l : Ledger) (h : List Note) → since ≤ now → Accounts since l h → Accounts now l h
 later-accounts since now l h le a = record { uses = know-later since now l.book.entries l.lives (uses_of l.book.id h) le a.uses; none = a.none; idle = a.idle }
 
-foreign-uses : (g : GatewayId) (p : Pair) (by : GatewayId) (at : ℕ) (what : NoteKind) (uses : List ℕ) → same g by ≡ false → uses_after g p by at what uses ≡ uses
-foreign-uses g p by at (Used noted) uses other =
+foreign-uses : (g : GatewayId) (p : Pair) (by : GatewayId) (at : ℕ) (counts : Bool) (what : NoteKind) (uses : List ℕ) → same g by ≡ false → uses_after g p by at counts what uses ≡ uses
+foreign-uses g p by at true (Used noted) uses other =
     cond-false (same g by && same_pair p noted) (at ∷ uses) uses (false_from_ne_true (same g by && same_pair p noted) (λ both. both_ways (same g by) other (and_parts (same g by) (same_pair p noted) both).0))
-foreign-uses g p by at (Released noted) uses other = refl
-foreign-uses g p by at (Retaken noted) uses other = refl
-foreign-uses g p by at (Alone noted) uses other = refl
-foreign-uses g p by at Synced uses other = refl
-foreign-uses g p by at Crashed uses other = refl
-foreign-uses g p by at (Booted number) uses other = cond-false (same g by) [] uses other
+foreign-uses g p by at false (Used noted) uses other = refl
+foreign-uses g p by at counts (Released noted) uses other = refl
+foreign-uses g p by at counts (Retaken noted) uses other = refl
+foreign-uses g p by at counts (Alone noted) uses other = refl
+foreign-uses g p by at counts Synced uses other = refl
+foreign-uses g p by at counts Crashed uses other = refl
+foreign-uses g p by at counts (Booted number) uses other = cond-false (same g by) [] uses other
 
 foreign-one : (now : ℕ) (l : Ledger) (h : List Note) (note : Note) → same l.book.id note.by ≡ false → IdleAt note.by note.at note.what h → Accounts now l h → Accounts now l (note ∷ h)
 foreign-one now l h note other idle a = record {
-  uses = know-as now l.book.entries l.lives (uses_of l.book.id h) (uses_of l.book.id (note ∷ h)) (λ p. foreign-uses l.book.id p note.by note.at note.what (uses_of l.book.id h p) other) a.uses;
-  none = λ un p. foreign-uses l.book.id p note.by note.at note.what (uses_of l.book.id h p) other ∙ a.none un p;
+  uses = know-as now l.book.entries l.lives (uses_of l.book.id h) (uses_of l.book.id (note ∷ h)) (λ p. foreign-uses l.book.id p note.by note.at note.counts note.what (uses_of l.book.id h p) other) a.uses;
+  none = λ un p. foreign-uses l.book.id p note.by note.at note.counts note.what (uses_of l.book.id h p) other ∙ a.none un p;
   idle = (idle, a.idle);
 }
 
@@ -177,20 +178,30 @@ wished-accounts now l h apart full e is a = at (is_synced l.book.stage) refl
         subst (λ (w : PortRequest). Accounts now (ledger_after now w.row.change l) (reverse (noted_by l.book.id now w.row.what) ++ h)) (sym still) a
 
 module _ (l : Ledger) (h : List Note) (k : Key) (p : Packet) (a : Accounts p.at l h) where
+  -- what a row notes of the packet
+  abbrev pub shown_by : Transition → List Note
+  shown_by r = noted_with (use_counts l k p) l.book.id p.at r.what
+
   -- after a packet, the ledger accounts for the trace with the row's note
   abbrev pub Carried : Transition → Type 0
-  Carried r = Accounts p.at (record l { lives = cond (is_some r.what) (lives_with (life_carried k.protocol p) k l.book.entries l.lives) l.lives }) (reverse (noted_by l.book.id p.at r.what) ++ h)
+  Carried r = Accounts p.at (record l { lives = cond (is_some r.what) (lives_with (life_carried k.protocol p) k l.book.entries l.lives) l.lives }) (reverse (shown_by r) ++ h)
 
   used : (x : Entry) → is_synced l.book.stage ≡ true → slot_of l.book.entries k ≡ Some x → translates x.state ≡ true → Carried (row Keep None (Some (Used x.pair)))
   used x synced found live = record {
-    uses = know-carry p.at l.book.entries l.lives (uses_of l.book.id h) (uses_of l.book.id (reverse (noted_by l.book.id p.at (Some (Used x.pair))) ++ h)) k x p found live (omega arith)
-        (cond-true (same l.book.id l.book.id && same_pair x.pair x.pair) (p.at ∷ uses_of l.book.id h x.pair) (uses_of l.book.id h x.pair) (and_from (same l.book.id l.book.id) (same_pair x.pair x.pair) (same-self l.book.id) (pair-self x.pair)))
-        (λ q apart. cond-false (same l.book.id l.book.id && same_pair q x.pair) (p.at ∷ uses_of l.book.id h q) (uses_of l.book.id h q)
-        (false_from_ne_true (same l.book.id l.book.id && same_pair q x.pair) (λ both. apart (pair-eq q x.pair (and_parts (same l.book.id l.book.id) (same_pair q x.pair) both).1))))
-        a.uses;
+    uses = know-carry p.at l.book.entries l.lives (uses_of l.book.id h) (uses_of l.book.id (reverse (shown_by (row Keep None (Some (Used x.pair)))) ++ h)) k x p found live (omega arith)
+        (own (use_counts l k p)) (other (use_counts l k p)) a.uses;
     none = λ un. absurd (both_ways (is_synced l.book.stage) un synced);
     idle = (tt, a.idle);
   }
+    where
+      own : (c : Bool) → uses_of l.book.id (reverse (noted_with c l.book.id p.at (Some (Used x.pair))) ++ h) x.pair ≡ cond c (p.at ∷ uses_of l.book.id h x.pair) (uses_of l.book.id h x.pair)
+      own true = cond-true (same l.book.id l.book.id && same_pair x.pair x.pair) (p.at ∷ uses_of l.book.id h x.pair) (uses_of l.book.id h x.pair) (and_from (same l.book.id l.book.id) (same_pair x.pair x.pair) (same-self l.book.id) (pair-self x.pair))
+      own false = refl
+
+      other : (c : Bool) (q : Pair) → (q ≡ x.pair → ⊥) → uses_of l.book.id (reverse (noted_with c l.book.id p.at (Some (Used x.pair))) ++ h) q ≡ uses_of l.book.id h q
+      other true q apart = cond-false (same l.book.id l.book.id && same_pair q x.pair) (p.at ∷ uses_of l.book.id h q) (uses_of l.book.id h q)
+          (false_from_ne_true (same l.book.id l.book.id && same_pair q x.pair) (λ both. apart (pair-eq q x.pair (and_parts (same l.book.id l.book.id) (same_pair q x.pair) both).1)))
+      other false q apart = refl
 
   used-by : (x : Entry) (s : EntryState) → x.state ≡ s → is_synced l.book.stage ≡ true → slot_of l.book.entries k ≡ Some x → Carried (used_row x.pair s)
   used-by x (state.Pending true) at synced found = used x synced found (ap translates at)
@@ -202,7 +213,7 @@ module _ (l : Ledger) (h : List Note) (k : Key) (p : Packet) (a : Accounts p.at 
   used-by x state.Alone at synced found = used x synced found (ap translates at)
   used-by x state.Held at synced found = used x synced found (ap translates at)
 
-  pub carried-accounts : Accounts p.at (carried_ledger k p l) (reverse (noted_by l.book.id p.at (carry_row l.book k).what) ++ h)
+  pub carried-accounts : Accounts p.at (carried_ledger k p l) (reverse (carried_notes l k p) ++ h)
   carried-accounts = at (is_synced l.book.stage) refl (slot_of l.book.entries k) refl
     where
       at : (t : Bool) → is_synced l.book.stage ≡ t → (o : Option Entry) → slot_of l.book.entries k ≡ o → Carried (let r : Transition = cond t (use_row o) quiet in r)
@@ -215,13 +226,13 @@ module _ (l : Ledger) (h : List Note) (k : Key) (p : Packet) (a : Accounts p.at 
 retaken-uses : (g i : GatewayId) (now : ℕ) (ps : List Pair) (h : List Note) (p : Pair) → uses_of g (reverse (retaken i now ps) ++ h) p ≡ uses_of g h p
 retaken-uses g i now [] h p = refl
 retaken-uses g i now (q ∷ ps) h p =
-    let note : Note = record { by = i; at = now; what = Retaken q } in
+    let note : Note = record { by = i; at = now; what = Retaken q; counts = true } in
     ap (λ (z : List Note). uses_of g z p) (reversed-more note (retaken i now ps) h) ∙ retaken-uses g i now ps (note ∷ h) p
 
 retaken-idle : (i : GatewayId) (now : ℕ) (ps : List Pair) (h : List Note) → Idle h → Idle (reverse (retaken i now ps) ++ h)
 retaken-idle i now [] h idle = idle
 retaken-idle i now (q ∷ ps) h idle =
-    let note : Note = record { by = i; at = now; what = Retaken q } in
+    let note : Note = record { by = i; at = now; what = Retaken q; counts = true } in
     subst Idle (sym (reversed-more note (retaken i now ps) h)) (retaken-idle i now ps (note ∷ h) (tt, idle))
 
 revived-uses : (now : ℕ) (l : Ledger) (h : List Note) → IsBook l.book → Accounts now l h → KnowUses now (revived_entries l.book.entries) (lives_of_pairs l.book.entries l.lives) (uses_of l.book.id (reverse (retaken l.book.id now (back_in l.book.entries)) ++ h))

@@ -33,7 +33,7 @@ use Rattle.spec_binding.specs.declared.setups.Stage.{Stage}
 use Rattle.spec_binding.specs.declared.setups.Stage.TheVariants.{Unsynced, Paired, Lone}
 use Rattle.spec_binding.specs.Books.{Book, is_synced, is_lone, is_paired, owns}
 use Rattle.spec_binding.specs.Machine.{box_at, machine_records, ranges_of, slots_of, Stands, Works}
-use Rattle.spec_binding.specs.Rows.{after, alone_row, answered, asking, marked_row, paired_wish, sought_row, telling_row, carry_row, idle_row, is_at_limit, known_wish, may_want, new_pair, new_wish, none_row, noted_by, port_for, proposal, pushed_by, quiet, release_row, released_row, row, use_row, used_row, wish, wish_by, wish_of}
+use Rattle.spec_binding.specs.Rows.{after, alone_row, answered, asking, marked_row, paired_wish, sought_row, telling_row, carry_row, idle_row, is_at_limit, known_wish, may_want, new_pair, new_wish, none_row, noted_by, noted_with, port_for, proposal, pushed_by, quiet, release_row, released_row, row, use_row, used_row, wish, wish_by, wish_of}
 use Rattle.spec_binding.proofs.Parts.{act-step}
 use Rattle.spec_binding.proofs.Slots.{slots-at, slots-drop, slots-none, slots-put, slots-turn}
 use Rattle.spec_binding.proofs.Taking.{is-unbound}
@@ -73,9 +73,13 @@ pub at-key : (es : List Entry) (k : Key) (x : Entry) → slot_of es k ≡ Some x
 at-key es k x found = ap (slot_of es) (slot-key es k x found) ∙ found
 
 module _ (now : ℕ) (c : Book) (e : Link) (h : List Record) (n : ℕ) (letters : List Letter) (words : List ℕ) where
-  -- the row is a part of a step that takes no record
+  -- the row, whose note has this mark, is a part of a step that takes no record
+  abbrev pub StepsWith : Bool → Transition → Type 0
+  StepsWith counts r = IsStep (ranges_of c) c.id now (box_at c e h n) (box_at (after c r) (answered e r.answer) (h ++ pushed_by r.answer) n) letters words [] (reverse (noted_with counts c.id now r.what)) [] []
+
+  -- the same of a row that notes no use
   abbrev pub WishSteps : Transition → Type 0
-  WishSteps r = IsStep (ranges_of c) c.id now (box_at c e h n) (box_at (after c r) (answered e r.answer) (h ++ pushed_by r.answer) n) letters words [] (reverse (noted_by c.id now r.what)) [] []
+  WishSteps = StepsWith true
 
   sent-none : machine_records (h ++ []) ≡ machine_records h
   sent-none = map-append machine_record h [] ∙ append-nil (machine_records h)
@@ -198,17 +202,17 @@ module _ (now : ℕ) (c : Book) (e : Link) (h : List Record) (n : ℕ) (letters 
       (record { up = refl; boot = refl; synced = refl; lone = refl; peer = refl; table = slots-turn x.pair.key (state.Closing false) c.entries x found; sent = map-append machine_record h (rec.Ask x.pair.key ∷ []); taken = refl; loading = refl; owned = λ p. refl; wants = refl; named = refl; promised = refl })
       refl (λ m. refl)
 
-  uses : (x : Entry) → is_synced c.stage ≡ true → machine.translated (slots_of c.entries x.pair.key) ≡ Some x.pair.endpoint → WishSteps (row Keep None (Some (happens.Used x.pair)))
-  uses x synced there = at (is_lone c.stage) refl
+  uses : (counts : Bool) (x : Entry) → is_synced c.stage ≡ true → machine.translated (slots_of c.entries x.pair.key) ≡ Some x.pair.endpoint → StepsWith counts (row Keep None (Some (happens.Used x.pair)))
+  uses counts x synced there = at (is_lone c.stage) refl
     where
-      at : (b : Bool) → is_lone c.stage ≡ b → WishSteps (row Keep None (Some (happens.Used x.pair)))
+      at : (b : Bool) → is_lone c.stage ≡ b → StepsWith counts (row Keep None (Some (happens.Used x.pair)))
       at true lone =
-          act-step (ranges_of c) c.id now (box_at c e h n) (box_at c e (h ++ []) n) (LoneUse x.pair.key x.pair.endpoint) letters words (noted_by c.id now (Some (happens.Used x.pair)))
+          act-step (ranges_of c) c.id now (box_at c e h n) (box_at c e (h ++ []) n) (LoneUse x.pair.key x.pair.endpoint counts) letters words (noted_with counts c.id now (Some (happens.Used x.pair)))
           (synced, lone, there) (λ m i. absurd i, tt)
           (record { up = refl; boot = refl; synced = refl; lone = refl; peer = refl; table = λ k. refl; sent = sent-none; taken = refl; loading = refl; owned = λ p. refl; wants = refl; named = refl; promised = refl })
           refl (λ m. refl)
       at false lone =
-          act-step (ranges_of c) c.id now (box_at c e h n) (box_at c e (h ++ []) n) (Do (machine.Use x.pair.key x.pair.endpoint)) letters words (noted_by c.id now (Some (happens.Used x.pair)))
+          act-step (ranges_of c) c.id now (box_at c e h n) (box_at c e (h ++ []) n) (Do (machine.Use x.pair.key x.pair.endpoint counts)) letters words (noted_with counts c.id now (Some (happens.Used x.pair)))
           (synced, lone, there, refl) (λ m i. absurd i, tt)
           (record { up = refl; boot = refl; synced = refl; lone = refl; peer = refl; table = λ k. refl; sent = map-append machine_record h []; taken = refl; loading = refl; owned = λ p. refl; wants = refl; named = refl; promised = refl })
           refl (λ m. refl)
@@ -254,22 +258,22 @@ module _ (now : ℕ) (c : Book) (e : Link) (h : List Record) (n : ℕ) (letters 
       at true synced (Some x) found = released-steps ask x x.state synced refl (at-key c.entries k x found)
       at false synced o found = rest-row
 
-  used-steps : (x : Entry) (s : EntryState) → is_synced c.stage ≡ true → x.state ≡ s → slot_of c.entries x.pair.key ≡ Some x → WishSteps (used_row x.pair s)
-  used-steps x (state.Pending true) synced is found = uses x synced (ap machine.translated (slot x (state.Pending true) is found))
-  used-steps x (state.Pending false) synced is found = rest-row
-  used-steps x state.Doomed synced is found = rest-row
-  used-steps x state.Live synced is found = uses x synced (ap machine.translated (slot x state.Live is found))
-  used-steps x (state.Closing true) synced is found = uses x synced (ap machine.translated (slot x (state.Closing true) is found))
-  used-steps x (state.Closing false) synced is found = rest-row
-  used-steps x state.Alone synced is found = uses x synced (ap machine.translated (slot x state.Alone is found))
-  used-steps x state.Held synced is found = uses x synced (ap machine.translated (slot x state.Held is found))
+  used-steps : (counts : Bool) (x : Entry) (s : EntryState) → is_synced c.stage ≡ true → x.state ≡ s → slot_of c.entries x.pair.key ≡ Some x → StepsWith counts (used_row x.pair s)
+  used-steps counts x (state.Pending true) synced is found = uses counts x synced (ap machine.translated (slot x (state.Pending true) is found))
+  used-steps counts x (state.Pending false) synced is found = rest-row
+  used-steps counts x state.Doomed synced is found = rest-row
+  used-steps counts x state.Live synced is found = uses counts x synced (ap machine.translated (slot x state.Live is found))
+  used-steps counts x (state.Closing true) synced is found = uses counts x synced (ap machine.translated (slot x (state.Closing true) is found))
+  used-steps counts x (state.Closing false) synced is found = rest-row
+  used-steps counts x state.Alone synced is found = uses counts x synced (ap machine.translated (slot x state.Alone is found))
+  used-steps counts x state.Held synced is found = uses counts x synced (ap machine.translated (slot x state.Held is found))
 
-  carry-steps : (k : Key) → WishSteps (carry_row c k)
-  carry-steps k = at (is_synced c.stage) refl (slot_of c.entries k) refl
+  carry-steps : (counts : Bool) (k : Key) → StepsWith counts (carry_row c k)
+  carry-steps counts k = at (is_synced c.stage) refl (slot_of c.entries k) refl
     where
-      at : (b : Bool) → is_synced c.stage ≡ b → (o : Option Entry) → slot_of c.entries k ≡ o → WishSteps (let r : Transition = cond b (use_row o) quiet in r)
+      at : (b : Bool) → is_synced c.stage ≡ b → (o : Option Entry) → slot_of c.entries k ≡ o → StepsWith counts (let r : Transition = cond b (use_row o) quiet in r)
       at true synced None found = rest-row
-      at true synced (Some x) found = used-steps x x.state synced refl (at-key c.entries k x found)
+      at true synced (Some x) found = used-steps counts x x.state synced refl (at-key c.entries k x found)
       at false synced o found = rest-row
 
   -- a pair is marked: it goes on though an answer is awaited
@@ -328,19 +332,19 @@ module _ (now : ℕ) (c : Book) (e : Link) (h : List Record) (n : ℕ) (letters 
       at true paired false (Some x) found = let parts = paired-stage c.stage paired in telling-steps full x x.state parts.0 parts.1 refl (at-key c.entries k x found)
       at false paired apart o found = rest-row
 
-row-works : (now : ℕ) (b : Book) (e : Link) (n : ℕ) (h : List Record) (r : Transition) → Stands b e h → WishSteps now b e h n [] [] r → Works now [] [] b e n (after b r) (answered e r.answer) n (noted_by b.id now r.what) h
-row-works now b e n h r stands step =
+row-works : (counts : Bool) (now : ℕ) (b : Book) (e : Link) (n : ℕ) (h : List Record) (r : Transition) → Stands b e h → StepsWith now b e h n [] [] counts r → Works now [] [] b e n (after b r) (answered e r.answer) n (noted_with counts b.id now r.what) h
+row-works counts now b e n h r stands step =
     let keeps = changed-keeps r.change b in
     record { house = keeps.house; history = h ++ pushed_by r.answer; agrees = stands-answer b (after b r) e h r.answer keeps stands; step = step }
 
 pub wish-works : (now : ℕ) (b : Book) (e : Link) (n : ℕ) (h : List Record) (apart full : Bool) (x : Endpoint) → Stands b e h → Works now [] [] b e n (after b (wish_of b apart full x).row) (answered e (wish_of b apart full x).row.answer) n (noted_by b.id now (wish_of b apart full x).row.what) h
-wish-works now b e n h apart full x stands = row-works now b e n h (wish_of b apart full x).row stands (wish-steps now b e h n [] [] apart full x)
+wish-works now b e n h apart full x stands = row-works true now b e n h (wish_of b apart full x).row stands (wish-steps now b e h n [] [] apart full x)
 
 pub idle-works : (now : ℕ) (b : Book) (e : Link) (n : ℕ) (h : List Record) (ask : Bool) (k : Key) → Stands b e h → Works now [] [] b e n (after b (idle_row b ask k)) (answered e (idle_row b ask k).answer) n (noted_by b.id now (idle_row b ask k).what) h
-idle-works now b e n h ask k stands = row-works now b e n h (idle_row b ask k) stands (idle-steps now b e h n [] [] ask k)
+idle-works now b e n h ask k stands = row-works true now b e n h (idle_row b ask k) stands (idle-steps now b e h n [] [] ask k)
 
-pub carry-works : (now : ℕ) (b : Book) (e : Link) (n : ℕ) (h : List Record) (k : Key) → Stands b e h → Works now [] [] b e n (after b (carry_row b k)) (answered e (carry_row b k).answer) n (noted_by b.id now (carry_row b k).what) h
-carry-works now b e n h k stands = row-works now b e n h (carry_row b k) stands (carry-steps now b e h n [] [] k)
+pub carry-works : (now : ℕ) (b : Book) (e : Link) (n : ℕ) (h : List Record) (counts : Bool) (k : Key) → Stands b e h → Works now [] [] b e n (after b (carry_row b k)) (answered e (carry_row b k).answer) n (noted_with counts b.id now (carry_row b k).what) h
+carry-works now b e n h counts k stands = row-works counts now b e n h (carry_row b k) stands (carry-steps now b e h n [] [] counts k)
 
 pub alone-works : (now : ℕ) (b : Book) (e : Link) (n : ℕ) (h : List Record) (apart full : Bool) (k : Key) → Stands b e h → Works now [] [] b e n (after b (alone_row b apart full k)) (answered e (alone_row b apart full k).answer) n (noted_by b.id now (alone_row b apart full k).what) h
-alone-works now b e n h apart full k stands = row-works now b e n h (alone_row b apart full k) stands (alone-steps now b e h n [] [] apart full k)
+alone-works now b e n h apart full k stands = row-works true now b e n h (alone_row b apart full k) stands (alone-steps now b e h n [] [] apart full k)

@@ -24,12 +24,17 @@ use Rattle.spec_binding.specs.Books.{Book, is_apart, is_synced, load_of}
 use Rattle.spec_binding.specs.Resets.{restarted, put_lone}
 use Rattle.spec_binding.specs.Rows.{alone_row, answered, carry_row, changed, idle_row, is_full, noted_by, row_of, taken_book}
 
--- The ledger of a gateway: its book, the life of each entry, in the order of the entries, and the values by which their
--- table hashes, which nothing changes.
+-- The ledger of a gateway: its book, the life of each entry, in the order of the entries, and two things that nothing
+-- changes: whether what comes inward sets the last use of a pair, and the values by which the table hashes.
 pub record Ledger : Type 0 where
   pub book : Book
   pub lives : List Activity
+  pub inward_refresh : Bool
   pub hashers : Hashers
+
+-- the ledger of a gateway that has no entries
+abbrev pub bare_ledger : Book → Bool → Hashers → Ledger
+bare_ledger b refresh hashers = record { book = b; lives = []; inward_refresh = refresh; hashers = hashers }
 
 -- whether an entry in this state is the peer's pair
 abbrev pub is_held : EntryState → Bool

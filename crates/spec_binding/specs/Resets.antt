@@ -1,5 +1,5 @@
 -- What a greater boot of the peer, and the operator's word that the peer is off, make of a book.
-use Rattle.std.specs.Prelude.{ℕ, false, List, [], length, map, if◌then◌else◌}
+use Rattle.std.specs.Prelude.{ℕ, true, false, List, [], length, map, if◌then◌else◌}
 use Rattle.nat_types.specs.declared.gateways.GatewayId.{GatewayId}
 use Rattle.nat_types.specs.declared.notes.NoteKind.TheVariants.{Retaken}
 use Rattle.nat_types.specs.declared.notes.Note.{Note}
@@ -19,7 +19,7 @@ back_in es = pairs_in comes_back es
 
 -- the notes Retaken of these pairs, at time `now`
 abbrev pub retaken : GatewayId → ℕ → List Pair → List Note
-retaken i now ps = map (λ p. record { by = i; at = now; what = Retaken p }) ps
+retaken i now ps = map (λ p. record { by = i; at = now; what = Retaken p; counts = true }) ps
 
 -- the book after a reset: pairs that were proposed, asked to be closed or made alone are Live, proposals given up are
 -- removed, and no Want is open

@@ -457,10 +457,14 @@ abbrev pub answered : Link → Option Record → Link
 answered e None = e
 answered e (Some r) = with_pushed e r
 
--- the notes that a row makes at time `now`: one or none
+-- the notes that a row makes at time `now`, one or none, with this mark: whether a use counts
+abbrev pub noted_with : Bool → GatewayId → ℕ → Option NoteKind → List Note
+noted_with counts i now None = []
+noted_with counts i now (Some what) = (record { by = i; at = now; what = what; counts = counts }) ∷ []
+
+-- the notes of a row that notes no use
 abbrev pub noted_by : GatewayId → ℕ → Option NoteKind → List Note
-noted_by i now None = []
-noted_by i now (Some what) = (record { by = i; at = now; what = what }) ∷ []
+noted_by = noted_with true
 
 -- ---- a record at a gateway that isn't synced
 

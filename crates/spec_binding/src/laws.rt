@@ -32,7 +32,7 @@ ghost use Rattle.spec_binding.specs.Machine.{IsTurn, Stands, Works};
 ghost use Rattle.spec_binding.specs.Resets.{back_in, put_lone, restart_batch, restart_link};
 ghost use Rattle.spec_binding.specs.Resets.{restart_notes, restarted, retaken};
 ghost use Rattle.spec_binding.specs.Serving.{Stays, serving};
-ghost use Rattle.spec_binding.specs.Rows.{after, alone_row, answered, carry_row, changed, idle_row, noted_by};
+ghost use Rattle.spec_binding.specs.Rows.{after, alone_row, answered, carry_row, changed, idle_row, noted_by, noted_with};
 ghost use Rattle.spec_binding.specs.Rows.{row_of, taken_answer, taken_book, taken_ended, taken_what, wish_of};
 ghost use Rattle.spec_binding.specs.Waits.{is_waiting};
 ghost use Rattle.nat_types.specs.declared.pairs.Pair.{Pair};
@@ -41,10 +41,10 @@ ghost use Rattle.activity.specs.declared.packets.Packet.{Packet};
 ghost use Rattle.slots.specs.declared.hashers.Hashers.{Hashers};
 ghost use Rattle.bindings.specs.Lives.{idle_keys_in};
 ghost use Rattle.spec_trace.specs.Past.{Idle};
-ghost use Rattle.spec_binding.specs.Ledgers.{Ledger, lone_ledger, carried_ledger, go_on_all};
+ghost use Rattle.spec_binding.specs.Ledgers.{Ledger, bare_ledger, lone_ledger, carried_ledger, go_on_all};
 ghost use Rattle.spec_binding.specs.Ledgers.{ledger_after, sought_keys};
 ghost use Rattle.spec_binding.specs.Ledgers.{release_all, restarted_ledger, rests_for, taken_ledger};
-ghost use Rattle.spec_binding.specs.Uses.{Accounts, uses_of};
+ghost use Rattle.spec_binding.specs.Uses.{Accounts, carried_notes, uses_of};
 
 /// The change of each row fits the book for which the row is decided.
 pub fn rows_fit()
@@ -229,11 +229,12 @@ pub fn not_moved()
         → serving b x ≡ Some p → serving (put_lone b) x ≡ Some p }
 {}
 
-/// A packet that is translated is an act of the machine, or none.
+/// A packet that is translated is an act of the machine, or none, whether the use counts or not.
 pub fn carry_works()
-    ensures { (now : ℕ) (b : Book) (e : Link) (n : ℕ) (h : List Record) (k : Key)
-        → Stands b e h → let w = carry_row b k in
-        Works now [] [] b e n (after b w) (answered e w.answer) n (noted_by b.id now w.what) h }
+    ensures { (now : ℕ) (b : Book) (e : Link) (n : ℕ) (h : List Record) (counts : Bool)
+        (k : Key) → Stands b e h → let w = carry_row b k in
+        Works now [] [] b e n (after b w) (answered e w.answer) n
+        (noted_with counts b.id now w.what) h }
 {}
 
 /// A greater boot of the peer that is heard is an act of the machine. `e` is the end before the datagram, `e1` the one
@@ -335,19 +336,20 @@ pub fn records_come()
         × ((letter_of d).boot ≡ e1.known) }
 {}
 
-/// A ledger that accounts for a trace (`Accounts`, the newest note first) does so after each call, with the notes of
+/// A ledger that accounts for the trace (`Accounts`, the newest note first) does so after each call, with the notes of
 /// the call put before the others. So each release comes where its pair is idle: at least 30,000 cs (UDP), 24,000 cs
-/// (TCP) or 6,000 cs (ICMP) after each use of it by the gateway in the same life. A ledger accounts for the trace at
-/// each boot of the gateway (`begun`, `founded`).
+/// (TCP) or 6,000 cs (ICMP) after each use of it that counts by the gateway in the same life. All uses count but those of
+/// loose segments and, where `inward_refresh` is false, of packets of UDP and ICMP inward. A ledger accounts for the
+/// trace at each boot of the gateway (`begun`, `founded`).
 pub fn accounts_kept()
     ensures begun { (now : ℕ) (id : GatewayId) (zero one : PortBounds) (limit : Option ℕ)
-        (alone : ℕ) (hashers : Hashers) (h : List Note) → ((p : Pair) → uses_of id h p ≡ [])
-        → Idle h → let book = empty_book id zero one limit alone in
-        Accounts now (record { book = book; lives = []; hashers = hashers }) h }
+        (alone : ℕ) (refresh : Bool) (hashers : Hashers) (h : List Note)
+        → ((p : Pair) → uses_of id h p ≡ []) → Idle h
+        → Accounts now (bare_ledger (empty_book id zero one limit alone) refresh hashers) h }
     ensures founded { (now : ℕ) (zero one : PortBounds) (limit : Option ℕ) (alone : ℕ)
-        (hashers : Hashers) (h : List Note) → ((p : Pair) → uses_of Zero h p ≡ []) → Idle h
-        → let book = founded_book zero one limit alone in
-        Accounts now (record { book = book; lives = []; hashers = hashers }) h }
+        (refresh : Bool) (hashers : Hashers) (h : List Note)
+        → ((p : Pair) → uses_of Zero h p ≡ []) → Idle h
+        → Accounts now (bare_ledger (founded_book zero one limit alone) refresh hashers) h }
     ensures later { (since now : ℕ) (l : Ledger) (h : List Note) → since ≤ now
         → Accounts since l h → Accounts now l h }
     // The notes `ns` are the other gateway's.
@@ -364,9 +366,9 @@ pub fn accounts_kept()
     ensures taken { (now : ℕ) (l : Ledger) (h : List Note) (r : Record) → IsBook l.book
         → Accounts now l h → Accounts now (taken_ledger now l r)
         (reverse (noted_by l.book.id now (taken_what l.book (rests_for now l r) r)) ++ h) }
+    // The note says whether the use counts.
     ensures carried { (l : Ledger) (h : List Note) (k : Key) (p : Packet) → Accounts p.at l h
-        → Accounts p.at (carried_ledger k p l)
-        (reverse (noted_by l.book.id p.at (carry_row l.book k).what) ++ h) }
+        → Accounts p.at (carried_ledger k p l) (reverse (carried_notes l k p) ++ h) }
     ensures restarted { (now : ℕ) (l : Ledger) (h : List Note) → IsBook l.book
         → Accounts now l h
         → Accounts now (restarted_ledger l) (reverse (restart_notes l.book now) ++ h) }

@@ -12,7 +12,7 @@ use Rattle.waiting.specs.Packets.{asks_again, with_asked}
 use Rattle.packet_rules.specs.declared.complaints.Complaint.{Complaint}
 use Rattle.packet_rules.specs.declared.readings.Asked.{Asked as Echo}
 use Rattle.packet_rules.specs.declared.reasons.Reason.{Reason}
-use Rattle.packet_rules.specs.declared.reasons.Reason.TheVariants.{ShortFrame, NotMine, BadHeader, BadLength, BadHeaderSum, Fragment, TtlOver, NotUdpTcp, BadTransport, BadArp, BadAdvert, NotUp, NoBinding, NoPort, CannotWait, BadDatagram, OldWord, HostLimit, TooLong, TooMany}
+use Rattle.packet_rules.specs.declared.reasons.Reason.TheVariants.{ShortFrame, NotMine, BadHeader, BadLength, BadHeaderSum, Fragment, TtlOver, NotUdpTcp, BadTransport, BadArp, BadAdvert, NotUp, NoBinding, NoPort, CannotWait, BadDatagram, OldWord, HostLimit, TooLong, TooMany, SourceRoute}
 use Rattle.packet_rules.specs.declared.networks.Direction.{Direction}
 use Rattle.packet_rules.specs.declared.translations.Translation.{Translation}
 use Rattle.packet_rules.specs.declared.translations.Translation.TheVariants.{Outward, Inward, Hairpin}
@@ -27,7 +27,7 @@ use Rattle.spec_step.specs.declared.plans.Plan.{Plan}
 use Rattle.spec_step.specs.declared.plans.Plan.TheVariants.{Send, Ask, AskAgain, Wait as WaitFor}
 use Rattle.spec_step.specs.declared.plans.Reply.{Reply}
 use Rattle.spec_step.specs.declared.plans.Reply.TheVariants as reply
-use Rattle.spec_step.specs.Parts.{acted, all_framed, asked_again, by_error_verdict, by_plan, by_refusal, by_reply_verdict, by_verdict, carried_all, complained, complained_to, counted, echo_taken, error_taken, flags_in, flow_taken, framed, frames_of, keeping, link_answered, neighbour_asked, refused, renewed_behind, request_by, sender_in, size_in, wanted_for}
+use Rattle.spec_step.specs.Parts.{acted, all_framed, asked_again, by_error_verdict, by_plan, by_refusal, by_reply_verdict, by_verdict, carried_all, complained, complained_to, counted, echo_taken, error_taken, flags_in, flow_taken, framed, frames_of, keeping, link_answered, neighbour_sent, refused, renewed_behind, request_by, sender_in, size_in, wanted_for}
 use Rattle.spec_step.specs.Shown.{GatewayAndOutput, Shown, scene, station_on, with_station}
 use Rattle.spec_step.specs.Verdict.{error_hop, error_plan, exit_by, hop_back, hop_by, next_back, plan_of, reply_to}
 use Rattle.spec_gateway.specs.Without.{without_pass}
@@ -43,8 +43,12 @@ if-off false x y = refl
 
 -- ---- sending
 renewed : (s : GatewayAndOutput) (exit : Side) (hop : Ip) → renewed_behind (off s) exit hop ≡ off (renewed_behind s exit hop)
-renewed s Inside hop = if-off (asks_at hop.0 s.shown.moment s.shown.inside.neighbours) (framed (scene (neighbour_asked s.shown Inside hop) s.told) Inside (request_by s.shown Inside hop)) s
-renewed s Outside hop = if-off (asks_at hop.0 s.shown.moment s.shown.outside.neighbours) (framed (scene (neighbour_asked s.shown Outside hop) s.told) Outside (request_by s.shown Outside hop)) s
+renewed s Inside hop =
+    let sent = scene (neighbour_sent s.shown Inside hop) s.told in
+    if-off (asks_at hop.0 s.shown.moment s.shown.inside.neighbours) (framed sent Inside (request_by s.shown Inside hop)) sent
+renewed s Outside hop =
+    let sent = scene (neighbour_sent s.shown Outside hop) s.told in
+    if-off (asks_at hop.0 s.shown.moment s.shown.outside.neighbours) (framed sent Outside (request_by s.shown Outside hop)) sent
 
 again : (s : GatewayAndOutput) (exit : Side) (hop : Ip) → asked_again (off s) exit hop ≡ off (asked_again s exit hop)
 again s Inside hop = if-off (asks_again s.shown.moment (wait.Hop Inside hop) s.shown.kept) (framed (scene (record s.shown { kept = with_asked s.shown.moment (wait.Hop Inside hop) s.shown.kept }) s.told) Inside (request_by s.shown Inside hop)) s
@@ -156,6 +160,7 @@ refused-same s side exit bytes BadDatagram = refl
 refused-same s side exit bytes OldWord = refl
 refused-same s side exit bytes HostLimit = refl
 refused-same s side exit bytes TooMany = refl
+refused-same s side exit bytes SourceRoute = refl
 
 -- a packet that would have left the way that it has
 refused-way : (s : GatewayAndOutput) (side : Side) (bytes : List ℕ) (flow : Flow) (reason : Reason)
@@ -186,6 +191,7 @@ by-refusal s side bytes flow OldWord = refused-way s side bytes flow OldWord
 by-refusal s side bytes flow HostLimit = refused-way s side bytes flow HostLimit
 by-refusal s side bytes flow TooLong = refused-way s side bytes flow TooLong
 by-refusal s side bytes flow TooMany = refused-way s side bytes flow TooMany
+by-refusal s side bytes flow SourceRoute = refused-way s side bytes flow SourceRoute
 
 -- ---- takings
 by-verdict : (s : GatewayAndOutput) (side : Side) (bytes : List ℕ) (flow : Flow) (r : Result Plan Reason) → by_verdict (off s) side bytes flow r ≡ off (by_verdict s side bytes flow r)

@@ -22,7 +22,7 @@ use Rattle.packet_rules.specs.declared.networks.Network.{Network}
 use Rattle.packet_rules.specs.declared.readings.Reading.{Reading}
 use Rattle.packet_rules.specs.declared.readings.Reading.TheVariants.{Arp, Advert}
 use Rattle.packet_rules.specs.declared.reasons.Reason.{Reason}
-use Rattle.packet_rules.specs.declared.reasons.Reason.TheVariants.{ShortFrame, NotMine, BadHeader, BadLength, BadHeaderSum, Fragment, TtlOver, NotUdpTcp, BadTransport, BadArp, BadAdvert, NotUp, NoBinding, NoPort, CannotWait, BadDatagram, OldWord, HostLimit, TooLong, TooMany}
+use Rattle.packet_rules.specs.declared.reasons.Reason.TheVariants.{ShortFrame, NotMine, BadHeader, BadLength, BadHeaderSum, Fragment, TtlOver, NotUdpTcp, BadTransport, BadArp, BadAdvert, NotUp, NoBinding, NoPort, CannotWait, BadDatagram, OldWord, HostLimit, TooLong, TooMany, SourceRoute}
 use Rattle.packet_rules.specs.Asked.{is_asked}
 use Rattle.packet_rules.specs.Networks.{is_virtual}
 use Rattle.packet_rules.specs.Queries.{kind_entering, kind_leaving}
@@ -56,6 +56,7 @@ other-reason OldWord other = refl
 other-reason HostLimit other = refl
 other-reason TooLong other = refl
 other-reason TooMany other = refl
+other-reason SourceRoute other = refl
 
 -- a step that refuses for no fragment
 abbrev Never : Option Reason → Type 0
@@ -142,6 +143,7 @@ part-header (Some fault.TheVariants.BadHeaderSum) r none is = absurd (cc)
 part-header (Some fault.TheVariants.Fragment) r none is = refl
 part-header (Some fault.TheVariants.NotUdpTcp) r none is = absurd (cc)
 part-header (Some fault.TheVariants.BadTransport) r none is = absurd (cc)
+part-header (Some fault.TheVariants.SourceRoute) r none is = absurd (cc)
 
 part-ipv4 : (side : Side) (network : Network) (active : Bool) (frame : Frame) → is_part (ipv4_reading side network active frame) ≡ true → ipv4_refusal frame.body ≡ Some fault.TheVariants.Fragment
 unfolding ipv4_reading header_refusal

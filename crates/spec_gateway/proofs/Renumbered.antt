@@ -61,6 +61,7 @@ module _ (mtu n : ℕ) (frame : List ℕ) (bytes : AreBytes frame) (fits : n < 6
     flags = word-fits 6 p (bytes-behind 14 frame bytes);
     source = big_from-lt 0 4 (drop 12 p) (bytes-behind 12 p (bytes-behind 14 frame bytes));
     destination = big_from-lt 0 4 (drop 16 p) (bytes-behind 16 p (bytes-behind 14 frame bytes));
+    no_source_route = right.no_source_route;
   }
 
   packet-is : q ≡ header_with (numbered_fields n p) p (options_of p) ++ payload_of p
@@ -100,6 +101,7 @@ module _ (mtu n : ℕ) (frame : List ℕ) (bytes : AreBytes frame) (fits : n < 6
       holds_header = read.right.holds_header;
       there = read.right.there;
       sum = read.right.sum;
+      no_source_route = read.right.no_source_route;
       last = ap (λ (word : ℕ). word / 8192 % 2) read.flags ∙ right.last;
       first = ap (λ (word : ℕ). word % 8192) read.flags ∙ right.first;
     };

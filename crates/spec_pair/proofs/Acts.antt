@@ -42,7 +42,7 @@ module _ (owner : Key → GatewayId) where
     | inl at ↦ let x : owns owner i q ≡ false = not-true (owns owner i q) (sym (other-owns owner i q) ∙ own) in let y : owns owner i q ≡ true = ap (owns owner i) (sym at) ∙ may.0 in absurd (both_ways (owns owner i q) x y)
     | inr ne ↦ ap closing (set_other ph k (Asked false e) q ne) ∙ was q own
   ]
-  closing_theirs i table ph (Use k e) may nothing was q own = was q own
+  closing_theirs i table ph (Use k e counts) may nothing was q own = was q own
   closing_theirs i table ph (Mark k e) may nothing was q own = elim (cases_key k q) [
     | inl at ↦ ap closing (set_same ph k (set_apart (ph k)) q at) ∙ ap closed_in (owner-apart (ph k)) ∙ mark-closed (owner_slot (ph k))
     | inr ne ↦ ap closing (set_other ph k (set_apart (ph k)) q ne) ∙ was q own

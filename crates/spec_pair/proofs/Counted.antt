@@ -55,7 +55,7 @@ module _ (r : Ranges) where
   act-counted i s (LosePorts l k ports) can h n ends = next-counted s.mine s.their_mail l k _ n (can.1 l (inl refl)) can.0.3 ends
   act-counted i s (Send first count) can h n ends = h n ends
   act-counted i s (LoneNew k e) can h n ends = h n ends
-  act-counted i s (LoneUse k e) can h n ends = h n ends
+  act-counted i s (LoneUse k e counts) can h n ends = h n ends
   act-counted i s (LoneDrop k e) can h n ends = h n ends
   act-counted i s Crash can h n ends = omega arith
   act-counted i s (Boot m) can h n ends = omega arith

@@ -506,7 +506,7 @@ module _ (owner : Key → GatewayId) where
   pub keeps : (i : GatewayId) (mine : Key → Slot) (out : List MachineRecord) (theirs : Key → Slot) (inn : List MachineRecord) (ph : Key → Phase) (d : Deed) → Talks owner i mine out theirs (taken_by d ++ inn) ph → MayDoOwned (owns owner i) i mine d → Talks owner i (table_after mine d) (out ++ pushed_by d) theirs inn (phase_after ph d)
   keeps i mine out theirs inn ph (Propose k e) t may = keeps_propose i mine out theirs inn ph k e t may
   keeps i mine out theirs inn ph (Close k e) t may = keeps_close i mine out theirs inn ph k e t may
-  keeps i mine out theirs inn ph (Use k e) t may = subst (λ (fl : List MachineRecord). Talks owner i mine fl theirs inn ph) (sym (append-nil out)) t
+  keeps i mine out theirs inn ph (Use k e counts) t may = subst (λ (fl : List MachineRecord). Talks owner i mine fl theirs inn ph) (sym (append-nil out)) t
   keeps i mine out theirs inn ph (Mark k e) t may = keeps_mark i mine out theirs inn ph k e t may
   keeps i mine out theirs inn ph (MakeAlone k e) t may = keeps_make_alone i mine out theirs inn ph k e t may
   keeps i mine out theirs inn ph (Report k e) t may = keeps_report i mine out theirs inn ph k e t may

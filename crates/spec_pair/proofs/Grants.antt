@@ -33,7 +33,7 @@ Quiet rs = ((p : ℕ) → gifts p rs ≡ 0) × (wants_in rs ≡ 0) × (grants_in
 pub pushed_quiet : (d : Deed) → Quiet (pushed_by d)
 pushed_quiet (Propose k e) = (λ p. refl, refl, refl)
 pushed_quiet (Close k e) = (λ p. refl, refl, refl)
-pushed_quiet (Use k e) = (λ p. refl, refl, refl)
+pushed_quiet (Use k e counts) = (λ p. refl, refl, refl)
 pushed_quiet (Mark k e) = (λ p. refl, refl, refl)
 pushed_quiet (MakeAlone k e) = (λ p. refl, refl, refl)
 pushed_quiet (Report k e) = (λ p. refl, refl, refl)
@@ -72,7 +72,7 @@ lost_quiet own table (Tell k e) lost = absurd lost
 pub taken_quiet : (own : Key → Bool) (i : GatewayId) (table : Key → Slot) (d : Deed) → MayDo own i table d → Quiet (taken_by d)
 taken_quiet own i table (Propose k e) may = (λ p. refl, refl, refl)
 taken_quiet own i table (Close k e) may = (λ p. refl, refl, refl)
-taken_quiet own i table (Use k e) may = (λ p. refl, refl, refl)
+taken_quiet own i table (Use k e counts) may = (λ p. refl, refl, refl)
 taken_quiet own i table (Mark k e) may = (λ p. refl, refl, refl)
 taken_quiet own i table (MakeAlone k e) may = (λ p. refl, refl, refl)
 taken_quiet own i table (Report k e) may = (λ p. refl, refl, refl)
@@ -133,7 +133,7 @@ module _ (own own2 : Key → Bool) (table : Key → Slot) (proper : (k : Key) �
   pub may_as : (i : GatewayId) (d : Deed) → MayDo own i table d → MayDoOwned own2 i table d
   may_as i (Propose k e) may = (more k may.0, may.1, may.2)
   may_as i (Close k e) may = (told_own k (Live e) may, may)
-  may_as i (Use k e) may = may
+  may_as i (Use k e counts) may = may
   may_as i (Mark k e) may = (elim may [ inl h ↦ told_own k (Pending false e) h | inr h ↦ told_own k (Closing false e) h ], may)
   may_as i (MakeAlone k e) may = (more k may.0, may.1, may.2)
   may_as i (Report k e) may = (told_own k (Alone e) may, may)
@@ -168,7 +168,7 @@ module _ (owner : Key → GatewayId) (own : Key → Bool) (i : GatewayId) (mine 
   pub stays_idle : (d : Deed) → Talks owner i mine out theirs (taken_by d ++ inn) ph → MayDo own i mine d → (q : Key) → own q ≡ false → ph q ≡ Nothing → phase_after ph d q ≡ Nothing
   stays_idle (Propose k e) t may q off none = elim (cases_key k q) [ inl e1 ↦ not_own k q e1 may.0 off | inr ne ↦ set_other ph k (Proposed false e) q ne ∙ none ]
   stays_idle (Close k e) t may q off none = elim (cases_key k q) [ inl e1 ↦ (let bad : Free ≡ Live e = sym (free_there k q e1 t none) ∙ may in absurd (cc)) | inr ne ↦ set_other ph k (Asked false e) q ne ∙ none ]
-  stays_idle (Use k e) t may q off none = none
+  stays_idle (Use k e counts) t may q off none = none
   stays_idle (Mark k e) t may q off none = elim (cases_key k q) [
     | inl e1 ↦ elim may [ inl h ↦ (let bad : Free ≡ Pending false e = sym (free_there k q e1 t none) ∙ h in absurd (cc)) | inr h ↦ (let bad : Free ≡ Closing false e = sym (free_there k q e1 t none) ∙ h in absurd (cc)) ]
     | inr ne ↦ set_other ph k (set_apart (ph k)) q ne ∙ none

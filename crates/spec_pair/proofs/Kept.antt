@@ -48,7 +48,7 @@ module _ (r : Ranges) where
   inv_act moment i s (LosePorts l n ports) v can = inv_lose_ports r moment i s l n ports v can
   inv_act moment i s (Send first count) v can = inv_send r moment i s first count v can
   inv_act moment i s (LoneNew k e) v can = inv_lone_new r moment i s k e v can
-  inv_act moment i s (LoneUse k e) v can = inv_lone_use r moment i s k e v can
+  inv_act moment i s (LoneUse k e counts) v can = inv_lone_use r moment i s k e counts v can
   inv_act moment i s (LoneDrop k e) v can = inv_lone_drop r moment i s k e v can
   inv_act moment i s Crash v can = inv_crash r moment i s v can
   inv_act moment i s (Boot n) v can = inv_boot r moment i s n v can

@@ -52,7 +52,7 @@ one-is p q h = cc
 deed-less : (d : Deed) (q : MachineRecord) → taken_by d ≡ q ∷ [] → to_do (pushed_by d) < weight q
 deed-less (Propose k e) q h = absurd (cc)
 deed-less (Close k e) q h = absurd (cc)
-deed-less (Use k e) q h = absurd (cc)
+deed-less (Use k e counts) q h = absurd (cc)
 deed-less (Mark k e) q h = absurd (cc)
 deed-less (MakeAlone k e) q h = absurd (cc)
 deed-less (Report k e) q h = absurd (cc)
@@ -104,7 +104,7 @@ module _ (r : Ranges) (i : GatewayId) (a : Box) where
   act-less WantPorts q h may = absurd (cc)
   act-less (Send first count) q h may = absurd (cc)
   act-less (LoneNew k e) q h may = absurd (cc)
-  act-less (LoneUse k e) q h may = absurd (cc)
+  act-less (LoneUse k e counts) q h may = absurd (cc)
   act-less (LoneDrop k e) q h may = absurd (cc)
   act-less Crash q h may = absurd (cc)
   act-less (Boot number) q h may = absurd (cc)

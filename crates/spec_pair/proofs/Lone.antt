@@ -4,7 +4,7 @@ use Rattle.std.proofs.lemmas.Bool.{both_ways, cases_Bool, and_from, or_left}
 use Rattle.nat_types.proofs.Offered.{pair-eq, pair-self}
 use Rattle.nat_types.specs.Same.{other, same_pair}
 use Rattle.nat_types.specs.declared.gateways.GatewayId.{GatewayId}
-use Rattle.nat_types.specs.declared.notes.NoteKind.TheVariants.{Used, Released, Retaken}
+use Rattle.nat_types.specs.declared.notes.NoteKind.TheVariants.{Released, Retaken}
 use Rattle.nat_types.specs.declared.notes.Note.{Note}
 use Rattle.nat_types.specs.declared.pairs.Endpoint.{Endpoint}
 use Rattle.nat_types.specs.declared.pairs.Key.{Key}
@@ -15,7 +15,7 @@ use Rattle.spec_pair.specs.Box.{with_table}
 use Rattle.spec_pair.proofs.Beside.{side_beside}
 use Rattle.spec_pair.proofs.Invariant.{IsLone, Awaits, Side, Inv, is_proper}
 use Rattle.spec_pair.specs.Ownership.{Ranges, keyed}
-use Rattle.spec_pair.specs.Talk.{Slot, Free, Live, held, translated, set_at, pair_of, note}
+use Rattle.spec_pair.specs.Talk.{Slot, Free, Live, held, translated, set_at, pair_of, note, use_note}
 use Rattle.spec_pair.proofs.Traced.{GoesAt, PrivateAt}
 use Rattle.spec_pair.specs.World.{Scene, Can, after_act}
 use Rattle.spec_pair.proofs.Acts.{same-not}
@@ -98,11 +98,11 @@ module _ (r : Ranges) where
       (λ g. (goes_other moment (other i) i s.theirs.table s.trace (pair_of k e) (same-not i) g).2)
       (λ g. (private_other moment (other i) i s.theirs.table s.trace (pair_of k e) (same-not i) g).1)
 
-  pub inv_lone_use : (moment : ℕ) (i : GatewayId) (s : Scene) (k : Key) (e : Endpoint) → Inv r i s → Can r i s (LoneUse k e) → Inv r i (after_act r i moment s (LoneUse k e))
-  inv_lone_use moment i s k e v can =
+  pub inv_lone_use : (moment : ℕ) (i : GatewayId) (s : Scene) (k : Key) (e : Endpoint) (counts : Bool) → Inv r i s → Can r i s (LoneUse k e counts) → Inv r i (after_act r i moment s (LoneUse k e counts))
+  inv_lone_use moment i s k e counts v can =
       let x : IsLone r i s.mine s.theirs s.trace = alone_of i s v can.0.0 can.0.1 in
       let has : held (s.mine.table k) ≡ Some e = translated_held (s.mine.table k) e can.0.2 in
-      lone_step i s s.mine.table (note i moment (Used (pair_of k e)) ∷ s.trace) v can.0.0 x (λ j. refl)
+      lone_step i s s.mine.table (use_note i moment (pair_of k e) counts ∷ s.trace) v can.0.0 x (λ j. refl)
       ((λ q o h. one_some q.endpoint e (sym (x.covers q o) ∙ ap (λ z. held (s.mine.table z)) h ∙ has)), v.one_port) (
         (λ q o same_e other_key.
             let named_q : pair_of q.key e ≡ q = ap (λ z. pair_of q.key z) (sym same_e) in

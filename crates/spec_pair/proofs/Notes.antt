@@ -111,7 +111,7 @@ module _ (owner : Key → GatewayId) (moment : ℕ) where
     covers_deed (Close k e) t w may synced agrees c l =
         covers_release owner moment (set_at ph k (Asked false e)) t i (pair_of k e)
         (covers_set owner ph t k (Asked false e) c (λ n h. now_shared (is_synced (owner k) t) (ph k) (Asked false e) e n (ap named (live_phase k e w may.0 may.1)) refl h))
-    covers_deed (Use k e) t w may synced agrees c l = covers_use owner moment ph t i (pair_of k e) c
+    covers_deed (Use k e counts) t w may synced agrees c l = covers_use owner moment ph t i (pair_of k e) c
         (translated_covered (owns owner i k) (is_synced (owner k) t) (ph k) e (λ own. ap (λ g. is_synced g t) (sym (same-eq i (owner k) own)) ∙ synced) (ap translated (sym (w.here.slots k)) ∙ may))
     covers_deed (Mark k e) t w may synced agrees c l = covers_set owner ph t k (set_apart (ph k)) c (λ n h. covered_apart (is_synced (owner k) t) (ph k) n h)
     covers_deed (MakeAlone k e) t w may synced agrees c l = covers_set owner ph t k (Apart e) c (λ n h. unnamed (is_synced (owner k) t) (ph k) n (ap named (free_phase k w may.0 may.1)) h)
@@ -157,7 +157,7 @@ module _ (owner : Key → GatewayId) (moment : ℕ) where
           (lets_go_close owner moment i ph t k e (Asked false e) (subst (λ (x : GatewayId). LetsGo owner x ph t) (sym ji) l) refl)
       | inr ne ↦ lets_go_release owner moment j (set_at ph k (Asked false e)) t i (pair_of k e) (lets_go_set owner j ph t k (Asked false e) l (λ n own h. absurd (not_both j k ne may.0 own)))
     ]
-    lets_deed j (Use k e) t w may l = lets_go_use owner moment j ph t i k e l (λ own s.
+    lets_deed j (Use k e counts) t w may l = lets_go_use owner moment j ph t i k e l (λ own s.
         let mine_own : owns owner i k ≡ true = ap (λ x. owns owner x k) (sym (same-eq j i s)) ∙ own in
         translated_open (owner_slot (ph k)) e (ap translated (sym (own_slot k inn w mine_own)) ∙ may))
     lets_deed j (Mark k e) t w may l =
@@ -229,7 +229,7 @@ module _ (owner : Key → GatewayId) (moment : ℕ) where
     pub goes_deed : (d : Deed) (t : List Note) → Talks owner i mine out theirs (taken_by d ++ inn) ph → MayDoOwned (owns owner i) i mine d → GoesAt i mine t → GoesAt i (table_after mine d) (noted_by i moment d ++ t)
     goes_deed (Propose k e) t w may g = goes_quiet i mine (set_at mine k (Pending false e)) t g (all_at translated k (Pending false e) (ap translated (sym may.1)))
     goes_deed (Close k e) t w may g = goes_out moment i mine (set_at mine k (Closing false e)) t k e g (ap translated may.1) (at_port translated k (Closing false e)) (else_at translated k (Closing false e))
-    goes_deed (Use k e) t w may g = goes_in moment i mine mine t k e g may (λ q ne. refl) (λ n h. one_some n e (sym h ∙ may))
+    goes_deed (Use k e counts) t w may g = goes_in moment i mine mine t k e g may (λ q ne. refl) (λ n h. one_some n e (sym h ∙ may))
     goes_deed (Mark k e) t w may g =
         let m : (alone_in (mark (mine k)) ≡ Some e) × (held (mine k) ≡ Some e) × (translated (mine k) ≡ None) × (alone_in (mine k) ≡ None) = marked_alone (mine k) e may.1 in
         goes_in moment i mine (set_at mine k (mark (mine k))) t k e g (at_port translated k (mark (mine k)) ∙ marked_used (mine k) e may.1) (else_at translated k (mark (mine k))) (idle k (mine k) e refl m.2)
@@ -260,7 +260,7 @@ module _ (owner : Key → GatewayId) (moment : ℕ) where
     pub private_deed : (d : Deed) (t : List Note) → Talks owner i mine out theirs (taken_by d ++ inn) ph → MayDoOwned (owns owner i) i mine d → PrivateAt i mine t → PrivateAt i (table_after mine d) (noted_by i moment d ++ t)
     private_deed (Propose k e) t w may g = private_quiet i mine (set_at mine k (Pending false e)) t g (all_at alone_in k (Pending false e) (ap alone_in (sym may.1)))
     private_deed (Close k e) t w may g = private_out moment i mine (set_at mine k (Closing false e)) t k e g (at_port alone_in k (Closing false e)) (else_at alone_in k (Closing false e)) (same_alone k (Live e) e may.1 refl)
-    private_deed (Use k e) t w may g = g
+    private_deed (Use k e counts) t w may g = g
     private_deed (Mark k e) t w may g =
         let m : (alone_in (mark (mine k)) ≡ Some e) × (held (mine k) ≡ Some e) × (translated (mine k) ≡ None) × (alone_in (mine k) ≡ None) = marked_alone (mine k) e may.1 in
         private_in moment i mine (set_at mine k (mark (mine k))) t k e g (at_port alone_in k (mark (mine k)) ∙ m.0) (else_at alone_in k (mark (mine k))) (none_alone k (mine k) e refl m.3)
@@ -292,7 +292,7 @@ module _ (owner : Key → GatewayId) (moment : ℕ) where
     pub were_deed : (d : Deed) (t : List Note) → Talks owner i mine out theirs (taken_by d ++ inn) ph → MayDoOwned (owns owner i) i mine d → WereAlone ph t → WereAlone (phase_after ph d) (noted_by i moment d ++ t)
     were_deed (Propose k e) t w may x = were_set ph t k (Proposed false e) x (λ n h. absurd (none_some None n refl h))
     were_deed (Close k e) t w may x = were_set ph t k (Asked false e) x (λ n h. absurd (none_some None n refl h))
-    were_deed (Use k e) t w may x = x
+    were_deed (Use k e counts) t w may x = x
     were_deed (Mark k e) t w may x =
         let t2 : List Note = note i moment (kinds.Alone (pair_of k e)) ∷ t in
         let m : (alone_in (mark (mine k)) ≡ Some e) × (held (mine k) ≡ Some e) × (translated (mine k) ≡ None) × (alone_in (mine k) ≡ None) = marked_alone (mine k) e may.1 in
@@ -374,7 +374,7 @@ module _ (owner : Key → GatewayId) (moment : ℕ) where
     pub two_deed : (d : Deed) (t : List Note) → Talks owner i mine out theirs (taken_by d ++ inn) ph → MayDoOwned (owns owner i) i mine d → WereAlone ph t → TwoAlone owner ph t → TwoAlone owner (phase_after ph d) (noted_by i moment d ++ t)
     two_deed (Propose k e) t w may y x = two_new k e (Proposed false e) t w may.0 may.2 refl refl x
     two_deed (Close k e) t w may y x = two_less owner ph t k (Asked false e) x (λ n h. ap named (live_phase k e w may.0 may.1) ∙ h) (λ n h. ap shared (live_phase k e w may.0 may.1) ∙ h)
-    two_deed (Use k e) t w may y x = x
+    two_deed (Use k e counts) t w may y x = x
     two_deed (Mark k e) t w may y x = two_later owner (set_at ph k (set_apart (ph k))) (note i moment (kinds.Alone (pair_of k e))) t
         (two_less owner ph t k (set_apart (ph k)) x (λ n h. sym (named-apart (ph k)) ∙ h) (λ n h. ap held (sym (other-apart (ph k))) ∙ h))
     two_deed (MakeAlone k e) t w may y x = two_later owner (set_at ph k (Apart e)) (note i moment (kinds.Alone (pair_of k e))) t (two_new k e (Apart e) t w may.0 may.2 refl refl x)
@@ -414,7 +414,7 @@ module _ (owner : Key → GatewayId) (moment : ℕ) where
     pub port_deed : (d : Deed) (t : List Note) → Talks owner i mine out theirs (taken_by d ++ inn) ph → MayDoOwned (owns owner i) i mine d → Covers owner ph t → OnePort t → OnePort (noted_by i moment d ++ t)
     port_deed (Propose k e) t w may c f = f
     port_deed (Close k e) t w may c f = (tt, f)
-    port_deed (Use k e) t w may c f =
+    port_deed (Use k e counts) t w may c f =
         let here : named (ph k) ≡ Some e = used_named k e w may in (
           (λ q o h.
               let there : named (ph q.key) ≡ Some q.endpoint = covered_named (is_synced (owner q.key) t) (ph q.key) q.endpoint (c q o) in
@@ -444,7 +444,7 @@ module _ (owner : Key → GatewayId) (moment : ℕ) where
     pub endpoint_deed : (d : Deed) (t : List Note) → Talks owner i mine out theirs (taken_by d ++ inn) ph → MayDoOwned (owns owner i) i mine d → Covers owner ph t → WereAlone ph t → TwoAlone owner ph t → OneEndpoint t → OneEndpoint (noted_by i moment d ++ t)
     endpoint_deed (Propose k e) t w may c were two f = f
     endpoint_deed (Close k e) t w may c were two f = (tt, f)
-    endpoint_deed (Use k e) t w may c were two f =
+    endpoint_deed (Use k e counts) t w may c were two f =
         let here : named (ph k) ≡ Some e = used_named k e w may in (
           (λ q o same_e other_key.
               let b : Bool = is_synced (owner q.key) t in
@@ -485,7 +485,7 @@ module _ (owner : Key → GatewayId) (moment : ℕ) where
 pub silent_deed : (moment : ℕ) (i : GatewayId) (d : Deed) (t : List Note) → IsTrue (is_synced i t) → Silent t → Silent (noted_by i moment d ++ t)
 silent_deed moment i (Propose k e) t s h = h
 silent_deed moment i (Close k e) t s h = (tt, h)
-silent_deed moment i (Use k e) t s h = (s, h)
+silent_deed moment i (Use k e counts) t s h = (s, h)
 silent_deed moment i (Mark k e) t s h = (tt, h)
 silent_deed moment i (MakeAlone k e) t s h = (tt, h)
 silent_deed moment i (Report k e) t s h = h
@@ -509,7 +509,7 @@ silent_deed moment i (Skip r) t s h = h
 pub synced_deed : (moment : ℕ) (j i : GatewayId) (d : Deed) (t : List Note) → is_synced j (noted_by i moment d ++ t) ≡ is_synced j t
 synced_deed moment j i (Propose k e) t = refl
 synced_deed moment j i (Close k e) t = refl
-synced_deed moment j i (Use k e) t = refl
+synced_deed moment j i (Use k e counts) t = refl
 synced_deed moment j i (Mark k e) t = refl
 synced_deed moment j i (MakeAlone k e) t = refl
 synced_deed moment j i (Report k e) t = refl
@@ -533,7 +533,7 @@ synced_deed moment j i (Skip r) t = refl
 pub goes_other_deed : (moment : ℕ) (j i : GatewayId) (table : Key → Slot) (d : Deed) (t : List Note) → same j i ≡ false → GoesAt j table t → GoesAt j table (noted_by i moment d ++ t)
 goes_other_deed moment j i table (Propose k e) t s g = g
 goes_other_deed moment j i table (Close k e) t s g = (goes_other moment j i table t (pair_of k e) s g).1
-goes_other_deed moment j i table (Use k e) t s g = (goes_other moment j i table t (pair_of k e) s g).0
+goes_other_deed moment j i table (Use k e counts) t s g = (goes_other moment j i table t (pair_of k e) s g).0
 goes_other_deed moment j i table (Mark k e) t s g = (goes_other moment j i table t (pair_of k e) s g).2
 goes_other_deed moment j i table (MakeAlone k e) t s g = (goes_other moment j i table t (pair_of k e) s g).2
 goes_other_deed moment j i table (Report k e) t s g = g
@@ -557,7 +557,7 @@ goes_other_deed moment j i table (Skip r) t s g = g
 pub private_other_deed : (moment : ℕ) (j i : GatewayId) (table : Key → Slot) (d : Deed) (t : List Note) → same j i ≡ false → PrivateAt j table t → PrivateAt j table (noted_by i moment d ++ t)
 private_other_deed moment j i table (Propose k e) t s g = g
 private_other_deed moment j i table (Close k e) t s g = (private_other moment j i table t (pair_of k e) s g).1
-private_other_deed moment j i table (Use k e) t s g = g
+private_other_deed moment j i table (Use k e counts) t s g = g
 private_other_deed moment j i table (Mark k e) t s g = (private_other moment j i table t (pair_of k e) s g).0
 private_other_deed moment j i table (MakeAlone k e) t s g = (private_other moment j i table t (pair_of k e) s g).0
 private_other_deed moment j i table (Report k e) t s g = g

@@ -231,7 +231,7 @@ stay p = p
 abbrev pub phase_after : (Key → Phase) → Deed → Key → Phase
 phase_after phase (Propose k e) = set_at phase k (Proposed false e)
 phase_after phase (Close k e) = set_at phase k (Asked false e)
-phase_after phase (Use k e) = phase
+phase_after phase (Use k e counts) = phase
 phase_after phase (Mark k e) = set_at phase k (set_apart (phase k))
 phase_after phase (MakeAlone k e) = set_at phase k (Apart e)
 phase_after phase (Report k e) = set_at phase k (Told e)
@@ -261,7 +261,7 @@ module _ (owned : Key → Bool) where
   abbrev pub MayDoOwned : GatewayId → (Key → Slot) → Deed → Type 0
   MayDoOwned i table (Propose k e) = IsTrue (owned k) × (table k ≡ Free) × IsUnbound table e
   MayDoOwned i table (Close k e) = IsTrue (owned k) × (table k ≡ Live e)
-  MayDoOwned i table (Use k e) = translated (table k) ≡ Some e
+  MayDoOwned i table (Use k e counts) = translated (table k) ≡ Some e
   MayDoOwned i table (Mark k e) = IsTrue (owned k) × ((table k ≡ Pending false e) ⊎ (table k ≡ Closing false e))
   MayDoOwned i table (MakeAlone k e) = IsTrue (owned k) × (table k ≡ Free) × IsUnbound table e
   MayDoOwned i table (Report k e) = IsTrue (owned k) × (table k ≡ Alone e)

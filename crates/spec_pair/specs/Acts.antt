@@ -2,14 +2,14 @@
 use Rattle.std.specs.Prelude.{Bool, IsTrue, List, Some, [], false, true, ℕ, ◌+◌, ◌<◌, ◌∷◌, ◌≡◌, ◌≤◌}
 use Rattle.nat_types.specs.Same.{other}
 use Rattle.nat_types.specs.declared.gateways.GatewayId.{GatewayId}
-use Rattle.nat_types.specs.declared.notes.NoteKind.TheVariants.{Used, Released, Retaken, Synced, Crashed, Booted}
+use Rattle.nat_types.specs.declared.notes.NoteKind.TheVariants.{Released, Retaken, Synced, Crashed, Booted}
 use Rattle.nat_types.specs.declared.notes.Note.{Note}
 use Rattle.nat_types.specs.declared.pairs.Endpoint.{Endpoint}
 use Rattle.nat_types.specs.declared.pairs.Key.{Key}
 use Rattle.nat_types.specs.declared.pairs.Pair.{Pair}
 use Rattle.spec_pair.specs.Box.{AreLoadable, grants_ports, takes, booted, revived, hands_in, AreBack, put_off, does, Box, skips, retakes, with_table, AreMirrored, takes_begin, takes_done, takes_owner, StandsNext, empty, hears, wants_ports, takes_put, Letter, takes_ports, letter, hears_anew, crashed, IsVacant, Parcel, HasRoom, record_of}
 use Rattle.spec_pair.specs.Ownership.{left_to, Ranges, keyed, Run, AreRising, IsRisingRun, has, AreDistinct, LeaveRest}
-use Rattle.spec_pair.specs.Talk.{pair_of, MachineRecord, Refuse, Owner, Grant, Yes, Install, MayDo, Want, Accept, No, set_at, Begin, Ask, Live, Deed, Done, Free, taken_by, note, IsUnbound, IsUnboundOn, noted_by, Put, Tell, translated}
+use Rattle.spec_pair.specs.Talk.{pair_of, MachineRecord, Refuse, Owner, Grant, Yes, Install, MayDo, Want, Accept, No, set_at, Begin, Ask, Live, Deed, Done, Free, taken_by, note, use_note, IsUnbound, IsUnboundOn, noted_by, Put, Tell, translated}
 
 -- an act of a gateway, with its free choices
 pub data Act : Type 0 where
@@ -43,9 +43,9 @@ pub data Act : Type 0 where
   LosePorts : (l : Letter) (offset : ℕ) (ports : List ℕ) → Act
   -- the gateway sends a letter with any part of the session's records
   Send : (first count : ℕ) → Act
-  -- lone, the gateway makes a pair, translates with one, or drops one
+  -- lone, the gateway makes a pair, translates with one (`counts` says whether the use counts), or drops one
   LoneNew : (k : Key) (e : Endpoint) → Act
-  LoneUse : (k : Key) (e : Endpoint) → Act
+  LoneUse : (k : Key) (e : Endpoint) (counts : Bool) → Act
   LoneDrop : (k : Key) (e : Endpoint) → Act
   Crash : Act
   Boot : (number : ℕ) → Act
@@ -80,7 +80,7 @@ act_notes i moment (PeerOff number back) = retakes i moment back
 act_notes i moment (LoadPut l n x) = note i moment (Retaken x.pair) ∷ []
 act_notes i moment (LoadDone l n) = note i moment Synced ∷ []
 act_notes i moment (LoneNew k e) = note i moment (Retaken (pair_of k e)) ∷ []
-act_notes i moment (LoneUse k e) = note i moment (Used (pair_of k e)) ∷ []
+act_notes i moment (LoneUse k e counts) = use_note i moment (pair_of k e) counts ∷ []
 act_notes i moment (LoneDrop k e) = note i moment (Released (pair_of k e)) ∷ []
 act_notes i moment Crash = note i moment Crashed ∷ []
 act_notes i moment (Boot n) = note i moment (Booted n) ∷ []
@@ -159,7 +159,8 @@ module _ (r : Ranges) where
   MayAct i a (LoneNew k e) =
       (a.synced ≡ true) × (a.lone ≡ true) × IsTrue (keyed a.owned k) × (a.table k ≡ Free)
       × IsUnbound a.table e
-  MayAct i a (LoneUse k e) = (a.synced ≡ true) × (a.lone ≡ true) × (translated (a.table k) ≡ Some e)
+  MayAct i a (LoneUse k e counts) =
+      (a.synced ≡ true) × (a.lone ≡ true) × (translated (a.table k) ≡ Some e)
   MayAct i a (LoneDrop k e) =
       (a.synced ≡ true) × (a.lone ≡ true) × (translated (a.table k) ≡ Some e)
   MayAct i a Crash = a.up ≡ true
@@ -185,7 +186,7 @@ module _ (r : Ranges) where
   box_after i a (Ignore l n q) = skips a
   box_after i a (Send first count) = a
   box_after i a (LoneNew k e) = with_table a (set_at a.table k (Live e))
-  box_after i a (LoneUse k e) = a
+  box_after i a (LoneUse k e counts) = a
   box_after i a (LoneDrop k e) = with_table a (set_at a.table k Free)
   box_after i a Crash = crashed a
   box_after i a (Boot n) = booted n

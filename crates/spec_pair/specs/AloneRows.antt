@@ -23,7 +23,7 @@ pair_b = pair_of k1 (host 6000)
 abbrev pub made_alone : List MachineEvent
 made_alone =
     zero_at 470 (Do (MakeAlone pair_p.key pair_p.endpoint))
-    ∷ zero_at 470 (Do (Use pair_p.key pair_p.endpoint))
+    ∷ zero_at 470 (Do (Use pair_p.key pair_p.endpoint true))
     ∷ []
 
 -- the notes of `made_alone`
@@ -46,7 +46,7 @@ accept_of q = letter_of 1 1 3 (Accept q.key ∷ [])
 abbrev pub meeting : Pair → List MachineEvent
 meeting q =
     one_at 464 (Do (MakeAlone q.key q.endpoint))
-    ∷ one_at 464 (Do (Use q.key q.endpoint))
+    ∷ one_at 464 (Do (Use q.key q.endpoint true))
     ∷ zero_at 480 (Do (Report pair_p.key pair_p.endpoint))
     ∷ zero_at 480 (Send 2 1)
     ∷ one_at 470
@@ -130,7 +130,7 @@ tell_crosses =
     ∷ zero_at 481 (Take install_c 1 (Accept pair_p.key) (Agreed pair_p.key pair_p.endpoint))
     ∷ zero_at 481 (Send 3 1)
     ∷ one_at 472 (Take refuse_c 0 (Refuse pair_c.key) (Rejected pair_c.key))
-    ∷ one_at 472 (Do (Use pair_p.key pair_p.endpoint))
+    ∷ one_at 472 (Do (Use pair_p.key pair_p.endpoint true))
     ∷ []
 
 -- the notes of `tell_crosses`
@@ -157,9 +157,9 @@ going_on =
     ∷ zero_at 400 (Send 2 1)
     ∷ one_at 400 (Do (Propose pair_c.key pair_c.endpoint))
     ∷ zero_at 470 (Do (Mark pair_p.key pair_p.endpoint))
-    ∷ zero_at 470 (Do (Use pair_p.key pair_p.endpoint))
+    ∷ zero_at 470 (Do (Use pair_p.key pair_p.endpoint true))
     ∷ one_at 464 (Do (Mark pair_c.key pair_c.endpoint))
-    ∷ one_at 464 (Do (Use pair_c.key pair_c.endpoint))
+    ∷ one_at 464 (Do (Use pair_c.key pair_c.endpoint true))
     ∷ one_at 470
     (Take install_0 0 (Install pair_p.key pair_p.endpoint) (Reject pair_p.key pair_p.endpoint))
     ∷ one_at 470 (Send 0 2)
@@ -205,7 +205,7 @@ taking_back =
     ∷ one_at 30361 (Take ask_p 0 (Ask pair_p.key) (Leave pair_p.key pair_p.endpoint))
     ∷ one_at 30361 (Send 1 1)
     ∷ zero_at 30470 (Do (Mark pair_p.key pair_p.endpoint))
-    ∷ zero_at 30470 (Do (Use pair_p.key pair_p.endpoint))
+    ∷ zero_at 30470 (Do (Use pair_p.key pair_p.endpoint true))
     ∷ zero_at 30472 (Take yes_p 0 (Yes pair_p.key) (Parted pair_p.key pair_p.endpoint))
     ∷ zero_at 30480 (Do (Report pair_p.key pair_p.endpoint))
     ∷ zero_at 30480 (Send 4 1)
@@ -256,7 +256,7 @@ dying =
     ∷ zero_at 2 (Send 0 1)
     ∷ one_at 481
     (Take install_d 0 (Install pair_d.key pair_d.endpoint) (Agree pair_d.key pair_d.endpoint))
-    ∷ one_at 481 (Do (Use pair_d.key pair_d.endpoint))
+    ∷ one_at 481 (Do (Use pair_d.key pair_d.endpoint true))
     ∷ []
 
 -- the notes of `dying`

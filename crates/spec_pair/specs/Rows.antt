@@ -127,7 +127,7 @@ using =
     (Take install 0 (Install pair_p.key pair_p.endpoint) (Agree pair_p.key pair_p.endpoint))
     ∷ one_at 11 (Send 0 1)
     ∷ zero_at 21 (Take accept 0 (Accept pair_p.key) (Agreed pair_p.key pair_p.endpoint))
-    ∷ zero_at 21 (Do (Use pair_p.key pair_p.endpoint))
+    ∷ zero_at 21 (Do (Use pair_p.key pair_p.endpoint true))
     ∷ []
 
 -- the notes of `using`
@@ -163,7 +163,7 @@ crossing =
     ∷ one_at 11 (Send 0 1)
     ∷ one_at 12
     (Take install 0 (Install pair_p.key pair_p.endpoint) (Yield pair_p.key pair_p.endpoint k1))
-    ∷ one_at 12 (Do (Use pair_p.key pair_p.endpoint))
+    ∷ one_at 12 (Do (Use pair_p.key pair_p.endpoint true))
     ∷ zero_at 22 (Take install_1 0 (Install k1 pair_p.endpoint) (Reject k1 pair_p.endpoint))
     ∷ one_at 12 (Send 0 2)
     ∷ zero_at 23 (Take accept_1 1 (Accept pair_p.key) (Agreed pair_p.key pair_p.endpoint))
@@ -208,7 +208,7 @@ no_letter = letter_of 1 1 1 (No pair_p.key ∷ [])
 -- gateway 1 used the pair in the meantime: the answer to the Ask is No, and the pair goes on
 abbrev pub asked_no : List MachineEvent
 asked_no =
-    one_at 29000 (Do (Use pair_p.key pair_p.endpoint))
+    one_at 29000 (Do (Use pair_p.key pair_p.endpoint true))
     ∷ zero_at 30021 (Do (Close pair_p.key pair_p.endpoint))
     ∷ zero_at 30021 (Send 3 1)
     ∷ one_at 30011 (Take ask_letter 0 (Ask pair_p.key) (Stay pair_p.key pair_p.endpoint))
@@ -268,7 +268,7 @@ doomed =
     ∷ one_at 11 (Do (Propose k1 pair_p.endpoint))
     ∷ one_at 12
     (Take install 0 (Install pair_p.key pair_p.endpoint) (Yield pair_p.key pair_p.endpoint k1))
-    ∷ one_at 12 (Do (Use pair_p.key pair_p.endpoint))
+    ∷ one_at 12 (Do (Use pair_p.key pair_p.endpoint true))
     ∷ zero_at 22 Crash
     ∷ zero_at 0 (Boot 2)
     ∷ zero_at 0 (Send 0 0)
@@ -306,7 +306,7 @@ peer_off =
     zero_at 30 (Do (Propose pair_q.key pair_q.endpoint))
     ∷ one_at 30 Crash
     ∷ zero_at 40 (PeerOff 1 (pair_q ∷ []))
-    ∷ zero_at 40 (LoneUse pair_q.key pair_q.endpoint)
+    ∷ zero_at 40 (LoneUse pair_q.key pair_q.endpoint true)
     ∷ []
 
 -- the notes of `peer_off`
@@ -321,9 +321,9 @@ peer_off_notes =
 abbrev pub lone : List MachineEvent
 lone =
     zero_at 10 (LoneNew pair_p.key pair_p.endpoint)
-    ∷ zero_at 10 (LoneUse pair_p.key pair_p.endpoint)
+    ∷ zero_at 10 (LoneUse pair_p.key pair_p.endpoint true)
     ∷ zero_at 20 (LoneNew pair_q.key pair_q.endpoint)
-    ∷ zero_at 20 (LoneUse pair_q.key pair_q.endpoint)
+    ∷ zero_at 20 (LoneUse pair_q.key pair_q.endpoint true)
     ∷ zero_at 30020 (LoneDrop pair_q.key pair_q.endpoint)
     ∷ []
 
@@ -446,7 +446,7 @@ whole_batch =
 abbrev pub naming : List MachineEvent
 naming =
     zero_at 10 (LoneNew pair_p.key pair_p.endpoint)
-    ∷ zero_at 10 (LoneUse pair_p.key pair_p.endpoint)
+    ∷ zero_at 10 (LoneUse pair_p.key pair_p.endpoint true)
     ∷ one_at 0 (Boot 1)
     ∷ one_at 0 (Send 0 0)
     ∷ zero_at 20 (Hear hello [] (run_of 20000 20001 ∷ []) (parcel_p ∷ []) false)

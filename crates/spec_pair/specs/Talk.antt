@@ -109,10 +109,10 @@ set_at f k v q = cond (same_key k q) v (f q)
 
 -- What a synced gateway that isn't lone does with a pair. A deed needs no reason: the machine allows any choice.
 pub data Deed : Type 0 where
-  -- the gateway proposes a pair, asks to close one, or translates with one
+  -- the gateway proposes a pair, asks to close one, or translates with one, where `counts` says whether the use counts
   Propose : (key : Key) (endpoint : Endpoint) → Deed
   Close : (key : Key) (endpoint : Endpoint) → Deed
-  Use : (key : Key) (endpoint : Endpoint) → Deed
+  Use : (key : Key) (endpoint : Endpoint) (counts : Bool) → Deed
   -- without the other's answer: the gateway marks a pair of which an answer is awaited, makes a pair alone, tells of
   -- one that is alone, or drops one
   Mark : (key : Key) (endpoint : Endpoint) → Deed
@@ -147,7 +147,7 @@ pub data Deed : Type 0 where
 abbrev pub taken_by : Deed → List MachineRecord
 taken_by (Propose k e) = []
 taken_by (Close k e) = []
-taken_by (Use k e) = []
+taken_by (Use k e counts) = []
 taken_by (Mark k e) = []
 taken_by (MakeAlone k e) = []
 taken_by (Report k e) = []
@@ -172,7 +172,7 @@ taken_by (Skip r) = r ∷ []
 abbrev pub pushed_by : Deed → List MachineRecord
 pushed_by (Propose k e) = Install k e ∷ []
 pushed_by (Close k e) = Ask k ∷ []
-pushed_by (Use k e) = []
+pushed_by (Use k e counts) = []
 pushed_by (Mark k e) = []
 pushed_by (MakeAlone k e) = []
 pushed_by (Report k e) = Tell k e ∷ []
@@ -197,7 +197,7 @@ pushed_by (Skip r) = []
 abbrev pub table_after : (Key → Slot) → Deed → Key → Slot
 table_after table (Propose k e) = set_at table k (Pending false e)
 table_after table (Close k e) = set_at table k (Closing false e)
-table_after table (Use k e) = table
+table_after table (Use k e counts) = table
 table_after table (Mark k e) = set_at table k (mark (table k))
 table_after table (MakeAlone k e) = set_at table k (Alone e)
 table_after table (Report k e) = set_at table k (Pending true e)
@@ -222,15 +222,20 @@ table_after table (Skip r) = table
 abbrev pub pair_of : Key → Endpoint → Pair
 pair_of k e = record { key = k; endpoint = e }
 
--- a note of gateway i, at this time of its clock
+-- a note of gateway i, at this time of its clock; a use that it notes counts
 abbrev pub note : GatewayId → ℕ → NoteKind → Note
-note i moment what = record { by = i; at = moment; what = what }
+note i moment what = record { by = i; at = moment; what = what; counts = true }
+
+-- gateway i's note of a use of the pair, where `counts` says whether the use counts
+abbrev pub use_note : GatewayId → ℕ → Pair → Bool → Note
+use_note i moment pair counts =
+    record { by = i; at = moment; what = Used pair; counts = counts }
 
 -- the notes that a deed of gateway i makes
 abbrev pub noted_by : GatewayId → ℕ → Deed → List Note
 noted_by i moment (Propose k e) = []
 noted_by i moment (Close k e) = note i moment (Released (pair_of k e)) ∷ []
-noted_by i moment (Use k e) = note i moment (Used (pair_of k e)) ∷ []
+noted_by i moment (Use k e counts) = use_note i moment (pair_of k e) counts ∷ []
 noted_by i moment (Mark k e) = note i moment (kinds.Alone (pair_of k e)) ∷ []
 noted_by i moment (MakeAlone k e) = note i moment (kinds.Alone (pair_of k e)) ∷ []
 noted_by i moment (Report k e) = []
@@ -286,7 +291,7 @@ module _ (owned : Key → Bool) where
   abbrev pub MayDo : GatewayId → (Key → Slot) → Deed → Type 0
   MayDo i table (Propose k e) = IsTrue (owned k) × (table k ≡ Free) × IsUnbound table e
   MayDo i table (Close k e) = table k ≡ Live e
-  MayDo i table (Use k e) = translated (table k) ≡ Some e
+  MayDo i table (Use k e counts) = translated (table k) ≡ Some e
   MayDo i table (Mark k e) = (table k ≡ Pending false e) ⊎ (table k ≡ Closing false e)
   MayDo i table (MakeAlone k e) = IsTrue (owned k) × (table k ≡ Free) × IsUnbound table e
   MayDo i table (Report k e) = table k ≡ Alone e

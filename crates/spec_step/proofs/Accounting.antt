@@ -33,7 +33,7 @@ use Rattle.packet_rules.specs.declared.readings.Reading.{Reading}
 use Rattle.packet_rules.specs.declared.readings.Reading.TheVariants.{Arp, Advert, Packet, Error, Asked}
 use Rattle.packet_rules.specs.declared.reasons.Reason.{Reason}
 use Rattle.packet_rules.specs.declared.reasons.Reason.TheVariants.{NotUp, OldWord}
-use Rattle.packet_rules.specs.Arping.{answer_to, is_learnable}
+use Rattle.packet_rules.specs.Arping.{answer_to}
 use Rattle.interfaces.specs.Stations.{Interface, after_arp, is_active, with_plug}
 use Rattle.output.specs.Output.{Output, with_datagram}
 use Rattle.vrrp_states.specs.declared.Action.{Action}
@@ -42,7 +42,7 @@ use Rattle.vrrp_states.specs.Table.{Event as RouterEvent}
 use Rattle.spec_step.specs.declared.events.Event.{Event}
 use Rattle.spec_step.specs.declared.events.Event.TheVariants.{Frame, Datagram as Comes, Tick, Stop, PeerOff, Side as SideIs}
 use Rattle.spec_step.specs.Machine.{AreBytes, HasBytes, KeepsBytes}
-use Rattle.spec_step.specs.Parts.{acted, all_framed, all_idle_done, answered_by, arp_taken, datagram_in, datagram_read, framed, frames_of, handed_in, has_synced, heard_by, heard_unless, idle_done, idle_taken, link_answered, link_ticked, old_dropped, record_done, record_shown, record_told, records_done, released, reset, started, wait_ended, with_link, word_taken, all_sought_done, alone_taken, gone_alone, peer_told, sought_done}
+use Rattle.spec_step.specs.Parts.{acted, all_framed, all_idle_done, answered_by, arp_taken, datagram_in, datagram_read, framed, frames_of, handed_in, has_synced, heard_by, heard_unless, idle_done, idle_taken, link_answered, link_ticked, old_dropped, record_done, record_shown, record_told, records_done, released, reset, started, wait_ended, with_link, word_taken, all_sought_done, alone_taken, gone_alone, peer_told, sought_done, waits_for_sender, is_taught}
 use Rattle.spec_step.specs.Rests.{AreBy, Rests}
 use Rattle.spec_step.specs.Shown.{GatewayAndOutput, Shown, id_of, is_running, scene, station_on, with_notes, with_station, is_apart}
 use Rattle.spec_step.specs.Routers.{BothAct, RouterActs}
@@ -70,11 +70,12 @@ answered-rests s side p None = resting-nothing s
 arp-rests : Reads → (s : GatewayAndOutput) (side : Side) (p : ArpPacket) → Resting s (arp_taken s side p)
 arp-rests reads s side p =
     let station = station_on s.shown side in
-    let heard = scene (with_station s.shown side (after_arp station p s.shown.moment)) s.told in
+    let waited = waits_for_sender s.shown side p in
+    let heard = scene (with_station s.shown side (after_arp station p waited s.shown.moment)) s.told in
     let told = answered_by heard side p (answer_to station.network (is_active station) p) in
     resting-then s told _
-    (resting-then s heard told (station-rests s side (after_arp station p s.shown.moment)) (answered-rests heard side p (answer_to station.network (is_active station) p)))
-    (at (is_learnable station.network p) told)
+    (resting-then s heard told (station-rests s side (after_arp station p waited s.shown.moment)) (answered-rests heard side p (answer_to station.network (is_active station) p)))
+    (at (is_taught s.shown side p) told)
   where
     at : (b : Bool) (told : GatewayAndOutput) → Resting told (let x : GatewayAndOutput = cond b (released told (One (wait.Hop side p.sender_ip))) told in x)
     at true told = released-rests reads told (One (wait.Hop side p.sender_ip))

@@ -11,8 +11,8 @@ use Rattle.nat_types.specs.declared.gateways.Side.TheVariants.{Inside, Outside}
 use Rattle.nat_types.specs.declared.notes.Note.{Note}
 use Rattle.nat_types.specs.declared.pairs.Endpoint.{Endpoint}
 use Rattle.nat_types.specs.declared.pairs.Pair.{Pair}
-use Rattle.arp.specs.Neighbours.{Neighbours, asks_at, mac_at}
-use Rattle.arp.proofs.Offered.{asked-six, forgetful-asked}
+use Rattle.arp.specs.Neighbours.{asks_at, mac_at}
+use Rattle.arp.proofs.Offered.{asks-sent}
 use Rattle.ipv4.specs.declared.flows.Flow.{Flow}
 use Rattle.ipv4.specs.declared.packets.Packet.{Packet as PacketRead}
 use Rattle.bindings.specs.declared.entries.Entry.{Entry}
@@ -50,7 +50,7 @@ use Rattle.spec_step.specs.declared.plans.Plan.{Plan}
 use Rattle.spec_step.specs.declared.plans.Plan.TheVariants.{Send, Ask, AskAgain, Wait as WaitFor}
 use Rattle.spec_step.specs.Others.{Asking, Cause, Drops, IsBack, IsDue, IsEcho, IsHost, IsNew, IsNextHop, IsUnknown, MayGoBy, Sends, Waits, all_noted, firsts, hops_of, other_frames, packets_asked, requests, targets, waiting_by, within_limit, is_other}
 use Rattle.spec_step.specs.Machine.{AreBytes}
-use Rattle.spec_step.specs.Parts.{all_taken, asked_again, by_plan, by_verdict, carried_all, flags_in, flow_taken, framed, neighbour_asked, released, renewed_behind, request_by, retaken_by, taken_again, waiting, wanted_by, wanted_for, by_error_plan, by_error_verdict, error_taken, echo_taken, keeping, size_in, refused, sender_in}
+use Rattle.spec_step.specs.Parts.{all_taken, asked_again, by_plan, by_verdict, carried_all, flags_in, flow_taken, framed, released, renewed_behind, request_by, retaken_by, taken_again, waiting, wanted_by, wanted_for, by_error_plan, by_error_verdict, error_taken, echo_taken, keeping, size_in, refused, sender_in, neighbour_sent}
 use Rattle.spec_step.specs.Shown.{GatewayAndOutput, Shown, is_up, scene, station_on}
 use Rattle.spec_step.specs.Truly.{AreItsPairs, IsSetUp, AtHand, Known, known_of, near_on, packets_of}
 use Rattle.spec_step.specs.Verdict.{exit_by, hop_by, plan_of, reading_on, target_pair, error_hop, error_plan, hop_back, next_back}
@@ -58,7 +58,6 @@ use Rattle.spec_step.proofs.Asked.{IsAsked, PlanSays, plan-says}
 use Rattle.spec_step.proofs.Freeing.{comes-off, filter-all}
 use Rattle.spec_step.proofs.FrameKinds.{error-no_other, own-no_other, sent-no_other}
 use Rattle.spec_step.proofs.Limits.{asks-left, count-left, limit-more}
-use Rattle.spec_step.proofs.Near.{asks-asked}
 use Rattle.spec_step.proofs.Own.{complaint_scene, echo-leaves, exit_in, refusal-leaves, refused-leaves, said-beside, said_scene, told-answers}
 use Rattle.spec_step.proofs.Packets.{kept-filter, kept-more}
 use Rattle.spec_step.proofs.Rooting.{has-more}
@@ -71,6 +70,7 @@ use Rattle.spec_step.proofs.Erring.{ErrorSays, IsErrorAsked, IsErrorGoing, error
 use Rattle.icmp.specs.declared.packets.ErrorFlow.{ErrorFlow}
 use Rattle.icmp.specs.declared.packets.ErrorPacket.{ErrorPacket}
 use Rattle.spec_step.proofs.Asking.{NetsStay, net-stays, NearStays, nobody, Asks, IsAsking, IsFit, Ask-on, requests-same, asking-then, asks-by, kept-here, SameStations, same-near, kept-bytes, IsQuiet, quiet-asks, nothing-quiet, nothing-asks, wanted-quiet, wanted-for-quiet, due-more}
+use Rattle.spec_step.proofs.Behind.{asked_behind, known-sent, wired-sent}
 
 -- after such a part a packet may be kept, and its next hop asked for
 keeping-asks : (s one s2 : GatewayAndOutput) (side : Side) (bytes : List ℕ) (what : WaitsFor) (frames : List Sent) (askings : List Asking) → (q : IsQuiet s one)
@@ -182,54 +182,55 @@ module _ (frames : Frames) (s two : GatewayAndOutput) (side : Side) (bytes : Lis
       near-here : (exit : Side) → asks_at hop.0 two.shown.moment (station_on two.shown exit).neighbours ≡ true → asks_at hop.0 s.shown.moment (station_on s.shown exit).neighbours ≡ true
       near-here exit t = same-near s.shown.moment s.shown two.shown stations exit hop.0 (subst (λ (n : ℕ). asks_at hop.0 n (station_on two.shown exit).neighbours ≡ true) now t)
 
-      known-asked : (exit : Side) → known_of (neighbour_asked two.shown exit hop) ≡ known_of two.shown
-      known-asked Inside = ap (λ (n : Neighbours). let k : Known = record (known_of two.shown) { near_inside = n } in k) (forgetful-asked hop.0 two.shown.moment two.shown.inside.neighbours)
-      known-asked Outside = ap (λ (n : Neighbours). let k : Known = record (known_of two.shown) { near_outside = n } in k) (forgetful-asked hop.0 two.shown.moment two.shown.outside.neighbours)
+      last : Shown
+      last = neighbour_sent two.shown exit hop
 
-      near-asked : (exit : Side) → NearStays s.shown.moment two.shown (neighbour_asked two.shown exit hop)
-      near-asked exit = subst (λ (n : ℕ). NearStays n two.shown (neighbour_asked two.shown exit hop)) now (by_sides exit)
-        where
-          by_sides : (exit : Side) → NearStays two.shown.moment two.shown (neighbour_asked two.shown exit hop)
-          by_sides Inside Inside host t = asks-asked host hop.0 two.shown.moment two.shown.inside.neighbours t
-          by_sides Inside Outside host t = t
-          by_sides Outside Inside host t = t
-          by_sides Outside Outside host t = asks-asked host hop.0 two.shown.moment two.shown.outside.neighbours t
+      near-sent : (exit : Side) → NearStays two.shown.moment two.shown (neighbour_sent two.shown exit hop)
+      near-sent Inside Inside host t = asks-sent host hop.0 two.shown.moment two.shown.inside.neighbours t
+      near-sent Inside Outside host t = t
+      near-sent Outside Inside host t = t
+      near-sent Outside Outside host t = asks-sent host hop.0 two.shown.moment two.shown.outside.neighbours t
 
-      nets-asked : (exit : Side) → NetsStay two.shown (neighbour_asked two.shown exit hop)
-      nets-asked Inside = (refl, refl)
-      nets-asked Outside = (refl, refl)
+      near-last : NearStays s.shown.moment s.shown last
+      near-last side host t = same-near s.shown.moment s.shown two.shown stations side host (subst (λ (n : ℕ). NearStays n two.shown last) now (near-sent exit) side host t)
 
-      wired-asked : (exit : Side) → IsSetUp two.shown → IsSetUp (neighbour_asked two.shown exit hop)
-      wired-asked Inside v = (v.0, (record { own = v.1.0.own; known = asked-six hop.0 two.shown.moment two.shown.inside.neighbours v.1.0.known }, v.1.1))
-      wired-asked Outside v = (v.0, (v.1.0, record { own = v.1.1.own; known = asked-six hop.0 two.shown.moment two.shown.outside.neighbours v.1.1.known }))
+      nets-sent : (exit : Side) → NetsStay two.shown (neighbour_sent two.shown exit hop)
+      nets-sent Inside = (refl, refl)
+      nets-sent Outside = (refl, refl)
 
-      kept-asked : (exit : Side) → (neighbour_asked two.shown exit hop).kept ≡ two.shown.kept
-      kept-asked Inside = refl
-      kept-asked Outside = refl
+      nets-last : NetsStay s.shown last
+      nets-last = let n = nets-sent exit in (n.0 ∙ stations.0.0, n.1 ∙ stations.0.1)
 
-      entries-asked : (exit : Side) → (neighbour_asked two.shown exit hop).ledger.book.entries ≡ two.shown.ledger.book.entries
-      entries-asked Inside = refl
-      entries-asked Outside = refl
+      kept-sent : (exit : Side) → (neighbour_sent two.shown exit hop).kept ≡ two.shown.kept
+      kept-sent Inside = refl
+      kept-sent Outside = refl
 
-      at : IsFit s.shown → (b : Bool) → asks_at hop.0 two.shown.moment (station_on two.shown exit).neighbours ≡ b
-          → IsAsking hand nobody s (let y : GatewayAndOutput = cond b (framed (scene (neighbour_asked two.shown exit hop) two.told) exit (request_by two.shown exit hop)) two in y)
+      kept-last : last.kept ≡ s.shown.kept
+      kept-last = kept-sent exit ∙ kept
+
+      entries-sent : (exit : Side) → (neighbour_sent two.shown exit hop).ledger.book.entries ≡ two.shown.ledger.book.entries
+      entries-sent Inside = refl
+      entries-sent Outside = refl
+
+      roots-last : (p : Pair) → IsTranslated last.ledger.book.entries p → MayGoBy s.shown notes p
+      roots-last p t = roots p (subst (λ (es : List Entry). IsTranslated es p) (entries-sent exit) t)
+
+      known-last : known_of last ≡ known_of s.shown
+      known-last = known-sent two.shown exit hop ∙ known
+
+      at : IsFit s.shown → (b : Bool) → asks_at hop.0 two.shown.moment (station_on two.shown exit).neighbours ≡ b → IsAsking hand nobody s (asked_behind two exit hop b)
       at w true asks =
-          let e = exit in
-          let y : Sent = record { side = e; bytes = request_by two.shown e hop } in
-          let other = request-other frames s.shown.networks e (station_on two.shown e).network hop (own-six two.shown (wired w.0) e) in
-          let g2 = neighbour_asked two.shown e hop in
-          let net = net-stays s.shown two.shown stations.0 e in
-          asks-by hand s (framed (scene g2 two.told) e (request_by two.shown e hop)) (x ∷ y ∷ []) notes (ask ∷ []) [] []
-          (ap (λ (fs : List Sent). fs ++ y ∷ []) frames_are ∙ append_assoc s.told.frames (x ∷ []) (y ∷ [])) notes_are
-          (λ p t. roots p (subst (λ (es : List Entry). IsTranslated es p) (entries-asked e) t))
-          (record { hop = next; cause = near-here e asks }, tt)
-          (behind-other s.shown.networks x y is other ∙ ap (λ (n : Network). let z : Sent = record { side = e; bytes = request_frame n hop } in z ∷ []) net)
-          tt refl (kept-asked e ∙ kept ∙ kept-here s.shown.kept w.1.0) (IsPermutation-refl hand) (known-asked e ∙ known)
-          (λ t host a. same-near s.shown.moment s.shown two.shown stations t host (near-asked e t host a))
-          (let n = nets-asked e in (n.0 ∙ stations.0.0, n.1 ∙ stations.0.1)) (wired-asked e (wired w.0)) (kept-bytes s.shown g2 (kept-asked e ∙ kept) w.1.1)
+          let y : Sent = record { side = exit; bytes = request_by two.shown exit hop } in
+          let other = request-other frames s.shown.networks exit (station_on two.shown exit).network hop (own-six two.shown (wired w.0) exit) in
+          let net = net-stays s.shown two.shown stations.0 exit in
+          asks-by hand s (asked_behind two exit hop true) (x ∷ y ∷ []) notes (ask ∷ []) [] []
+          (ap (λ (fs : List Sent). fs ++ y ∷ []) frames_are ∙ append_assoc s.told.frames (x ∷ []) (y ∷ [])) notes_are roots-last
+          (record { hop = next; cause = near-here exit asks }, tt)
+          (behind-other s.shown.networks x y is other ∙ ap (λ (n : Network). let z : Sent = record { side = exit; bytes = request_frame n hop } in z ∷ []) net)
+          tt refl (kept-last ∙ kept-here s.shown.kept w.1.0) (IsPermutation-refl hand) known-last near-last nets-last (wired-sent two.shown exit hop (wired w.0)) (kept-bytes s.shown last kept-last w.1.1)
       at w false asks =
-          asks-by hand s two (x ∷ []) notes [] [] hand frames_are notes_are roots tt (rw is refl) tt refl (kept ∙ kept-here s.shown.kept w.1.0) (IsPermutation-refl hand) known
-          (same-near s.shown.moment s.shown two.shown stations) stations.0 (wired w.0) (kept-bytes s.shown two.shown kept w.1.1)
+          asks-by hand s (asked_behind two exit hop false) (x ∷ []) notes [] [] hand frames_are notes_are roots-last tt (rw is refl)
+          tt refl (kept-last ∙ kept-here s.shown.kept w.1.0) (IsPermutation-refl hand) known-last near-last nets-last (wired-sent two.shown exit hop (wired w.0)) (kept-bytes s.shown last kept-last w.1.1)
 
 -- a packet is dropped, and its next hop may be asked for again
 again-asks : Frames → (s : GatewayAndOutput) (side : Side) (bytes : List ℕ) (exit : Side) (hop : Ip)
@@ -281,7 +282,8 @@ plan-asks frames s side bytes flow (Send by next) read plan says = λ w.
     let two = sent_scene s bytes flow by next in
     let x : Sent = record { side = exit_by by; bytes = frame } in
     let c = carried-leaves mid flow (flags_in bytes) by in
-    let notes = q.notes ++ all_notes mid.shown by in
+    let carried = all_notes mid.shown c.first c.second by in
+    let notes = q.notes ++ carried in
     let planned = plan-sends s.shown side flow (size_in bytes) by next plan in
     let way = subst (λ (f : Flow). direction_of s.shown.networks side f.protocol f.source.0 f.destination.0 ≡ Ok (way_of by)) read.flow_is planned.way in
     let six = next-six s.shown flow by next w.0 planned.next_is in
@@ -292,9 +294,9 @@ plan-asks frames s side bytes flow (Send by next) read plan says = λ w.
       (
         is,
         (
-          c.notes ∙ ap (λ (ns : List Note). ns ++ all_notes mid.shown by) q.notes_are ∙ append_assoc s.told.notes q.notes (all_notes mid.shown by),
+          c.notes ∙ ap (λ (ns : List Note). ns ++ carried) q.notes_are ∙ append_assoc s.told.notes q.notes carried,
           (
-            λ p t. has-more s.shown q.notes (all_notes mid.shown by) p (q.roots p (subst (λ (b : Book). IsTranslated b.entries p) c.book t)),
+            λ p t. has-more s.shown q.notes carried p (q.roots p (subst (λ (b : Book). IsTranslated b.entries p) c.book t)),
             (
               c.kept ∙ q.kept,
               (

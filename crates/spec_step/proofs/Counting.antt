@@ -34,7 +34,7 @@ use Rattle.spec_binding.specs.declared.changes.Transition.{Transition}
 use Rattle.spec_binding.specs.Books.{Book, is_lone, is_synced}
 use Rattle.spec_binding.specs.Ledgers.{Ledger, lone_ledger, may_ask, restarted_ledger, rests_for, taken_ledger, sought_keys}
 use Rattle.spec_binding.specs.Resets.{back_in, restart_link, restart_notes, retaken}
-use Rattle.spec_binding.specs.Rows.{answered, carry_row, idle_row, is_full, noted_by, taken_answer, taken_ended, taken_what, wish_of, alone_row}
+use Rattle.spec_binding.specs.Rows.{answered, carry_row, idle_row, is_full, noted_by, taken_answer, taken_ended, taken_what, wish_of, alone_row, noted_with}
 use Rattle.waiting.specs.declared.waits.Ended.{Ended}
 use Rattle.waiting.specs.declared.waits.Ended.TheVariants.{AllPairs, One}
 use Rattle.waiting.specs.declared.waits.WaitsFor.{WaitsFor}
@@ -48,7 +48,7 @@ use Rattle.packet_rules.specs.declared.readings.Reading.TheVariants.{Arp, Advert
 use Rattle.packet_rules.specs.declared.reasons.Reason.{Reason}
 use Rattle.packet_rules.specs.declared.translations.Translation.{Translation}
 use Rattle.packet_rules.specs.declared.translations.Translation.TheVariants.{Outward, Inward, Hairpin}
-use Rattle.packet_rules.specs.Arping.{answer_to, is_learnable}
+use Rattle.packet_rules.specs.Arping.{answer_to}
 use Rattle.packet_rules.specs.Flows.{source_of}
 use Rattle.packet_rules.specs.Frames.{sent_frame}
 use Rattle.packet_rules.specs.Errors.{passed_frame}
@@ -61,7 +61,7 @@ use Rattle.spec_step.specs.declared.events.Event.TheVariants.{Frame, Datagram as
 use Rattle.spec_step.specs.declared.plans.Plan.{Plan}
 use Rattle.spec_step.specs.declared.plans.Plan.TheVariants.{Send, Ask, AskAgain, Wait as WaitFor}
 use Rattle.spec_step.specs.Machine.{AreBytes, HasBytes}
-use Rattle.spec_step.specs.Parts.{all_framed, all_idle_done, all_taken, answered_by, arp_taken, asked_again, by_plan, by_row, by_verdict, carried_all, carried_by, datagram_in, datagram_read, flags_in, flow_taken, framed, frames_of, handed_in, has_synced, heard_by, heard_unless, idle_done, idle_taken, keeping, link_answered, link_ticked, neighbour_asked, old_dropped, record_done, record_shown, record_told, records_done, released, renewed_behind, request_by, reset, retaken_by, started, taken_again, wait_ended, waiting, wanted_by, wanted_for, with_link, word_taken, by_error_plan, by_error_verdict, error_taken, echo_taken, size_in, refused, all_sought_done, alone_taken, gone_alone, peer_told, sought_done}
+use Rattle.spec_step.specs.Parts.{all_framed, all_idle_done, all_taken, answered_by, arp_taken, asked_again, by_plan, by_row, by_verdict, carried_all, carried_by, datagram_in, datagram_read, flags_in, flow_taken, framed, frames_of, handed_in, has_synced, heard_by, heard_unless, idle_done, idle_taken, keeping, link_answered, link_ticked, old_dropped, record_done, record_shown, record_told, records_done, released, renewed_behind, request_by, reset, retaken_by, started, taken_again, wait_ended, waiting, wanted_by, wanted_for, with_link, word_taken, by_error_plan, by_error_verdict, error_taken, echo_taken, size_in, refused, all_sought_done, alone_taken, gone_alone, peer_told, sought_done, waits_for_sender, is_taught}
 use Rattle.spec_step.specs.Rests.{most_notes}
 use Rattle.spec_step.specs.Shown.{GatewayAndOutput, Shown, id_of, is_apart, is_running, scene, station_on, with_notes, with_station}
 use Rattle.spec_step.specs.Routers.{BothAct, RouterActs}
@@ -72,6 +72,8 @@ use Rattle.spec_step.proofs.Turning.{back_as, turn-by}
 use Rattle.spec_step.proofs.WhileApart.{few-sought, idle-apart, idle-taken-few, tell-silent}
 use Rattle.spec_step.proofs.Own.{Said, echo-by, refusal-by, refused-by, said_scene}
 use Rattle.icmp.specs.declared.packets.ErrorFlow.{ErrorFlow}
+use Rattle.spec_step.proofs.Behind.{asked_behind}
+use Rattle.spec_binding.specs.Uses.{carried_notes, use_counts}
 
 -- from one scene to another at most `n` notes are added, and at most `k` packets more are kept
 record Adds (n k : ℕ) (s s2 : GatewayAndOutput) : Type 0 where
@@ -103,6 +105,10 @@ noted-one : (id : GatewayId) (now : ℕ) (o : Option NoteKind) → length (noted
 noted-one id now None = omega arith
 noted-one id now (Some what) = omega arith
 
+one-with : (counts : Bool) (id : GatewayId) (now : ℕ) (o : Option NoteKind) → length (noted_with counts id now o) ≤ 1
+one-with counts id now None = omega arith
+one-with counts id now (Some what) = omega arith
+
 -- ---- one packet
 
 row-adds : (s : GatewayAndOutput) (row : Transition) → Adds 1 0 s (by_row s row)
@@ -113,8 +119,8 @@ wanted-adds s e = row-adds s (wish_of s.shown.ledger.book (is_apart s.shown) (is
 
 carried-adds : (s : GatewayAndOutput) (k : Key) (p : Carried) → Adds 1 0 s (carried_by s k p)
 carried-adds s k p =
-    let what = (carry_row s.shown.ledger.book k).what in
-    adds-noted 1 s (carried_by s k p) (noted_by (id_of s.shown) s.shown.moment what) (noted-one (id_of s.shown) s.shown.moment what) refl refl
+    let l = s.shown.ledger in
+    adds-noted 1 s (carried_by s k p) (carried_notes l k p) (one-with (use_counts l k p) l.book.id p.at (carry_row l.book k).what) refl refl
 
 carried-all-adds : (s : GatewayAndOutput) (flow : Flow) (flags : TcpFlags) (by : Translation) → Adds 2 0 s (carried_all s flow flags by)
 carried-all-adds s flow flags (Outward p) = adds-fewer 1 0 2 0 s _ (omega arith) (omega arith) (carried-adds s p.key _)
@@ -153,10 +159,11 @@ keeping-adds s side bytes w =
 renewed-adds : (s : GatewayAndOutput) (exit : Side) (hop : Ip) → Adds 0 0 s (renewed_behind s exit hop)
 renewed-adds s exit hop = at exit (asks_at hop.0 s.shown.moment (station_on s.shown exit).neighbours)
   where
-    at : (side : Side) (b : Bool) → Adds 0 0 s (let x : GatewayAndOutput = cond b (framed (scene (neighbour_asked s.shown side hop) s.told) side (request_by s.shown side hop)) s in x)
+    at : (side : Side) (b : Bool) → Adds 0 0 s (asked_behind s side hop b)
     at Inside true = adds-none s _ refl refl
     at Outside true = adds-none s _ refl refl
-    at side false = adds-none s s refl refl
+    at Inside false = adds-none s _ refl refl
+    at Outside false = adds-none s _ refl refl
 
 again-adds : (s : GatewayAndOutput) (exit : Side) (hop : Ip) → Adds 0 0 s (asked_again s exit hop)
 again-adds s exit hop = at (asks_again s.shown.moment (wait.Hop exit hop) s.shown.kept)
@@ -303,11 +310,12 @@ answered-adds s side p None = adds-none s s refl refl
 arp-within : (c : ℕ) (s : GatewayAndOutput) (side : Side) (p : ArpPacket) → Within c (3 * c) s (arp_taken s side p)
 arp-within c s side p =
     let station = station_on s.shown side in
-    let heard = scene (with_station s.shown side (after_arp station p s.shown.moment)) s.told in
+    let waited = waits_for_sender s.shown side p in
+    let heard = scene (with_station s.shown side (after_arp station p waited s.shown.moment)) s.told in
     let told = answered_by heard side p (answer_to station.network (is_active station) p) in
     within-after c (3 * c) s told (arp_taken s side p)
-    (adds-then 0 0 0 0 s heard told (station-adds s side (after_arp station p s.shown.moment)) (answered-adds heard side p (answer_to station.network (is_active station) p)))
-    (at (is_learnable station.network p) told)
+    (adds-then 0 0 0 0 s heard told (station-adds s side (after_arp station p waited s.shown.moment)) (answered-adds heard side p (answer_to station.network (is_active station) p)))
+    (at (is_taught s.shown side p) told)
   where
     at : (b : Bool) (told : GatewayAndOutput) → Within c (3 * c) told (let x : GatewayAndOutput = cond b (released told (One (wait.Hop side p.sender_ip))) told in x)
     at true told = released-within c told (One (wait.Hop side p.sender_ip))
@@ -422,7 +430,7 @@ few-retaken id now es = omega (
 )
   where
     retaken_note : Pair → Note
-    retaken_note p = record { by = id; at = now; what = Retaken p }
+    retaken_note p = record { by = id; at = now; what = Retaken p; counts = true }
 
 few-restart : (b : Book) (now : ℕ) → length (restart_notes b now) ≤ length b.entries
 few-restart b now = at (is_synced b.stage)

@@ -10,7 +10,7 @@ use Rattle.settings.specs.declared.whole.Settings.{Settings}
 use Rattle.link.specs.Link.{is_due_on_tick, sent_on_answer, sent_on_tick, wanted, with_fed}
 use Rattle.packet_rules.specs.declared.readings.Reading.{Reading}
 use Rattle.packet_rules.specs.declared.reasons.Reason.{Reason}
-use Rattle.packet_rules.specs.declared.reasons.Reason.TheVariants.{Fragment}
+use Rattle.packet_rules.specs.declared.reasons.Reason.TheVariants.{Fragment, SourceRoute}
 use Rattle.output.specs.Output.{Output, with_datagram}
 use Rattle.spec_binding.specs.Books.{IsBook}
 use Rattle.spec_step.specs.declared.events.Event.{Event}
@@ -54,6 +54,11 @@ ends-alone s due fed = ap (λ (g : Shown). answer_sent g s.told) (handed-same s.
 
 pub fragment-drops : (s : GatewayAndOutput) (side : Side) (bytes : Bor (List ℕ)) (s2 : GatewayAndOutput) → reading_on s.shown side bytes.now ≡ Err Fragment → s.shown.link.due ≡ false → wanted s.shown.link ≡ 0 → IsStepOn s (Frame side bytes) s2 → s2 ≡ s
 fragment-drops s side bytes s2 reads due fed step =
+    let same : step.done ≡ s = subst (λ (r : Result Reading Reason). FrameDoes s side bytes.now r step.done) reads step.does in
+    step.sends ∙ ap (λ (x : GatewayAndOutput). link_answered x) same ∙ ends-alone s due fed
+
+pub route-drops : (s : GatewayAndOutput) (side : Side) (bytes : Bor (List ℕ)) (s2 : GatewayAndOutput) → reading_on s.shown side bytes.now ≡ Err SourceRoute → s.shown.link.due ≡ false → wanted s.shown.link ≡ 0 → IsStepOn s (Frame side bytes) s2 → s2 ≡ s
+route-drops s side bytes s2 reads due fed step =
     let same : step.done ≡ s = subst (λ (r : Result Reading Reason). FrameDoes s side bytes.now r step.done) reads step.does in
     step.sends ∙ ap (λ (x : GatewayAndOutput). link_answered x) same ∙ ends-alone s due fed
 

@@ -241,6 +241,7 @@ is_of_choice why.OldWord = false
 is_of_choice why.HostLimit = true
 is_of_choice why.TooLong = false
 is_of_choice why.TooMany = false
+is_of_choice why.SourceRoute = false
 
 -- the result isn't refused for one of these two reasons
 abbrev IsFine : {X : Type 0} → Result X Reason → Type 0
@@ -274,6 +275,7 @@ early-is why.OldWord early = refl
 early-is why.HostLimit early = absurd (cc)
 early-is why.TooLong early = refl
 early-is why.TooMany early = refl
+early-is why.SourceRoute early = refl
 
 early-fine : {X : Type 0} (r : Result X Reason) → IsEarly r → IsFine r
 early-fine (Ok x) early = tt

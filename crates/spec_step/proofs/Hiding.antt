@@ -27,7 +27,7 @@ use Rattle.packet_rules.specs.Frames.{exit_mac, hop_of}
 use Rattle.packet_rules.specs.declared.complaints.Complaint.{Complaint}
 use Rattle.packet_rules.specs.declared.complaints.Complaint.TheVariants.{TooBig}
 use Rattle.packet_rules.specs.declared.reasons.Reason.{Reason}
-use Rattle.packet_rules.specs.declared.reasons.Reason.TheVariants.{ShortFrame, NotMine, BadHeader, BadLength, BadHeaderSum, Fragment, TtlOver, NotUdpTcp, BadTransport, BadArp, BadAdvert, NotUp, NoBinding, NoPort, CannotWait, BadDatagram, OldWord, HostLimit, TooLong, TooMany}
+use Rattle.packet_rules.specs.declared.reasons.Reason.TheVariants.{ShortFrame, NotMine, BadHeader, BadLength, BadHeaderSum, Fragment, TtlOver, NotUdpTcp, BadTransport, BadArp, BadAdvert, NotUp, NoBinding, NoPort, CannotWait, BadDatagram, OldWord, HostLimit, TooLong, TooMany, SourceRoute}
 use Rattle.packet_rules.specs.Asked.{IsAskable, is_asked}
 use Rattle.packet_rules.specs.Networks.{IsPlaced, IsWired, may_answer, mtu_of}
 use Rattle.packet_rules.specs.Own.{HidesHosts, answer_frame, complaint_about, complaint_frame, complaint_of, is_told}
@@ -238,6 +238,7 @@ about-mtu most BadDatagram packet mtu is = absurd (cc)
 about-mtu most OldWord packet mtu is = absurd (cc)
 about-mtu most HostLimit packet mtu is = absurd (cc)
 about-mtu most TooMany packet mtu is = absurd (cc)
+about-mtu most SourceRoute packet mtu is = absurd (cc)
 
 pub named-mtu : (networks : Networks) (side exit : Side) (reason : Reason) (bytes : List ℕ) (mtu : ℕ) → complaint_of networks side exit reason bytes ≡ Some (TooBig mtu) → mtu ≡ mtu_of networks exit
 unfolding complaint_of

@@ -3,8 +3,7 @@ use Rattle.std.proofs.Common.{◌≡◌, ap, ℕ, Bool, true, false, cond, List,
 use Rattle.addresses.specs.declared.internet.Ip.{Ip}
 use Rattle.nat_types.specs.declared.gateways.Side.{Side}
 use Rattle.nat_types.specs.declared.gateways.Side.TheVariants.{Inside, Outside}
-use Rattle.arp.specs.Neighbours.{Neighbours, asks_at}
-use Rattle.arp.proofs.Offered.{forgetful-asked}
+use Rattle.arp.specs.Neighbours.{asks_at}
 use Rattle.ipv4.specs.declared.flows.Flow.{Flow}
 use Rattle.icmp.specs.declared.packets.ErrorFlow.{ErrorFlow}
 use Rattle.waiting.specs.declared.waits.WaitsFor.TheVariants as wait
@@ -16,12 +15,12 @@ use Rattle.interfaces.specs.declared.tallies.Tally.{Tally}
 use Rattle.packet_rules.specs.Errors.{passed_frame}
 use Rattle.spec_step.specs.declared.plans.Plan.{Plan}
 use Rattle.spec_step.specs.declared.plans.Plan.TheVariants.{Send, Ask, AskAgain, Wait as WaitFor}
-use Rattle.spec_step.specs.Parts.{asked_again, by_error_plan, by_error_verdict, by_verdict, echo_taken, error_taken, flow_taken, framed, size_in, neighbour_asked, refused, renewed_behind, request_by}
+use Rattle.spec_step.specs.Parts.{asked_again, by_error_plan, by_error_verdict, by_verdict, echo_taken, error_taken, flow_taken, framed, size_in, refused, renewed_behind, request_by}
 use Rattle.spec_step.specs.PassedOn.{ChangesLittle, LeavesPairs}
-use Rattle.spec_step.specs.Truly.{Known, known_of}
 use Rattle.spec_step.specs.Shown.{GatewayAndOutput, scene, station_on}
 use Rattle.spec_step.specs.Verdict.{error_hop, error_plan, exit_by, plan_of}
 use Rattle.spec_step.proofs.Own.{Said, echo-by, exit_in, refused-by, said_scene}
+use Rattle.spec_step.proofs.Behind.{asked_behind, sent_to, known-sent}
 
 here : (s : GatewayAndOutput) → LeavesPairs s s
 here s = record { ledger = refl; link = refl; notes = refl; datagrams = refl }
@@ -32,10 +31,11 @@ joined a b c x y = record { ledger = y.ledger ∙ x.ledger; link = y.link ∙ x.
 renewed-leaves : (s : GatewayAndOutput) (exit : Side) (hop : Ip) → LeavesPairs s (renewed_behind s exit hop)
 renewed-leaves s exit hop = at exit (asks_at hop.0 s.shown.moment (station_on s.shown exit).neighbours)
   where
-    at : (side : Side) (b : Bool) → LeavesPairs s (let x : GatewayAndOutput = cond b (framed (scene (neighbour_asked s.shown side hop) s.told) side (request_by s.shown side hop)) s in x)
+    at : (side : Side) (b : Bool) → LeavesPairs s (asked_behind s side hop b)
     at Inside true = record { ledger = refl; link = refl; notes = refl; datagrams = refl }
     at Outside true = record { ledger = refl; link = refl; notes = refl; datagrams = refl }
-    at side false = here s
+    at Inside false = record { ledger = refl; link = refl; notes = refl; datagrams = refl }
+    at Outside false = record { ledger = refl; link = refl; notes = refl; datagrams = refl }
 
 again-leaves : (s : GatewayAndOutput) (exit : Side) (hop : Ip) → LeavesPairs s (asked_again s exit hop)
 again-leaves s exit hop = at (asks_again s.shown.moment (wait.Hop exit hop) s.shown.kept)
@@ -84,10 +84,10 @@ changed-here s = record { known = refl; stopped = refl; away = refl; ledger = re
 said-changes : (s : GatewayAndOutput) (side : Side) → Said (λ x. ChangesLittle s.shown x.shown) s side
 said-changes s side = λ frame tally hop. at side frame tally hop (asks_at hop.0 (said_scene s side frame tally).shown.moment (station_on (said_scene s side frame tally).shown side).neighbours)
   where
-    at : (side : Side) (frame : List ℕ) (tally : Tally) (hop : Ip) (b : Bool)
-        → (let two = said_scene s side frame tally in let x : GatewayAndOutput = cond b (framed (scene (neighbour_asked two.shown side hop) two.told) side (request_by two.shown side hop)) two in ChangesLittle s.shown x.shown)
-    at Inside frame tally hop true = record {
-      known = ap (λ (n : Neighbours). let k : Known = record (known_of s.shown) { near_inside = n } in k) (forgetful-asked hop.0 s.shown.moment s.shown.inside.neighbours);
+    -- a frame of the gateway's own was sent to a neighbour, and counted
+    sent : (side : Side) (frame : List ℕ) (tally : Tally) (hop : Ip) → ChangesLittle s.shown (sent_to (said_scene s side frame tally) side hop).shown
+    sent Inside frame tally hop = record {
+      known = known-sent s.shown Inside hop;
       stopped = refl;
       away = refl;
       ledger = refl;
@@ -96,8 +96,8 @@ said-changes s side = λ frame tally hop. at side frame tally hop (asks_at hop.0
       inside = refl;
       outside = refl;
     }
-    at Outside frame tally hop true = record {
-      known = ap (λ (n : Neighbours). let k : Known = record (known_of s.shown) { near_outside = n } in k) (forgetful-asked hop.0 s.shown.moment s.shown.outside.neighbours);
+    sent Outside frame tally hop = record {
+      known = known-sent s.shown Outside hop;
       stopped = refl;
       away = refl;
       ledger = refl;
@@ -106,8 +106,10 @@ said-changes s side = λ frame tally hop. at side frame tally hop (asks_at hop.0
       inside = refl;
       outside = refl;
     }
-    at Inside frame tally hop false = record { known = refl; stopped = refl; away = refl; ledger = refl; link = refl; kept = refl; inside = refl; outside = refl }
-    at Outside frame tally hop false = record { known = refl; stopped = refl; away = refl; ledger = refl; link = refl; kept = refl; inside = refl; outside = refl }
+
+    at : (side : Side) (frame : List ℕ) (tally : Tally) (hop : Ip) (b : Bool) → ChangesLittle s.shown (asked_behind (said_scene s side frame tally) side hop b).shown
+    at side frame tally hop true = sent side frame tally hop
+    at side frame tally hop false = sent side frame tally hop
 
 pub refused-changes : (s : GatewayAndOutput) (side exit : Side) (bytes : List ℕ) (reason : Reason) → ChangesLittle s.shown (refused s side exit bytes reason).shown
 refused-changes s side exit bytes reason = refused-by (λ x. ChangesLittle s.shown x.shown) s side exit bytes (changed-here s) (said-changes s side) reason

@@ -5,6 +5,8 @@ mod Asking
 mod AskingParts
 mod Before
 mod Beginning
+mod Behind
+mod Changing
 mod Counting
 mod Cutting
 mod Ending
@@ -15,6 +17,7 @@ mod FrameKinds
 mod Freeing
 mod Giving
 mod GoingOn
+mod Healing
 mod Hearing
 mod Hiding
 mod Idle
@@ -24,7 +27,6 @@ mod LettingGo
 mod Limits
 mod Lines
 mod Marked
-mod Near
 mod Nobody
 mod Others
 mod Own

@@ -13,7 +13,6 @@ use Rattle.nat_types.specs.declared.pairs.Key.{Key}
 use Rattle.nat_types.specs.declared.pairs.Pair.{Pair}
 use Rattle.nat_types.specs.declared.records.Record.{Record}
 use Rattle.arp.specs.declared.packets.ArpPacket.{ArpPacket}
-use Rattle.arp.specs.Neighbours.{asks_at}
 use Rattle.bindings.specs.declared.entries.Entry.{Entry}
 use Rattle.bindings.specs.Lives.{idle_keys_in}
 use Rattle.link.specs.declared.datagrams.Datagram.{Datagram}
@@ -35,9 +34,9 @@ use Rattle.packet_rules.specs.declared.readings.Reading.{Reading}
 use Rattle.packet_rules.specs.declared.readings.Reading.TheVariants.{Arp, Advert, Packet, Error, Asked}
 use Rattle.packet_rules.specs.declared.networks.Networks.{Networks}
 use Rattle.packet_rules.specs.declared.reasons.Reason.{Reason}
-use Rattle.packet_rules.specs.declared.reasons.Reason.TheVariants.{ShortFrame, NotMine, BadHeader, BadLength, BadHeaderSum, Fragment, TtlOver, NotUdpTcp, BadTransport, BadArp, BadAdvert, NotUp, NoBinding, NoPort, CannotWait, BadDatagram, OldWord, HostLimit, TooLong, TooMany}
-use Rattle.packet_rules.specs.Arping.{answer_frame, answer_to, is_learnable}
-use Rattle.interfaces.specs.Stations.{IsRouterStep, IsWired, Interface, after_arp, is_active, with_neighbour}
+use Rattle.packet_rules.specs.declared.reasons.Reason.TheVariants.{ShortFrame, NotMine, BadHeader, BadLength, BadHeaderSum, Fragment, TtlOver, NotUdpTcp, BadTransport, BadArp, BadAdvert, NotUp, NoBinding, NoPort, CannotWait, BadDatagram, OldWord, HostLimit, TooLong, TooMany, SourceRoute}
+use Rattle.packet_rules.specs.Arping.{answer_frame, answer_to}
+use Rattle.interfaces.specs.Stations.{IsRouterStep, IsWired, Interface, after_arp, is_active}
 use Rattle.output.specs.Output.{Sent, Output, with_datagram}
 use Rattle.vrrp_states.specs.declared.Action.{Action}
 use Rattle.vrrp_states.specs.declared.Action.TheVariants.{Nothing}
@@ -48,9 +47,9 @@ use Rattle.spec_step.specs.declared.events.Event.TheVariants.{Frame, Datagram as
 use Rattle.spec_step.specs.declared.turns.Turn.{Turn}
 use Rattle.spec_step.specs.declared.turns.Turn.TheVariants.{Leaves, Returns, Stays}
 use Rattle.spec_step.specs.GivingWay.{GivingWay, TakesTurn, left, turn_of}
-use Rattle.spec_step.specs.Others.{AreOfBoth, TurnOwes, AreOthers, Asking, FrameOwes, IsDue, IsNew, MayGoBy, Owes, all_noted, answers_by, firsts, free_by, frees_as, frees_for, frees_heard, frees_read, frees_unless, hops_of, is_freed, is_old, other_frames, packet_as, packet_in, packets_asked, requests, retaken_pairs, sent_on, waiting_by, within_limit, is_other}
+use Rattle.spec_step.specs.Others.{AreOfBoth, TurnOwes, AreOthers, Asking, FrameOwes, IsDue, IsNew, MayGoBy, Owes, all_noted, answers_by, firsts, free_by, frees_as, frees_for, frees_heard, frees_read, frees_unless, hops_of, is_freed, is_old, other_frames, packet_as, packet_in, packets_asked, requests, retaken_pairs, sent_on, waiting_by, within_limit, is_other, heard_as, heard_in}
 use Rattle.spec_step.specs.Machine.{AreBytes, HasBytes}
-use Rattle.spec_step.specs.Parts.{acted, all_framed, all_idle_done, answered_by, arp_taken, datagram_in, datagram_read, datagram_taken, flow_taken, framed, frames_of, handed_in, has_synced, heard_by, heard_unless, idle_done, idle_taken, link_answered, link_ticked, old_dropped, record_done, record_shown, record_told, records_done, released, reset, side_plugged, started, wait_ended, with_link, word_taken, error_taken, echo_taken, refused, all_sought_done, alone_taken, gone_alone, peer_told, sought_done}
+use Rattle.spec_step.specs.Parts.{acted, all_framed, all_idle_done, answered_by, arp_taken, datagram_in, datagram_read, datagram_taken, flow_taken, framed, frames_of, handed_in, has_synced, heard_by, heard_unless, idle_done, idle_taken, link_answered, link_ticked, old_dropped, record_done, record_shown, record_told, records_done, released, reset, side_plugged, started, wait_ended, with_link, word_taken, error_taken, echo_taken, refused, all_sought_done, alone_taken, gone_alone, peer_told, sought_done, waits_for_sender, is_taught, arp_heard}
 use Rattle.spec_step.specs.Shown.{GatewayAndOutput, Shown, id_of, is_running, is_up, scene, station_on, with_notes, with_station, is_apart}
 use Rattle.spec_step.specs.Routers.{BothAct, RouterActs}
 use Rattle.spec_step.specs.Settled.{AreIdle}
@@ -59,12 +58,11 @@ use Rattle.spec_step.specs.Truly.{AtHand, Known, known_of, packets_of}
 use Rattle.spec_step.specs.Verdict.{reading_on}
 use Rattle.spec_step.proofs.Before.{apart-then}
 use Rattle.spec_step.proofs.Packets.{kept-filter}
-use Rattle.spec_step.proofs.Asking.{Ask-on, Asks, IsFit, IsQuiet, NearStays, NetsStay, Waiting, asking-then, due-more, net-stays, new-more, nobody, nothing-asks, quiet-asks, quiet-by, requests-same, row-quiet}
+use Rattle.spec_step.proofs.Asking.{Ask-on, Asks, IsFit, IsQuiet, NearStays, NetsStay, Waiting, asking-then, due-more, new-more, nobody, nothing-asks, quiet-asks, quiet-by, requests-same, row-quiet, same-near}
 use Rattle.spec_step.proofs.AskingParts.{all-apart, echo-asks, error-asks, one-apart, packet-asks, pairs-ask, refused-asks, released-asks}
 use Rattle.spec_step.proofs.Freeing.{Comes-of, filter-same, filter-both}
 use Rattle.spec_step.proofs.Limits.{count-left, asks-left}
 use Rattle.spec_step.proofs.Lines.{acts-shown, both-stopped, line-quiet}
-use Rattle.spec_step.proofs.Near.{asks-learnt}
 use Rattle.spec_step.proofs.Rooting.{Rooted, lone-rooted, restart-rooted, taken-roots, alone-row-roots, idle-roots}
 use Rattle.spec_step.proofs.Sending.{Frames, own-six, answer-other}
 use Rattle.spec_step.proofs.Telling.{at_hand}
@@ -121,8 +119,8 @@ gives-one s side bytes none w = record { frames_are = refl; notes = refl; entrie
 gives-here : (s : GatewayAndOutput) → IsFit s.shown → Gives [] s s
 gives-here s w = gives-nothing s s refl refl refl refl (λ side host t. t) (refl, refl) w
 
--- what a part sends by itself, and the requests after that
-pub record Sends-others (owes : List Sent → Type 0) (hand : List AtHand) (over : HeldPacket → Bool) (s s2 : GatewayAndOutput) : Type 0 where
+-- what a part sends by itself, and the requests after that, by the neighbours of the gateway `heard`
+pub record Sends-others (owes : List Sent → Type 0) (hand : List AtHand) (over : HeldPacket → Bool) (heard : Shown) (s s2 : GatewayAndOutput) : Type 0 where
   pub frames : List Sent
   pub frames_are : s2.told.frames ≡ s.told.frames ++ frames
   pub notes : List Note
@@ -130,7 +128,7 @@ pub record Sends-others (owes : List Sent → Type 0) (hand : List AtHand) (over
   pub own : List Sent
   pub owed : owes own
   pub askings : List Asking
-  pub due : AllByRecursion (IsDue s.shown (known_of s2.shown) (MayGoBy s.shown notes)) askings
+  pub due : AllByRecursion (IsDue heard (known_of s2.shown) (MayGoBy s.shown notes)) askings
   pub others : other_frames s2.shown.networks frames ≡ own ++ requests s.shown askings
   pub came : List HeldPacket
   pub new : AllByRecursion (IsNew (known_of s2.shown) (MayGoBy s.shown notes)) came
@@ -138,7 +136,7 @@ pub record Sends-others (owes : List Sent → Type 0) (hand : List AtHand) (over
   pub gone : List AtHand
   pub of_hand : Comes-of hand (filter over s.shown.kept) came (packets_asked askings ++ gone)
 
-others-then : (owes : List Sent → Type 0) (hand : List AtHand) (over : HeldPacket → Bool) (own : List Sent) (a b c : GatewayAndOutput) → owes own → Gives own a b → Asks hand over b c → Sends-others owes hand over a c
+others-then : (owes : List Sent → Type 0) (hand : List AtHand) (over : HeldPacket → Bool) (own : List Sent) (a b c : GatewayAndOutput) → owes own → Gives own a b → Asks hand over b c → Sends-others owes hand over a.shown a c
 others-then owes hand over own a b c owed x y = record {
   frames = own ++ y.frames;
   frames_are = y.frames_are ∙ ap (λ (fs : List Sent). fs ++ y.frames) x.frames_are ∙ append_assoc a.told.frames own y.frames;
@@ -167,32 +165,54 @@ others-then owes hand over own a b c owed x y = record {
 
 -- ---- ARP
 
--- a neighbour that may be asked for by one interface could be asked for by the other
-abbrev IsNearer : ℕ → Interface → Interface → Type 0
-IsNearer now old new = (host : ℕ) → asks_at host now new.neighbours ≡ true → asks_at host now old.neighbours ≡ true
+-- an interface of the same network stands for that of a side
+station-net : (g : Shown) (side : Side) (station : Interface) → station.network ≡ (station_on g side).network → (station_on (with_station g side station) side).network ≡ (station_on g side).network
+station-net g Inside station same = same
+station-net g Outside station same = same
 
-station-gives : (s : GatewayAndOutput) (side : Side) (station : Interface) → station.network ≡ (station_on s.shown side).network → IsNearer s.shown.moment (station_on s.shown side) station → IsWired station → IsFit s.shown
-    → Gives [] s (scene (with_station s.shown side station) s.told)
-station-gives s Inside station same nearer wired w =
-    gives-nothing s (scene (with_station s.shown Inside station) s.told) refl refl refl refl (λ t host a. sides t host a) (same, refl) (set-up-inside s.shown station same w.0 wired, w.1)
-  where
-    sides : NearStays s.shown.moment s.shown (with_station s.shown Inside station)
-    sides Inside host t = nearer host t
-    sides Outside host t = t
-station-gives s Outside station same nearer wired w =
-    gives-nothing s (scene (with_station s.shown Outside station) s.told) refl refl refl refl (λ t host a. sides t host a) (refl, same) (set-up-outside s.shown station same w.0 wired, w.1)
-  where
-    sides : NearStays s.shown.moment s.shown (with_station s.shown Outside station)
-    sides Inside host t = t
-    sides Outside host t = nearer host t
+station-fit : (g : Shown) (side : Side) (station : Interface) → station.network ≡ (station_on g side).network → IsWired station → IsFit g → IsFit (with_station g side station)
+station-fit g Inside station same wired w = (set-up-inside g station same w.0 wired, w.1)
+station-fit g Outside station same wired w = (set-up-outside g station same w.0 wired, w.1)
 
-after-nearer : (station : Interface) (p : ArpPacket) (now : ℕ) → IsNearer now station (after_arp station p now)
-unfolding after_arp
-after-nearer station p now = at (is_learnable station.network p)
-  where
-    at : (b : Bool) → IsNearer now station (let x : Interface = cond b (with_neighbour station p now) station in x)
-    at true = λ host t. asks-learnt host now p.sender_ip p.sender_mac station.neighbours t
-    at false = λ host t. t
+-- what is sent from the scene on in which an interface heard an ARP packet is sent from the scene before
+heard-others : (owes : List Sent → Type 0) (hand : List AtHand) (over : HeldPacket → Bool) (s s2 : GatewayAndOutput) (side : Side) (station : Interface) → station.network ≡ (station_on s.shown side).network
+    → Sends-others owes hand over (with_station s.shown side station) (scene (with_station s.shown side station) s.told) s2 → Sends-others owes hand over (with_station s.shown side station) s s2
+heard-others owes hand over s s2 Inside station same x =
+    let g = with_station s.shown Inside station in
+    record {
+      frames = x.frames;
+      frames_are = x.frames_are;
+      notes = x.notes;
+      notes_are = x.notes_are;
+      own = x.own;
+      owed = x.owed;
+      askings = x.askings;
+      due = due-more (known_of s2.shown) (MayGoBy g x.notes) (MayGoBy s.shown x.notes) (λ p m. m) g g (λ t host a. a) (λ t host a. a) x.askings x.due;
+      others = x.others ∙ ap (λ (fs : List Sent). x.own ++ fs) (requests-same s.shown g (same, refl) x.askings);
+      came = x.came;
+      new = new-more (known_of s2.shown) (MayGoBy g x.notes) (MayGoBy s.shown x.notes) (λ p m. m) x.came x.new;
+      waiting = x.waiting;
+      gone = x.gone;
+      of_hand = x.of_hand;
+    }
+heard-others owes hand over s s2 Outside station same x =
+    let g = with_station s.shown Outside station in
+    record {
+      frames = x.frames;
+      frames_are = x.frames_are;
+      notes = x.notes;
+      notes_are = x.notes_are;
+      own = x.own;
+      owed = x.owed;
+      askings = x.askings;
+      due = due-more (known_of s2.shown) (MayGoBy g x.notes) (MayGoBy s.shown x.notes) (λ p m. m) g g (λ t host a. a) (λ t host a. a) x.askings x.due;
+      others = x.others ∙ ap (λ (fs : List Sent). x.own ++ fs) (requests-same s.shown g (refl, same) x.askings);
+      came = x.came;
+      new = new-more (known_of s2.shown) (MayGoBy g x.notes) (MayGoBy s.shown x.notes) (λ p m. m) x.came x.new;
+      waiting = x.waiting;
+      gone = x.gone;
+      of_hand = x.of_hand;
+    }
 
 answered-gives : Frames → (s : GatewayAndOutput) (station : Interface) (side : Side) (p : ArpPacket) (o : Option Mac) → length p.sender_mac.0 ≡ 6 → (station_on s.shown side).network ≡ station.network → IsFit s.shown
     → Gives (sent_on side (answers_by station p o)) s (answered_by s side p o)
@@ -202,24 +222,36 @@ answered-gives frames s station side p (Some mac) six same w =
 answered-gives frames s station side p None six same w = gives-here s w
 
 arp-others : Frames → (s : GatewayAndOutput) (side : Side) (p : ArpPacket) → length p.sender_mac.0 ≡ 6 → IsFit s.shown
-    → Sends-others (FrameOwes s.shown side (Ok (Arp p))) [] (frees_as s.shown side (Ok (Arp p))) s (arp_taken s side p)
+    → Sends-others (FrameOwes s.shown side (Ok (Arp p))) [] (frees_as s.shown side (Ok (Arp p))) (arp_heard s.shown side p) s (arp_taken s side p)
 arp-others frames s side p six w =
     let station = station_on s.shown side in
-    let after = after_arp station p s.shown.moment in
+    let waited = waits_for_sender s.shown side p in
+    let after = after_arp station p waited s.shown.moment in
     let heard = scene (with_station s.shown side after) s.told in
     let o = answer_to station.network (is_active station) p in
     let told = answered_by heard side p o in
     let own = sent_on side (answers_by station p o) in
-    let first = station-gives s side after (after-net station p s.shown.moment) (after-nearer station p s.shown.moment) (after-wired station p s.shown.moment six (wired-on s.shown w.0 side)) w in
-    let second = answered-gives frames heard station side p o six (net-stays s.shown heard.shown first.nets side) first.fit in
-    others-then (FrameOwes s.shown side (Ok (Arp p))) [] (frees_as s.shown side (Ok (Arp p))) own s told (arp_taken s side p) refl
-    (gives-then [] own s heard told first second) (at (is_learnable station.network p) told second.fit)
+    let net = after-net station p waited s.shown.moment in
+    let fit = station-fit s.shown side after net (after-wired station p waited s.shown.moment six (wired-on s.shown w.0 side)) w in
+    let gives = answered-gives frames heard station side p o six (station-net s.shown side after net) fit in
+    heard-others (FrameOwes s.shown side (Ok (Arp p))) [] (frees_as s.shown side (Ok (Arp p))) s (arp_taken s side p) side after net
+    (others-then (FrameOwes s.shown side (Ok (Arp p))) [] (frees_as s.shown side (Ok (Arp p))) own heard told (arp_taken s side p) refl gives (at (is_taught s.shown side p) told gives.fit))
   where
     at : (b : Bool) (told : GatewayAndOutput) → IsFit told.shown → Asks [] (λ w. b && ends (One (wait.Hop side p.sender_ip)) w.wait) told (let x : GatewayAndOutput = cond b (released told (One (wait.Hop side p.sender_ip))) told in x)
     at true told v = released-asks frames told (One (wait.Hop side p.sender_ip)) v
     at false told v = (nothing-asks [] told v).asks
 
 -- ---- routers
+
+-- an interface with the same network and neighbours sends nothing
+routed-gives : (s : GatewayAndOutput) (side : Side) (station : Interface) → station.network ≡ (station_on s.shown side).network → station.neighbours ≡ (station_on s.shown side).neighbours → IsWired station → IsFit s.shown
+    → Gives [] s (scene (with_station s.shown side station) s.told)
+routed-gives s Inside station same near wired w =
+    gives-nothing s (scene (with_station s.shown Inside station) s.told) refl refl refl refl (same-near s.shown.moment s.shown (with_station s.shown Inside station) ((same, refl), (near, refl))) (same, refl)
+    (station-fit s.shown Inside station same wired w)
+routed-gives s Outside station same near wired w =
+    gives-nothing s (scene (with_station s.shown Outside station) s.told) refl refl refl refl (same-near s.shown.moment s.shown (with_station s.shown Outside station) ((refl, same), (refl, near))) (refl, same)
+    (station-fit s.shown Outside station same wired w)
 
 all-framed-gives : (s : GatewayAndOutput) (side : Side) (fs : List (List ℕ)) → AllOther side fs → IsFit s.shown → Gives (sent_on side fs) s (all_framed s side fs)
 all-framed-gives s side [] all w = gives-here s w
@@ -232,8 +264,7 @@ router-gives frames s side event s2 a w =
     let mid = scene (with_station s.shown side station) s.told in
     let own = sent_on side (frames_of station a.action) in
     let wired : IsWired station = subst IsWired (sym a.step.rest) (routed-wired (station_on s.shown side) station.router (wired-on s.shown w.0 side)) in
-    let nearer : IsNearer s.shown.moment (station_on s.shown side) station = λ host t. subst (λ (x : Interface). asks_at host s.shown.moment x.neighbours ≡ true) a.step.rest t in
-    let first = station-gives s side station (ap (λ (x : Interface). x.network) a.step.rest) nearer wired w in
+    let first = routed-gives s side station (ap (λ (x : Interface). x.network) a.step.rest) (ap (λ (x : Interface). x.neighbours) a.step.rest) wired w in
     subst (λ (x : GatewayAndOutput). Gives own s x) (sym a.is)
     (gives-then [] own s mid (acted s side station a.action) first (all-framed-gives mid side (frames_of station a.action) (action-frames frames side station a.action) first.fit))
 
@@ -356,13 +387,13 @@ plugged-asks s Outside up = quiet-asks [] s (side_plugged s Outside up)
 
 -- a frame that is refused as it is read has only the other frames that it should have
 refused-others : Frames → (s : GatewayAndOutput) (side : Side) (bytes : List ℕ) (reason : Reason) → AreBytes bytes → IsFit s.shown
-    → Sends-others (FrameOwes s.shown side (Err reason)) (packet_as side bytes (Err reason)) (frees_as s.shown side (Err reason)) s (refused s side side bytes reason)
+    → Sends-others (FrameOwes s.shown side (Err reason)) (packet_as side bytes (Err reason)) (frees_as s.shown side (Err reason)) s.shown s (refused s side side bytes reason)
 refused-others frames s side bytes reason are w = at reason
   where
-    quiet : Sends-others (λ own. own ≡ []) [] nobody s s
+    quiet : Sends-others (λ own. own ≡ []) [] nobody s.shown s s
     quiet = others-then (λ own. own ≡ []) [] nobody [] s s s refl (gives-here s w) (nothing-asks [] s w).asks
 
-    at : (r : Reason) → Sends-others (FrameOwes s.shown side (Err r)) (packet_as side bytes (Err r)) (frees_as s.shown side (Err r)) s (refused s side side bytes r)
+    at : (r : Reason) → Sends-others (FrameOwes s.shown side (Err r)) (packet_as side bytes (Err r)) (frees_as s.shown side (Err r)) s.shown s (refused s side side bytes r)
     at TtlOver = others-then (λ own. own ≡ []) (at_hand side bytes ∷ []) nobody [] s s (refused s side side bytes TtlOver) refl (gives-here s w) (refused-asks frames s side side bytes TtlOver are w).asks
     at TooLong = others-then (λ own. own ≡ []) (at_hand side bytes ∷ []) nobody [] s s (refused s side side bytes TooLong) refl (gives-here s w) (refused-asks frames s side side bytes TooLong are w).asks
     at ShortFrame = quiet
@@ -383,13 +414,14 @@ refused-others frames s side bytes reason are w = at reason
     at OldWord = quiet
     at HostLimit = quiet
     at TooMany = quiet
+    at SourceRoute = quiet
 
 frame-others : Frames → (s : GatewayAndOutput) (side : Side) (bytes : List ℕ) (r : Result Reading Reason) (s2 : GatewayAndOutput) → reading_on s.shown side bytes ≡ r → AreBytes bytes → IsFit s.shown → FrameDoes s side bytes r s2
-    → Sends-others (FrameOwes s.shown side r) (packet_as side bytes r) (frees_as s.shown side r) s s2
+    → Sends-others (FrameOwes s.shown side r) (packet_as side bytes r) (frees_as s.shown side r) (heard_as s.shown side r) s s2
 frame-others frames s side bytes (Ok (Arp p)) s2 read are w does =
     let at = station_on s.shown side in
     let six = frames.reads side at.network (is_active at) _ bytes (Arp p) read in
-    subst (λ (x : GatewayAndOutput). Sends-others (FrameOwes s.shown side (Ok (Arp p))) [] (frees_as s.shown side (Ok (Arp p))) s x) (sym does)
+    subst (λ (x : GatewayAndOutput). Sends-others (FrameOwes s.shown side (Ok (Arp p))) [] (frees_as s.shown side (Ok (Arp p))) (arp_heard s.shown side p) s x) (sym does)
     (arp-others frames s side p six w)
 frame-others frames s side bytes (Ok (Advert a from)) s2 read are w does =
     let own = sent_on side (frames_of does.station does.action) in
@@ -397,19 +429,19 @@ frame-others frames s side bytes (Ok (Advert a from)) s2 read are w does =
     others-then (FrameOwes s.shown side (Ok (Advert a from))) [] (frees_as s.shown side (Ok (Advert a from))) own s s2 s2
     (record { station = does.station; action = does.action; step = does.step; are = refl }) gives (nothing-asks [] s2 gives.fit).asks
 frame-others frames s side bytes (Ok (Packet packet)) s2 read are w does =
-    subst (λ (x : GatewayAndOutput). Sends-others (FrameOwes s.shown side (Ok (Packet packet))) (at_hand side bytes ∷ []) (frees_as s.shown side (Ok (Packet packet))) s x) (sym does)
+    subst (λ (x : GatewayAndOutput). Sends-others (FrameOwes s.shown side (Ok (Packet packet))) (at_hand side bytes ∷ []) (frees_as s.shown side (Ok (Packet packet))) s.shown s x) (sym does)
     (others-then (FrameOwes s.shown side (Ok (Packet packet))) (at_hand side bytes ∷ []) (frees_as s.shown side (Ok (Packet packet))) [] s s (flow_taken s side bytes packet.flow) refl
     (gives-here s w) (packet-asks frames s side bytes packet read are w).asks)
 frame-others frames s side bytes (Ok (Error packet)) s2 read are w does =
-    subst (λ (x : GatewayAndOutput). Sends-others (FrameOwes s.shown side (Ok (Error packet))) (at_hand side bytes ∷ []) (frees_as s.shown side (Ok (Error packet))) s x) (sym does)
+    subst (λ (x : GatewayAndOutput). Sends-others (FrameOwes s.shown side (Ok (Error packet))) (at_hand side bytes ∷ []) (frees_as s.shown side (Ok (Error packet))) s.shown s x) (sym does)
     (others-then (FrameOwes s.shown side (Ok (Error packet))) (at_hand side bytes ∷ []) (frees_as s.shown side (Ok (Error packet))) [] s s (error_taken s side bytes packet.flow) refl
     (gives-here s w) (error-asks frames s side bytes packet read are w).asks)
 frame-others frames s side bytes (Ok (Asked echo)) s2 read are w does =
-    subst (λ (x : GatewayAndOutput). Sends-others (FrameOwes s.shown side (Ok (Asked echo))) (at_hand side bytes ∷ []) (frees_as s.shown side (Ok (Asked echo))) s x) (sym does)
+    subst (λ (x : GatewayAndOutput). Sends-others (FrameOwes s.shown side (Ok (Asked echo))) (at_hand side bytes ∷ []) (frees_as s.shown side (Ok (Asked echo))) s.shown s x) (sym does)
     (others-then (FrameOwes s.shown side (Ok (Asked echo))) (at_hand side bytes ∷ []) (frees_as s.shown side (Ok (Asked echo))) [] s s (echo_taken s side bytes echo) refl
     (gives-here s w) (echo-asks frames s side bytes echo read are w).asks)
 frame-others frames s side bytes (Err reason) s2 read are w does =
-    subst (λ (x : GatewayAndOutput). Sends-others (FrameOwes s.shown side (Err reason)) (packet_as side bytes (Err reason)) (frees_as s.shown side (Err reason)) s x) (sym does)
+    subst (λ (x : GatewayAndOutput). Sends-others (FrameOwes s.shown side (Err reason)) (packet_as side bytes (Err reason)) (frees_as s.shown side (Err reason)) s.shown s x) (sym does)
     (refused-others frames s side bytes reason are w)
 
 -- ---- records
@@ -623,7 +655,7 @@ tick-others frames s now turned middle takes acts w =
 -- ---- an event's own parts
 
 -- an event at which no packet is old has only the other frames that it should have
-others-at : (s : GatewayAndOutput) (event : Event) (done : GatewayAndOutput) → ((w : HeldPacket) → is_old s.shown event w ≡ false) → Sends-others (Owes s.shown event) (packet_in s.shown event) (is_freed s event) s done → AreOthers s event done
+others-at : (s : GatewayAndOutput) (event : Event) (done : GatewayAndOutput) → ((w : HeldPacket) → is_old s.shown event w ≡ false) → Sends-others (Owes s.shown event) (packet_in s.shown event) (is_freed s event) (heard_in s.shown event) s done → AreOthers s event done
 others-at s event done young x = record {
   frames = x.frames;
   frames_are = x.frames_are;
@@ -645,7 +677,7 @@ others-at s event done young x = record {
 }
 
 -- an event that has the gateway send nothing by itself has only requests for next hops
-asks-alone : (s : GatewayAndOutput) (event : Event) (done : GatewayAndOutput) → Owes s.shown event [] → IsFit s.shown → Asks (packet_in s.shown event) (is_freed s event) s done → Sends-others (Owes s.shown event) (packet_in s.shown event) (is_freed s event) s done
+asks-alone : (s : GatewayAndOutput) (event : Event) (done : GatewayAndOutput) → Owes s.shown event [] → IsFit s.shown → Asks (packet_in s.shown event) (is_freed s event) s done → Sends-others (Owes s.shown event) (packet_in s.shown event) (is_freed s event) s.shown s done
 asks-alone s event done owed w asks = others-then (Owes s.shown event) (packet_in s.shown event) (is_freed s event) [] s s done owed (gives-here s w) asks
 
 does-others : Frames → (s : GatewayAndOutput) (event : Event) (done : GatewayAndOutput) → Does s event done → HasBytes event → IsBook s.shown.ledger.book → IsFit s.shown → AreOthers s event done
@@ -686,7 +718,7 @@ others-end s event done end e x = record {
   own = x.own;
   owed = x.owed;
   askings = x.askings;
-  due = subst (λ (k : Known). AllByRecursion (IsDue s.shown k (MayGoBy s.shown x.notes)) x.askings) (sym e.known) x.due;
+  due = subst (λ (k : Known). AllByRecursion (IsDue (heard_in s.shown event) k (MayGoBy s.shown x.notes)) x.askings) (sym e.known) x.due;
   others = subst (λ (k : Known). other_frames k.networks x.frames ≡ x.own ++ requests s.shown x.askings) (sym e.known) x.others;
   came = x.came;
   new = subst (λ (k : Known). AllByRecursion (IsNew k (MayGoBy s.shown x.notes)) x.came) (sym e.known) x.new;

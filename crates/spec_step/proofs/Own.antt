@@ -13,7 +13,7 @@ use Rattle.waiting.specs.Packets.{has_place}
 use Rattle.packet_rules.specs.declared.complaints.Complaint.{Complaint}
 use Rattle.packet_rules.specs.declared.readings.Asked.{Asked as Echo}
 use Rattle.packet_rules.specs.declared.reasons.Reason.{Reason}
-use Rattle.packet_rules.specs.declared.reasons.Reason.TheVariants.{ShortFrame, NotMine, BadHeader, BadLength, BadHeaderSum, Fragment, TtlOver, NotUdpTcp, BadTransport, BadArp, BadAdvert, NotUp, NoBinding, NoPort, CannotWait, BadDatagram, OldWord, HostLimit, TooLong, TooMany}
+use Rattle.packet_rules.specs.declared.reasons.Reason.TheVariants.{ShortFrame, NotMine, BadHeader, BadLength, BadHeaderSum, Fragment, TtlOver, NotUdpTcp, BadTransport, BadArp, BadAdvert, NotUp, NoBinding, NoPort, CannotWait, BadDatagram, OldWord, HostLimit, TooLong, TooMany, SourceRoute}
 use Rattle.packet_rules.specs.Flows.{source_of}
 use Rattle.packet_rules.specs.Networks.{direction_of, may_answer, mtu_of, network_of}
 use Rattle.packet_rules.specs.declared.networks.Networks.{Networks}
@@ -126,6 +126,7 @@ module _ (P : GatewayAndOutput → Type 0) (s : GatewayAndOutput) (side exit : S
   refused-leaves OldWord = nothing
   refused-leaves HostLimit = nothing
   refused-leaves TooMany = nothing
+  refused-leaves SourceRoute = nothing
 
 -- the side at which a packet would have left
 abbrev pub exit_in : GatewayAndOutput → Side → Flow → Side
@@ -155,6 +156,7 @@ refusal-leaves P s side bytes flow same wanted says BadDatagram = same
 refusal-leaves P s side bytes flow same wanted says OldWord = same
 refusal-leaves P s side bytes flow same wanted says HostLimit = same
 refusal-leaves P s side bytes flow same wanted says TooMany = same
+refusal-leaves P s side bytes flow same wanted says SourceRoute = same
 
 -- ---- an Echo to the gateway
 

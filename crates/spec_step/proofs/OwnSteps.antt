@@ -25,7 +25,7 @@ use Rattle.waiting.specs.Packets.{ended_by, left_by}
 use Rattle.packet_rules.specs.declared.readings.Reading.{Reading}
 use Rattle.packet_rules.specs.declared.readings.Reading.TheVariants.{Arp, Advert, Packet, Error, Asked}
 use Rattle.packet_rules.specs.declared.reasons.Reason.{Reason}
-use Rattle.packet_rules.specs.Arping.{answer_frame, answer_to, is_learnable}
+use Rattle.packet_rules.specs.Arping.{answer_frame, answer_to}
 use Rattle.interfaces.specs.Stations.{Interface, after_arp, is_active}
 use Rattle.output.specs.Output.{Output, Sent, with_datagram}
 use Rattle.vrrp_states.specs.Table as table
@@ -35,7 +35,7 @@ use Rattle.spec_step.specs.declared.events.Event.TheVariants.{Frame, Datagram as
 use Rattle.spec_step.specs.GivingWay.{GivingWay, left, turn_of}
 use Rattle.spec_step.specs.Machine.{AreBytes, HasBytes}
 use Rattle.spec_step.specs.OwnAnswers.{SaysJust}
-use Rattle.spec_step.specs.Parts.{acted, all_framed, all_idle_done, answered_by, arp_taken, datagram_in, datagram_read, framed, frames_of, handed_in, has_synced, heard_by, heard_unless, idle_done, idle_taken, link_answered, link_ticked, old_dropped, record_done, records_done, released, reset, routers_started, side_plugged, wait_ended, with_link, with_routers, word_taken, all_sought_done, alone_taken, gone_alone, peer_told, sought_done}
+use Rattle.spec_step.specs.Parts.{acted, all_framed, all_idle_done, answered_by, arp_taken, datagram_in, datagram_read, framed, frames_of, handed_in, has_synced, heard_by, heard_unless, idle_done, idle_taken, link_answered, link_ticked, old_dropped, record_done, records_done, released, reset, routers_started, side_plugged, wait_ended, with_link, with_routers, word_taken, all_sought_done, alone_taken, gone_alone, peer_told, sought_done, waits_for_sender, is_taught}
 use Rattle.spec_step.specs.Routers.{BothAct, RouterActs}
 use Rattle.spec_step.specs.Sayings.{AreOwnIn, own_alone, own_arp, own_datagram, own_ended, own_framed, own_heard, own_record, own_records, own_released, own_reset, own_word}
 use Rattle.spec_step.specs.Shown.{GatewayAndOutput, Shown, is_running, scene, station_on, with_station, is_apart}
@@ -111,14 +111,15 @@ turn-just frames s s2 takes =
 arp-just : Frames → (s : GatewayAndOutput) (side : Side) (p : ArpPacket) → length p.sender_mac.0 ≡ 6 → Justly (own_arp s side p) s (arp_taken s side p)
 arp-just frames s side p six = λ is w.
     let station = station_on s.shown side in
-    let after = after_arp station p s.shown.moment in
+    let waited = waits_for_sender s.shown side p in
+    let after = after_arp station p waited s.shown.moment in
     let heard = scene (with_station s.shown side after) s.told in
     let o = answer_to station.network (is_active station) p in
     let told = answered_by heard side p o in
-    let one = station-speaks s side after (after-net station p s.shown.moment) (after-said station p s.shown.moment) (λ v. after-wired station p s.shown.moment six (wired-on s.shown v side)) is w in
+    let one = station-speaks s side after (after-net station p waited s.shown.moment) (after-said station p waited s.shown.moment) (λ v. after-wired station p waited s.shown.moment six (wired-on s.shown v side)) is w in
     let two = answered-says frames heard side p o six one.sound one.wired in
     none-just (own_arp s side p) s heard (arp_taken s side p) (station-just s side after)
-    (none-just (own_arp s side p) heard told (arp_taken s side p) (answers heard one.wired o) (at (is_learnable station.network p) told two.0.sound two.0.wired))
+    (none-just (own_arp s side p) heard told (arp_taken s side p) (answers heard one.wired o) (at (is_taught s.shown side p) told two.0.sound two.0.wired))
   where
     answers : (t : GatewayAndOutput) → IsSetUp t.shown → (o : Option Mac) → Just t (answered_by t side p o) []
     answers t v (Some mac) =

@@ -20,7 +20,7 @@ use Rattle.packet_rules.specs.declared.readings.Asked.{Asked as Echo}
 use Rattle.packet_rules.specs.declared.readings.Reading.{Reading}
 use Rattle.packet_rules.specs.declared.readings.Reading.TheVariants.{Arp, Advert, Packet, Error, Asked}
 use Rattle.packet_rules.specs.declared.reasons.Reason.{Reason}
-use Rattle.packet_rules.specs.declared.reasons.Reason.TheVariants.{ShortFrame, NotMine, BadHeader, BadLength, BadHeaderSum, Fragment, TtlOver, NotUdpTcp, BadTransport, BadArp, BadAdvert, NotUp, NoBinding, NoPort, CannotWait, BadDatagram, OldWord, HostLimit, TooLong, TooMany}
+use Rattle.packet_rules.specs.declared.reasons.Reason.TheVariants.{ShortFrame, NotMine, BadHeader, BadLength, BadHeaderSum, Fragment, TtlOver, NotUdpTcp, BadTransport, BadArp, BadAdvert, NotUp, NoBinding, NoPort, CannotWait, BadDatagram, OldWord, HostLimit, TooLong, TooMany, SourceRoute}
 use Rattle.packet_rules.specs.declared.translations.Translation.{Translation}
 use Rattle.packet_rules.specs.declared.translations.Translation.TheVariants.{Outward, Inward, Hairpin}
 use Rattle.packet_rules.specs.Errors.{error_direction, passed_frame}
@@ -38,7 +38,7 @@ use Rattle.spec_step.specs.declared.plans.Reply.{Reply}
 use Rattle.spec_step.specs.declared.plans.Reply.TheVariants as reply
 use Rattle.spec_step.specs.Machine.{AreBytes}
 use Rattle.spec_step.specs.OwnAnswers.{SaysJust, all_own_of, own_frames, own_of, own_plan, own_read, own_refused, own_reply, saying_to}
-use Rattle.spec_step.specs.Parts.{all_taken, asked_again, by_error_plan, by_error_verdict, by_plan, by_refusal, by_reply_verdict, by_verdict, carried_all, complained, complained_to, flags_in, framed, keeping, size_in, neighbour_asked, refused, renewed_behind, request_by, retaken_by, sender_in, taken_again, wanted_by, wanted_for}
+use Rattle.spec_step.specs.Parts.{all_taken, asked_again, by_error_plan, by_error_verdict, by_plan, by_refusal, by_reply_verdict, by_verdict, carried_all, complained, complained_to, flags_in, framed, keeping, size_in, refused, renewed_behind, request_by, retaken_by, sender_in, taken_again, wanted_by, wanted_for, neighbour_sent}
 use Rattle.spec_step.specs.Shown.{GatewayAndOutput, Shown, is_up, scene, station_on}
 use Rattle.spec_step.specs.Truly.{IsSetUp, Known, is_own}
 use Rattle.spec_step.specs.Verdict.{error_hop, error_plan, exit_by, fits_at, hop_back, hop_by, if_reply_fits, next_back, plan_of, reading_on, reply_to, reply_via}
@@ -49,6 +49,7 @@ use Rattle.spec_step.proofs.Passing.{IsSound}
 use Rattle.spec_step.proofs.Saying.{addressed, retaken-says}
 use Rattle.spec_step.proofs.Sending.{Frames, answer-own, carried-leaves, complaint-own, next-six, own-six}
 use Rattle.spec_step.proofs.Sends.{plan-sends}
+use Rattle.spec_step.proofs.Behind.{asked_behind, sent_to}
 
 -- the own frames from a scene to a later one are exactly these, and the networks stay the same
 pub record Just (s s2 : GatewayAndOutput) (own : List Sent) : Type 0 where
@@ -87,16 +88,16 @@ own-just s side bytes is = record { says = record { frames = record { side = sid
 renewed-just : Frames → (s : GatewayAndOutput) (exit : Side) (hop : Ip) → IsSetUp s.shown → Just s (renewed_behind s exit hop) []
 renewed-just frames s exit hop w = at exit (asks_at hop.0 s.shown.moment (station_on s.shown exit).neighbours)
   where
-    nets : (side : Side) → (neighbour_asked s.shown side hop).networks ≡ s.shown.networks
+    nets : (side : Side) → (neighbour_sent s.shown side hop).networks ≡ s.shown.networks
     nets Inside = refl
     nets Outside = refl
 
-    at : (side : Side) (b : Bool) → Just s (let x : GatewayAndOutput = cond b (framed (scene (neighbour_asked s.shown side hop) s.told) side (request_by s.shown side hop)) s in x) []
+    at : (side : Side) (b : Bool) → Just s (asked_behind s side hop b) []
     at side true =
-        let mid = scene (neighbour_asked s.shown side hop) s.told in
+        let mid = sent_to s side hop in
         just-then [] [] s mid (framed mid side (request_by s.shown side hop)) (quiet-just s mid refl (nets side))
         (other-just mid side (request_by s.shown side hop) (frames.own.request mid.shown.networks side (station_on s.shown side).network hop (own-six s.shown w side)))
-    at side false = nothing-just s
+    at side false = quiet-just s (sent_to s side hop) refl (nets side)
 
 again-just : Frames → (s : GatewayAndOutput) (exit : Side) (hop : Ip) → IsSetUp s.shown → Just s (asked_again s exit hop) []
 again-just frames s exit hop w = at (asks_again s.shown.moment (wait.Hop exit hop) s.shown.kept)
@@ -203,6 +204,7 @@ module _ (frames : Frames) (s : GatewayAndOutput) (side : Side) (bytes : List �
   refused-just exit OldWord = nothing-just s
   refused-just exit HostLimit = nothing-just s
   refused-just exit TooMany = nothing-just s
+  refused-just exit SourceRoute = nothing-just s
 
   refusal-just : (flow : Flow) (reason : Reason) → Just s (by_refusal s side bytes flow reason) (own_refused s.shown side (exit_in s side flow) bytes reason)
   refusal-just flow NoPort = quiet-just s (wanted_by s (source_of flow)) refl refl
@@ -225,6 +227,7 @@ module _ (frames : Frames) (s : GatewayAndOutput) (side : Side) (bytes : List �
   refusal-just flow HostLimit = refused-just (exit_in s side flow) HostLimit
   refusal-just flow TooLong = refused-just (exit_in s side flow) TooLong
   refusal-just flow TooMany = refused-just (exit_in s side flow) TooMany
+  refusal-just flow SourceRoute = refused-just (exit_in s side flow) SourceRoute
 
   -- ---- a packet
 

@@ -22,7 +22,6 @@ use Rattle.ipv4.specs.Flow.{protocol_of, source_place}
 use Rattle.ipv4.specs.Header.{header_of, payload_of, word_at}
 use Rattle.ipv4.specs.declared.packets.Packet.{Packet as PacketRead}
 use Rattle.ipv4.specs.declared.packets.Size.{Size}
-use Rattle.activity.specs.declared.packets.Packet.{Packet as Carried}
 use Rattle.activity.specs.declared.packets.Way.TheVariants as goes
 use Rattle.link.specs.Link.{Link}
 use Rattle.link.proofs.Offered.{IsBytes-drop, IsBytes-take}
@@ -33,7 +32,7 @@ use Rattle.spec_binding.specs.declared.changes.Want.TheVariants as want
 use Rattle.spec_binding.specs.Books.{Book, is_synced}
 use Rattle.spec_binding.specs.WellFormed.{IsWellFormedEndpoint}
 use Rattle.spec_binding.specs.Machine.{Works}
-use Rattle.spec_binding.specs.Rows.{after, answered, carry_row, is_full, noted_by, quiet, use_row, used_row, wish_of}
+use Rattle.spec_binding.specs.Rows.{after, answered, carry_row, is_full, quiet, use_row, used_row, wish_of, noted_with}
 use Rattle.spec_binding.proofs.Offered.{wish-keeps, carry-works, wish-works}
 use Rattle.waiting.specs.declared.waits.Ended.{Ended}
 use Rattle.waiting.specs.declared.waits.WaitsFor.{WaitsFor}
@@ -58,13 +57,17 @@ use Rattle.interfaces.specs.Stations.{is_active}
 use Rattle.spec_step.specs.declared.plans.Plan.{Plan}
 use Rattle.spec_step.specs.declared.plans.Plan.TheVariants.{Send, Ask, AskAgain, Wait as WaitFor}
 use Rattle.spec_step.specs.Machine.{AreBytes}
-use Rattle.spec_step.specs.Parts.{all_taken, asked_again, by_plan, by_refusal, by_verdict, carried, carried_all, carried_by, flags_in, flow_taken, framed, keeping, neighbour_asked, released, remote, renewed_behind, request_by, retaken_by, taken_again, wanted_by, wanted_for, by_error_plan, by_error_verdict, error_taken, echo_taken, size_in, refused}
+use Rattle.spec_step.specs.Parts.{all_taken, asked_again, by_plan, by_refusal, by_verdict, carried, carried_all, carried_by, flags_in, flow_taken, framed, keeping, released, remote, renewed_behind, request_by, retaken_by, taken_again, wanted_by, wanted_for, by_error_plan, by_error_verdict, error_taken, echo_taken, size_in, refused}
 use Rattle.spec_step.specs.Shown.{GatewayAndOutput, Shown, is_apart, is_up, scene, station_on}
 use Rattle.spec_step.specs.Verdict.{exit_by, hop_by, look_for, plan_by, plan_from, plan_of, plan_on, plan_to, reading_on, target_pair, error_hop, error_plan, fits_at, if_fits}
 use Rattle.spec_step.proofs.Fitting.{fitted}
 use Rattle.spec_step.proofs.Own.{Said, echo-by, refusal-by, refused-by, said_scene}
 use Rattle.spec_step.proofs.Passing.{Going, given, going-then, going-unseen, nothing, row-goes}
 use Rattle.icmp.specs.declared.packets.ErrorFlow.{ErrorFlow}
+use Rattle.spec_step.proofs.Behind.{asked_behind}
+use Rattle.spec_binding.specs.Uses.{use_counts}
+use Rattle.activity.specs.declared.packets.Way.{Way}
+use Rattle.activity.specs.declared.packets.Remote.{Remote}
 
 -- ---- the endpoint of a packet's source
 
@@ -185,14 +188,15 @@ module _ (letters : List Letter) (words : List ℕ) where
       let full = is_full s.shown.link in
       row-goes letters words s (wish_of b apart full e).row n h is (wish-keeps b apart full e is.book formed) (wish-works s.shown.moment b s.shown.link n h apart full e stands)
 
-  pub carried-goes : (s : GatewayAndOutput) (k : Key) (p : Carried) → Going letters words s (carried_by s k p)
-  carried-goes s k p = λ n h stands is.
+  carried-goes : (s : GatewayAndOutput) (k : Key) (r : Remote) (w : Way) (flags : TcpFlags) → Going letters words s (carried_by s k (carried s.shown r w flags))
+  carried-goes s k r w flags = λ n h stands is.
       let b = s.shown.ledger.book in
       let e = s.shown.link in
       let row = carry_row b k in
       let still = carry-still b k in
-      let ns = noted_by b.id s.shown.moment row.what in
-      let works = given letters words s.shown.moment b (after b row) e (answered e row.answer) n n ns h (carry-works s.shown.moment b e n h k stands) in
+      let counts = use_counts s.shown.ledger k (carried s.shown r w flags) in
+      let ns = noted_with counts b.id s.shown.moment row.what in
+      let works = given letters words s.shown.moment b (after b row) e (answered e row.answer) n n ns h (carry-works s.shown.moment b e n h counts k stands) in
       record {
         passes = record {
           notes = ns;
@@ -210,12 +214,12 @@ module _ (letters : List Letter) (words : List ℕ) where
   here s = λ n h stands is. nothing letters words s n h stands is
 
   pub carried-all-goes : (s : GatewayAndOutput) (flow : Flow) (flags : TcpFlags) (by : Translation) → Going letters words s (carried_all s flow flags by)
-  carried-all-goes s flow flags (Outward p) = carried-goes s p.key _
-  carried-all-goes s flow flags (Inward p) = carried-goes s p.key _
+  carried-all-goes s flow flags (Outward p) = carried-goes s p.key _ goes.Outward flags
+  carried-all-goes s flow flags (Inward p) = carried-goes s p.key _ goes.Inward flags
   carried-all-goes s flow flags (Hairpin own other) =
       let address = s.shown.networks.outside.interface.virtual_ip in
-      let first = carried (remote address flow.destination_port) goes.Outward flags s.shown.moment in
-      going-then letters words s (carried_by s own.key first) _ (carried-goes s own.key first) (carried-goes (carried_by s own.key first) other.key _)
+      let first = carried s.shown (remote address flow.destination_port) goes.Outward flags in
+      going-then letters words s (carried_by s own.key first) _ (carried-goes s own.key _ goes.Outward flags) (carried-goes (carried_by s own.key first) other.key (remote address own.key.port) goes.Inward flags)
 
   pub wanted-for-goes : (s : GatewayAndOutput) (flow : Flow) (by : Translation) → IsWellFormedEndpoint (source_of flow) → Going letters words s (wanted_for s flow by)
   wanted-for-goes s flow (Outward p) formed = wanted-goes s (source_of flow) formed
@@ -231,10 +235,11 @@ module _ (letters : List Letter) (words : List ℕ) where
   pub renewed-goes : (s : GatewayAndOutput) (exit : Side) (hop : Ip) → Going letters words s (renewed_behind s exit hop)
   renewed-goes s exit hop = at exit (asks_at hop.0 s.shown.moment (station_on s.shown exit).neighbours)
     where
-      at : (side : Side) (b : Bool) → Going letters words s (let x : GatewayAndOutput = cond b (framed (scene (neighbour_asked s.shown side hop) s.told) side (request_by s.shown side hop)) s in x)
+      at : (side : Side) (b : Bool) → Going letters words s (asked_behind s side hop b)
       at Inside true = going-unseen letters words s _ refl refl refl refl refl (λ k. k)
       at Outside true = going-unseen letters words s _ refl refl refl refl refl (λ k. k)
-      at side false = here s
+      at Inside false = going-unseen letters words s _ refl refl refl refl refl (λ k. k)
+      at Outside false = going-unseen letters words s _ refl refl refl refl refl (λ k. k)
 
   pub again-goes : (s : GatewayAndOutput) (exit : Side) (hop : Ip) → Going letters words s (asked_again s exit hop)
   again-goes s exit hop = at (asks_again s.shown.moment (wait.Hop exit hop) s.shown.kept)

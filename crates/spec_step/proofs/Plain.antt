@@ -27,7 +27,7 @@ use Rattle.spec_binding.specs.declared.changes.Want.TheVariants as want
 use Rattle.spec_binding.specs.Books.{Book, empty_book, is_apart as is_book_apart, is_lone, is_paired, is_promised, is_synced, load_of}
 use Rattle.spec_binding.specs.Ledgers.{Ledger, go_on_all, ledger_after, may_ask, release_all}
 use Rattle.spec_binding.specs.Resets.{back_in, begun_anew, restart_notes, restarted, retaken}
-use Rattle.spec_binding.specs.Rows.{accept_row, accepted_row, after, alone_row, answered, answering, ask_row, asked_row, carry_row, ending, gives_way, grant_row, idle_row, install_row, is_at_limit, is_full, is_takeable, known_wish, left_row, load_taken, load_what, may_want, new_pair, new_wish, no_row, none_row, noted_by, paired_wish, port_for, proposal, proposed_row, quiet, refuse_row, refused_row, release_row, released_row, row, row_of, sought_row, stayed_row, synced_row, taken_book, taken_what, taking, telling_row, told_row, unsynced_after, unsynced_what, use_row, used_row, wish as wish_with, wish_by, wish_of, yes_row}
+use Rattle.spec_binding.specs.Rows.{accept_row, accepted_row, after, alone_row, answered, answering, ask_row, asked_row, carry_row, ending, gives_way, grant_row, idle_row, install_row, is_at_limit, is_full, is_takeable, known_wish, left_row, load_taken, load_what, may_want, new_pair, new_wish, no_row, none_row, noted_by, paired_wish, port_for, proposal, proposed_row, quiet, refuse_row, refused_row, release_row, released_row, row, row_of, sought_row, stayed_row, synced_row, taken_book, taken_what, taking, telling_row, told_row, unsynced_after, unsynced_what, use_row, used_row, wish as wish_with, wish_by, wish_of, yes_row, noted_with}
 use Rattle.spec_binding.proofs.Offered.{change-leaves}
 use Rattle.spec_step.specs.Shown.{Shown, is_apart}
 
@@ -124,6 +124,11 @@ use-plain (Some x) = used-plain x.pair x.state
 
 carry-plain : (b : Book) (k : Key) → IsPlainRow (carry_row b k)
 carry-plain b k = either-row (is_synced b.stage) (use_row (slot_of b.entries k)) quiet (use-plain (slot_of b.entries k)) (λ i now. refl)
+
+-- whether a use counts changes no word
+plain-with : (counts : Bool) (i : GatewayId) (now : ℕ) (o : Option NoteKind) → all_plain (noted_with counts i now o) ≡ all_plain (noted_by i now o)
+plain-with counts i now None = refl
+plain-with counts i now (Some what) = refl
 
 -- ---- the rows of records
 
@@ -338,8 +343,11 @@ wanted-stays-plain g e =
           (are-plain (noted_by b.id g.moment (wish_of b false full e).row.what) (wish-plain b full e b.id g.moment));
     }
 
-pub carried-stays-plain : (b : Book) (k : Key) (i : GatewayId) (now : ℕ) → StaysPlain b b (noted_by i now (carry_row b k).what)
-carried-stays-plain b k i now = record { alone = refl; plain = λ never. are-plain (noted_by i now (carry_row b k).what) (carry-plain b k i now) }
+pub carried-stays-plain : (b : Book) (k : Key) (counts : Bool) (i : GatewayId) (now : ℕ) → StaysPlain b b (noted_with counts i now (carry_row b k).what)
+carried-stays-plain b k counts i now = record {
+  alone = refl;
+  plain = λ never. are-plain (noted_with counts i now (carry_row b k).what) (plain-with counts i now (carry_row b k).what ∙ carry-plain b k i now);
+}
 
 taken-alone : (b : Book) (rests : Bool) (r : Record) → (taken_book b rests r).alone ≡ b.alone
 taken-alone b rests r = at (is_synced b.stage)

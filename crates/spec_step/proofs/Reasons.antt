@@ -60,6 +60,7 @@ is_of_plan why.OldWord = false
 is_of_plan why.HostLimit = true
 is_of_plan why.TooLong = true
 is_of_plan why.TooMany = false
+is_of_plan why.SourceRoute = false
 
 -- the result isn't refused for one of these three reasons
 abbrev pub IsEarly : {X : Type 0} → Result X Reason → Type 0
@@ -91,6 +92,7 @@ ipv4-early (Some fault.TheVariants.BadHeaderSum) = refl
 ipv4-early (Some fault.TheVariants.Fragment) = refl
 ipv4-early (Some fault.TheVariants.NotUdpTcp) = refl
 ipv4-early (Some fault.TheVariants.BadTransport) = refl
+ipv4-early (Some fault.TheVariants.SourceRoute) = refl
 
 icmp-early : (o : Option IcmpFault) → IsEarlyOption (option_map reason_of_icmp o)
 icmp-early None = tt

@@ -32,7 +32,7 @@ use Rattle.spec_binding.specs.declared.changes.Transition.{Transition}
 use Rattle.spec_binding.specs.declared.changes.Want.TheVariants as want
 use Rattle.spec_binding.specs.Books.{Book, IsBook, is_lone, is_paired, is_synced}
 use Rattle.spec_binding.specs.Ledgers.{Ledger, is_reached, may_ask, sought_keys}
-use Rattle.spec_binding.specs.Rows.{after, alone_row, carry_row, idle_row, is_at_limit, is_full, known_wish, marked_row, may_want, new_pair, new_wish, none_row, noted_by, paired_wish, port_for, quiet, release_row, released_row, row, sought_row, use_row, used_row, wish, wish_by, wish_of}
+use Rattle.spec_binding.specs.Rows.{after, alone_row, carry_row, idle_row, is_at_limit, is_full, known_wish, marked_row, may_want, new_pair, new_wish, none_row, noted_by, paired_wish, port_for, quiet, release_row, released_row, row, sought_row, use_row, used_row, wish, wish_by, wish_of, noted_with}
 use Rattle.spec_binding.specs.WellFormed.{IsWellFormedEndpoint}
 use Rattle.spec_binding.proofs.Offered.{at-key}
 use Rattle.waiting.specs.declared.waits.Ended.TheVariants.{AllPairs}
@@ -51,6 +51,7 @@ use Rattle.spec_step.proofs.Idle.{sought-at-once}
 use Rattle.spec_step.proofs.Packets.{Reads}
 use Rattle.spec_step.proofs.Takes.{IsUnseen, releases}
 use Rattle.spec_step.proofs.WhileApart.{all-sought-apart, apart-paired, idle-apart, paired-is, row-apart}
+use Rattle.spec_binding.specs.Uses.{carried_notes, use_counts}
 
 -- ---- notes that release nothing
 
@@ -122,6 +123,11 @@ used-mute p (state.Closing false) = quiet-mute
 used-mute p state.Alone = λ i now. (tt, tt)
 used-mute p state.Held = λ i now. (tt, tt)
 
+-- whether a use counts releases nothing
+mute-with : (counts : Bool) (i : GatewayId) (now : ℕ) (o : Option NoteKind) → NoReleases (noted_by i now o) → NoReleases (noted_with counts i now o)
+mute-with counts i now None none = none
+mute-with counts i now (Some what) none = none
+
 carry-mute : (b : Book) (k : Key) → IsMute (carry_row b k)
 carry-mute b k = at (is_synced b.stage) (slot_of b.entries k)
   where
@@ -176,11 +182,13 @@ wanted-quiet : (s : GatewayAndOutput) (e : Endpoint) → Quiet s (wanted_by s e)
 wanted-quiet s e = row-quiet s (wish_of s.shown.ledger.book (is_apart s.shown) (is_full s.shown.link) e).row (wish-mute s.shown.ledger.book (is_apart s.shown) (is_full s.shown.link) e)
 
 carried-quiet : (s : GatewayAndOutput) (k : Key) (p : Carried) → Quiet s (carried_by s k p)
-carried-quiet s k p = record {
-  notes = noted_by (id_of s.shown) s.shown.moment (carry_row s.shown.ledger.book k).what;
-  notes_are = refl;
-  none = carry-mute s.shown.ledger.book k (id_of s.shown) s.shown.moment;
-}
+carried-quiet s k p =
+    let l = s.shown.ledger in
+    record {
+      notes = carried_notes l k p;
+      notes_are = refl;
+      none = mute-with (use_counts l k p) l.book.id p.at (carry_row l.book k).what (carry-mute l.book k l.book.id p.at);
+    }
 
 waits-quiet : (s : GatewayAndOutput) (side : Side) (bytes : List ℕ) (flow : Flow) (e : Endpoint) → AreBytes bytes → IsWellFormedEndpoint (source_of flow) → plan_of s.shown side flow (size_in bytes) ≡ Ok (WaitFor e) → Quiet s (by_plan s side bytes flow (WaitFor e))
 waits-quiet s side bytes flow e are formed is = let q = wanted-quiet s e in record { notes = q.notes; notes_are = q.notes_are; none = q.none }

@@ -19,8 +19,8 @@ use Rattle.activity.specs.declared.packets.Way.TheVariants as goes
 use Rattle.link.specs.Link.{Link}
 use Rattle.spec_binding.specs.Books.{IsBook}
 use Rattle.spec_binding.specs.Ledgers.{Ledger, carried_ledger, ledger_after}
-use Rattle.spec_binding.specs.Rows.{answered, carry_row, is_full, noted_by, wish_of}
-use Rattle.spec_binding.specs.Uses.{Accounts}
+use Rattle.spec_binding.specs.Rows.{answered, carry_row, is_full, noted_by, wish_of, noted_with}
+use Rattle.spec_binding.specs.Uses.{Accounts, carried_notes, use_counts}
 use Rattle.spec_binding.proofs.Offered.{reversed-join, wish-keeps, change-leaves, carried-accounts, wished-accounts}
 use Rattle.spec_binding.specs.WellFormed.{IsWellFormedEndpoint}
 use Rattle.waiting.specs.declared.waits.Ended.{Ended}
@@ -40,7 +40,7 @@ use Rattle.arp.specs.Neighbours.{asks_at}
 use Rattle.spec_step.specs.declared.plans.Plan.{Plan}
 use Rattle.spec_step.specs.declared.plans.Plan.TheVariants.{Send, Ask, AskAgain, Wait as WaitFor}
 use Rattle.spec_step.specs.Machine.{AreBytes, KeepsBytes}
-use Rattle.spec_step.specs.Parts.{all_taken, asked_again, by_plan, by_verdict, carried, carried_all, carried_by, flags_in, flow_taken, framed, keeping, neighbour_asked, released, remote, renewed_behind, request_by, retaken_by, taken_again, wanted_by, wanted_for, by_error_plan, by_error_verdict, error_taken, echo_taken, size_in, refused}
+use Rattle.spec_step.specs.Parts.{all_taken, asked_again, by_plan, by_verdict, carried, carried_all, carried_by, flags_in, flow_taken, framed, keeping, released, remote, renewed_behind, request_by, retaken_by, taken_again, wanted_by, wanted_for, by_error_plan, by_error_verdict, error_taken, echo_taken, size_in, refused}
 use Rattle.spec_step.specs.Rests.{AreBy}
 use Rattle.spec_step.specs.Shown.{GatewayAndOutput, id_of, is_apart, scene, station_on, with_notes}
 use Rattle.spec_step.specs.Verdict.{exit_by, hop_by, plan_of, reading_on, error_hop, error_plan}
@@ -49,6 +49,7 @@ use Rattle.spec_step.proofs.Own.{Said, echo-by, refusal-by, refused-by, said_sce
 use Rattle.spec_step.proofs.Passing.{IsSound}
 use Rattle.spec_step.proofs.Plain.{StaysPlain, carried-stays-plain, plain-join, wanted-stays-plain}
 use Rattle.icmp.specs.declared.packets.ErrorFlow.{ErrorFlow}
+use Rattle.spec_step.proofs.Behind.{asked_behind}
 
 -- the notes from one scene to another, all at one time; a trace that the ledger accounted for before is accounted for
 -- with these notes
@@ -127,6 +128,10 @@ pub noted-own : (id : GatewayId) (now : ℕ) (o : Option NoteKind) → AreBy id 
 noted-own id now None = tt
 noted-own id now (Some what) = ((refl, refl), tt)
 
+own-with : (counts : Bool) (id : GatewayId) (now : ℕ) (o : Option NoteKind) → AreBy id now (noted_with counts id now o)
+own-with counts id now None = tt
+own-with counts id now (Some what) = ((refl, refl), tt)
+
 -- ---- one packet
 
 pub wanted-rests : (s : GatewayAndOutput) (e : Endpoint) → IsWellFormedEndpoint e → Resting s (wanted_by s e)
@@ -139,12 +144,13 @@ wanted-rests s e formed =
     (noted-own b.id g.moment row.what) (wanted-stays-plain g e) (change-leaves b row.change).id (λ is. wish-keeps b apart full e is formed)
     (λ before is a. wished-accounts g.moment g.ledger before apart full e is a)
 
-carried-rests : (s : GatewayAndOutput) (k : Key) (r : Remote) (w : Way) (flags : TcpFlags) → Resting s (carried_by s k (carried r w flags s.shown.moment))
+carried-rests : (s : GatewayAndOutput) (k : Key) (r : Remote) (w : Way) (flags : TcpFlags) → Resting s (carried_by s k (carried s.shown r w flags))
 carried-rests s k r w flags =
     let g = s.shown in let b = g.ledger.book in
-    let p = carried r w flags g.moment in
-    resting-noted s (carried_ledger k p g.ledger) g.link (noted_by b.id g.moment (carry_row b k).what)
-    (noted-own b.id g.moment (carry_row b k).what) (carried-stays-plain b k b.id g.moment) refl (λ is. is)
+    let p = carried g r w flags in
+    let counts = use_counts g.ledger k p in
+    resting-noted s (carried_ledger k p g.ledger) g.link (carried_notes g.ledger k p)
+    (own-with counts b.id g.moment (carry_row b k).what) (carried-stays-plain b k counts b.id g.moment) refl (λ is. is)
     (λ before is a. carried-accounts g.ledger before k p a)
 
 carried-all-rests : (s : GatewayAndOutput) (flow : Flow) (flags : TcpFlags) (by : Translation) → Resting s (carried_all s flow flags by)
@@ -152,7 +158,7 @@ carried-all-rests s flow flags (Outward p) = carried-rests s p.key _ goes.Outwar
 carried-all-rests s flow flags (Inward p) = carried-rests s p.key _ goes.Inward flags
 carried-all-rests s flow flags (Hairpin own other) =
     let here = s.shown.networks.outside.interface.virtual_ip in
-    let one = carried_by s own.key (carried (remote here flow.destination_port) goes.Outward flags s.shown.moment) in
+    let one = carried_by s own.key (carried s.shown (remote here flow.destination_port) goes.Outward flags) in
     resting-then s one _ (carried-rests s own.key (remote here flow.destination_port) goes.Outward flags)
     (carried-rests one other.key (remote here own.key.port) goes.Inward flags)
 
@@ -170,10 +176,11 @@ keeping-rests s side bytes w are = resting-unseen s (keeping s side bytes w) ref
 renewed-rests : (s : GatewayAndOutput) (exit : Side) (hop : Ip) → Resting s (renewed_behind s exit hop)
 renewed-rests s exit hop = at exit (asks_at hop.0 s.shown.moment (station_on s.shown exit).neighbours)
   where
-    at : (side : Side) (b : Bool) → Resting s (let x : GatewayAndOutput = cond b (framed (scene (neighbour_asked s.shown side hop) s.told) side (request_by s.shown side hop)) s in x)
+    at : (side : Side) (b : Bool) → Resting s (asked_behind s side hop b)
     at Inside true = resting-unseen s _ refl refl refl (λ k. k)
     at Outside true = resting-unseen s _ refl refl refl (λ k. k)
-    at side false = resting-nothing s
+    at Inside false = resting-unseen s _ refl refl refl (λ k. k)
+    at Outside false = resting-unseen s _ refl refl refl (λ k. k)
 
 again-rests : (s : GatewayAndOutput) (exit : Side) (hop : Ip) → Resting s (asked_again s exit hop)
 again-rests s exit hop = at (asks_again s.shown.moment (wait.Hop exit hop) s.shown.kept)

@@ -37,14 +37,13 @@ use Rattle.packet_rules.specs.declared.complaints.Complaint.{Complaint}
 use Rattle.interfaces.specs.Tallies.{IsWithin, may_complain}
 use Rattle.interfaces.specs.Stations.{is_active}
 use Rattle.output.specs.Output.{Sent}
-use Rattle.arp.specs.Neighbours.{Neighbours, asks_at}
-use Rattle.arp.proofs.Offered.{asked-six, forgetful-asked}
+use Rattle.arp.specs.Neighbours.{asks_at}
 use Rattle.spec_step.specs.declared.plans.Plan.{Plan}
 use Rattle.spec_step.specs.declared.plans.Plan.TheVariants.{Send, Ask, AskAgain, Wait as WaitFor}
 use Rattle.spec_step.specs.Machine.{AreBytes}
 use Rattle.spec_step.specs.Others.{is_other}
 use Rattle.spec_step.specs.OwnAnswers.{Answers, Complains, IsOwnOf, OwnFrame, Purpose, counted_for}
-use Rattle.spec_step.specs.Parts.{all_taken, asked_again, by_plan, by_refusal, by_row, by_verdict, carried_all, flags_in, flow_taken, framed, keeping, neighbour_asked, released, renewed_behind, request_by, retaken_by, taken_again, wanted_by, wanted_for, by_error_plan, by_error_verdict, error_taken, echo_taken, size_in, refused, sender_in}
+use Rattle.spec_step.specs.Parts.{all_taken, asked_again, by_plan, by_refusal, by_row, by_verdict, carried_all, flags_in, flow_taken, framed, keeping, released, renewed_behind, request_by, retaken_by, taken_again, wanted_by, wanted_for, by_error_plan, by_error_verdict, error_taken, echo_taken, size_in, refused, sender_in}
 use Rattle.spec_step.specs.Shown.{GatewayAndOutput, Shown, id_of, is_apart, is_up, scene, station_on}
 use Rattle.spec_step.specs.Truly.{IsSetUp, AtHand, IsSentBy, Known, known_of, packets_of}
 use Rattle.spec_step.specs.Verdict.{error_hop, error_plan, exit_by, hop_back, hop_by, next_back, next_to, plan_of, reading_on}
@@ -63,6 +62,7 @@ use Rattle.std.proofs.lemmas.List.Sorted.{IsPermutation-sym, IsPermutation-trans
 use Rattle.std.proofs.lemmas.List.{append-nil}
 use Rattle.icmp.specs.declared.packets.ErrorFlow.{ErrorFlow}
 use Rattle.icmp.specs.declared.packets.ErrorPacket.{ErrorPacket}
+use Rattle.spec_step.proofs.Behind.{asked_behind, sent_to, known-sent, wired-sent}
 
 -- what is told from one scene to another is true, and what that requires holds afterwards
 pub record Says (hand : List AtHand) (s s2 : GatewayAndOutput) : Type 0 where
@@ -155,31 +155,23 @@ read-from s side bytes flow read = subst (λ (f : Flow). IsWellFormedEndpoint (s
 renewed-says : Frames → (s : GatewayAndOutput) (exit : Side) (hop : Ip) → Saying [] s (renewed_behind s exit hop)
 renewed-says frames s exit hop = at exit (asks_at hop.0 s.shown.moment (station_on s.shown exit).neighbours)
   where
-    wired : (side : Side) → IsSetUp s.shown → IsSetUp (neighbour_asked s.shown side hop)
-    wired Inside w = (w.0, (record { own = w.1.0.own; known = asked-six hop.0 s.shown.moment s.shown.inside.neighbours w.1.0.known }, w.1.1))
-    wired Outside w = (w.0, (w.1.0, record { own = w.1.1.own; known = asked-six hop.0 s.shown.moment s.shown.outside.neighbours w.1.1.known }))
-
-    known : (side : Side) → known_of (neighbour_asked s.shown side hop) ≡ known_of s.shown
-    known Inside = ap (λ (n : Neighbours). let k : Known = record (known_of s.shown) { near_inside = n } in k) (forgetful-asked hop.0 s.shown.moment s.shown.inside.neighbours)
-    known Outside = ap (λ (n : Neighbours). let k : Known = record (known_of s.shown) { near_outside = n } in k) (forgetful-asked hop.0 s.shown.moment s.shown.outside.neighbours)
-
     -- nothing false is told where only the neighbours change
-    asked : (side : Side) → Saying [] s (scene (neighbour_asked s.shown side hop) s.told)
-    asked Inside = λ is w. (
-      record { tells = tells-unseen s _ refl refl (refl, (refl, refl)) refl (refl, (refl, omega arith)); sound = record { book = is.book; kept = is.kept }; wired = wired Inside w },
-      known Inside,
+    sent : (side : Side) → Saying [] s (sent_to s side hop)
+    sent Inside = λ is w. (
+      record { tells = tells-unseen s _ refl refl (refl, (refl, refl)) refl (refl, (refl, omega arith)); sound = record { book = is.book; kept = is.kept }; wired = wired-sent s.shown Inside hop w },
+      known-sent s.shown Inside hop,
     )
-    asked Outside = λ is w. (
-      record { tells = tells-unseen s _ refl refl (refl, (refl, refl)) refl (refl, (refl, omega arith)); sound = record { book = is.book; kept = is.kept }; wired = wired Outside w },
-      known Outside,
+    sent Outside = λ is w. (
+      record { tells = tells-unseen s _ refl refl (refl, (refl, refl)) refl (refl, (refl, omega arith)); sound = record { book = is.book; kept = is.kept }; wired = wired-sent s.shown Outside hop w },
+      known-sent s.shown Outside hop,
     )
 
-    at : (side : Side) (b : Bool) → Saying [] s (let x : GatewayAndOutput = cond b (framed (scene (neighbour_asked s.shown side hop) s.told) side (request_by s.shown side hop)) s in x)
+    at : (side : Side) (b : Bool) → Saying [] s (asked_behind s side hop b)
     at side true =
-        let mid = scene (neighbour_asked s.shown side hop) s.told in
-        λ is w. saying-then [] [] s mid (framed mid side (request_by s.shown side hop)) (asked side)
+        let mid = sent_to s side hop in
+        λ is w. saying-then [] [] s mid (framed mid side (request_by s.shown side hop)) (sent side)
         (framed-says mid side (request_by s.shown side hop) (λ x. request-other frames mid.shown.networks side (station_on s.shown side).network hop (own-six s.shown w side))) is w
-    at side false = saying-nothing s []
+    at side false = sent side
 
 again-says : Frames → (s : GatewayAndOutput) (exit : Side) (hop : Ip) → Saying [] s (asked_again s exit hop)
 again-says frames s exit hop = at (asks_again s.shown.moment (wait.Hop exit hop) s.shown.kept)

@@ -15,9 +15,10 @@ use Rattle.arp.specs.Macs.{KnowsMacs}
 use Rattle.arp.specs.Neighbours.{mac_at}
 use Rattle.arp.proofs.Offered.{mac-forgetful, near-six}
 use Rattle.frames.specs.Frame.{frame_of}
+use Rattle.activity.specs.declared.packets.Way.TheVariants as goes
 use Rattle.ipv4.specs.declared.flows.Flow.{Flow}
 use Rattle.spec_binding.specs.Books.{Book, IsBook, is_synced}
-use Rattle.spec_binding.specs.Rows.{carry_row, is_full, noted_by, wish_of}
+use Rattle.spec_binding.specs.Rows.{carry_row, is_full, wish_of, noted_with}
 use Rattle.spec_binding.specs.Serving.{serving}
 use Rattle.spec_binding.specs.WellFormed.{IsWellFormedEndpoint}
 use Rattle.spec_binding.proofs.Offered.{change-leaves}
@@ -45,7 +46,7 @@ use Rattle.interfaces.specs.Tallies.{IsWithin, complained, may_complain, may_rep
 use Rattle.output.specs.Output.{Sent}
 use Rattle.spec_step.specs.Others.{IsEcho, is_other, retaken_pairs}
 use Rattle.spec_step.specs.Machine.{AreBytes}
-use Rattle.spec_step.specs.Parts.{carried_all, framed, sender_in, wanted_for}
+use Rattle.spec_step.specs.Parts.{carried, carried_all, framed, remote, sender_in, wanted_for}
 use Rattle.spec_step.specs.OwnAnswers.{Answers, Complains, IsOwnOf, OwnFrame, own_frames}
 use Rattle.spec_step.specs.PassedOn.{error_frames}
 use Rattle.spec_step.specs.Shown.{GatewayAndOutput, Shown, id_of, is_apart, is_up, station_on}
@@ -59,6 +60,8 @@ use Rattle.spec_step.proofs.Sends.{AreFound, IsOwn, IsPlanned}
 use Rattle.spec_step.proofs.Steady.{ServesNow, served-now, steady-same}
 use Rattle.spec_step.proofs.Telling.{SameSaid, Told, at_hand, within-by}
 use Rattle.spec_step.proofs.Translating.{Translates, carry-note, target-translates, wish-owns, wish-serves, wish-still}
+use Rattle.spec_binding.specs.Uses.{use_counts}
+use Rattle.spec_binding.specs.Ledgers.{carried_ledger}
 
 -- the contract by which a tally stays within its limits
 pub record Limited : Type 0 where
@@ -178,26 +181,30 @@ found-serve s flow (Hairpin own other) is formed synced found = source-serves s 
 
 -- ---- the notes of the pairs
 
-abbrev pub carry_notes : Shown → Pair → List Note
-carry_notes g p = noted_by (id_of g) g.moment (carry_row g.ledger.book p.key).what
+-- the note that a packet is carried by a pair, whose use counts or doesn't
+abbrev pub carry_notes : Shown → Bool → Pair → List Note
+carry_notes g counts p = noted_with counts (id_of g) g.moment (carry_row g.ledger.book p.key).what
 
-abbrev pub all_notes : Shown → Translation → List Note
-all_notes g (Outward p) = carry_notes g p
-all_notes g (Inward p) = carry_notes g p
-all_notes g (Hairpin own other) = carry_notes g own ++ carry_notes g other
+-- the notes of all pairs, by whether the use of the first and that of the second counts
+abbrev pub all_notes : Shown → Bool → Bool → Translation → List Note
+all_notes g first second (Outward p) = carry_notes g first p
+all_notes g first second (Inward p) = carry_notes g first p
+all_notes g first second (Hairpin own other) = carry_notes g first own ++ carry_notes g second other
 
-all-used : (g : Shown) (by : Translation) → AllTranslate g.ledger.book by → used_pairs (all_notes g by) ≡ pairs_of by
-all-used g (Outward p) t = carry-note g.ledger.book p (id_of g) g.moment t
-all-used g (Inward p) t = carry-note g.ledger.book p (id_of g) g.moment t
-all-used g (Hairpin own other) t =
-    flat_map-append (λ (n : Note). used_in n.what) (carry_notes g own) (carry_notes g other)
-    ∙ ap (λ (ps : List Pair). ps ++ used_pairs (carry_notes g other)) (carry-note g.ledger.book own (id_of g) g.moment t.0)
-    ∙ ap (λ (ps : List Pair). own ∷ ps) (carry-note g.ledger.book other (id_of g) g.moment t.1)
+all-used : (g : Shown) (first second : Bool) (by : Translation) → AllTranslate g.ledger.book by → used_pairs (all_notes g first second by) ≡ pairs_of by
+all-used g first second (Outward p) t = carry-note first g.ledger.book p (id_of g) g.moment t
+all-used g first second (Inward p) t = carry-note first g.ledger.book p (id_of g) g.moment t
+all-used g first second (Hairpin own other) t =
+    flat_map-append (λ (n : Note). used_in n.what) (carry_notes g first own) (carry_notes g second other)
+    ∙ ap (λ (ps : List Pair). ps ++ used_pairs (carry_notes g second other)) (carry-note first g.ledger.book own (id_of g) g.moment t.0)
+    ∙ ap (λ (ps : List Pair). own ∷ ps) (carry-note second g.ledger.book other (id_of g) g.moment t.1)
 
 -- what the carrying of a packet by its pairs leaves as it is, and what it notes
 pub record Carries-on (s s2 : GatewayAndOutput) (by : Translation) : Type 0 where
+  pub first : Bool
+  pub second : Bool
   pub frames : s2.told.frames ≡ s.told.frames
-  pub notes : s2.told.notes ≡ s.told.notes ++ all_notes s.shown by
+  pub notes : s2.told.notes ≡ s.told.notes ++ all_notes s.shown first second by
   pub kept : s2.shown.kept ≡ s.shown.kept
   pub known : known_of s2.shown ≡ known_of s.shown
   pub book : s2.shown.ledger.book ≡ s.shown.ledger.book
@@ -206,11 +213,11 @@ pub record Carries-on (s s2 : GatewayAndOutput) (by : Translation) : Type 0 wher
   pub nets : (s2.shown.inside.network ≡ s.shown.inside.network) × (s2.shown.outside.network ≡ s.shown.outside.network)
 
 pub carried-leaves : (s : GatewayAndOutput) (flow : Flow) (flags : TcpFlags) (by : Translation) → Carries-on s (carried_all s flow flags by) by
-carried-leaves s flow flags (Outward p) = record { frames = refl; notes = refl; kept = refl; known = refl; book = refl; wired = λ w. w; said = (refl, (refl, omega arith)); nets = (refl, refl) }
-carried-leaves s flow flags (Inward p) = record { frames = refl; notes = refl; kept = refl; known = refl; book = refl; wired = λ w. w; said = (refl, (refl, omega arith)); nets = (refl, refl) }
-carried-leaves s flow flags (Hairpin own other) = record {
+carried-leaves s flow flags (Outward p) = record {
+  first = use_counts s.shown.ledger p.key (carried s.shown (remote flow.destination flow.destination_port) goes.Outward flags);
+  second = true;
   frames = refl;
-  notes = append_assoc s.told.notes (carry_notes s.shown own) (carry_notes s.shown other);
+  notes = refl;
   kept = refl;
   known = refl;
   book = refl;
@@ -218,6 +225,36 @@ carried-leaves s flow flags (Hairpin own other) = record {
   said = (refl, (refl, omega arith));
   nets = (refl, refl);
 }
+carried-leaves s flow flags (Inward p) = record {
+  first = use_counts s.shown.ledger p.key (carried s.shown (remote flow.source flow.source_port) goes.Inward flags);
+  second = true;
+  frames = refl;
+  notes = refl;
+  kept = refl;
+  known = refl;
+  book = refl;
+  wired = λ w. w;
+  said = (refl, (refl, omega arith));
+  nets = (refl, refl);
+}
+carried-leaves s flow flags (Hairpin own other) =
+    let here = s.shown.networks.outside.interface.virtual_ip in
+    let out = carried s.shown (remote here flow.destination_port) goes.Outward flags in
+    let back = carried s.shown (remote here own.key.port) goes.Inward flags in
+    let one = use_counts s.shown.ledger own.key out in
+    let two = use_counts (carried_ledger own.key out s.shown.ledger) other.key back in
+    record {
+      first = one;
+      second = two;
+      frames = refl;
+      notes = append_assoc s.told.notes (carry_notes s.shown one own) (carry_notes s.shown two other);
+      kept = refl;
+      known = refl;
+      book = refl;
+      wired = λ w. w;
+      said = (refl, (refl, omega arith));
+      nets = (refl, refl);
+    }
 
 -- ---- the frame
 
@@ -323,16 +360,17 @@ sending-tells s side bytes flow flags by frame sent own is all serves =
     let x : Sent = record { side = exit_by by; bytes = frame } in
     let d : Sending = record { packet = at_hand side bytes; by = by; sent = x } in
     let none = sent-no_error (exit_by by) frame is in
+    let notes = all_notes s.shown c.first c.second by in
     let nets : two.shown.networks ≡ s.shown.networks = ap (λ (k : Known). k.networks) c.known in
     record {
       all = record {
         frames = x ∷ [];
         frames_are = c.frames;
-        notes = all_notes s.shown by;
+        notes = notes;
         notes_are = c.notes;
         done = d ∷ [];
         translated = subst (λ (n : Networks). translated_frames n (x ∷ []) ≡ x ∷ []) (sym nets) (rw (own, is) refl);
-        used = all-used s.shown by all ∙ sym (append-nil (pairs_of by));
+        used = all-used s.shown c.first c.second by all ∙ sym (append-nil (pairs_of by));
         each = (subst (λ (k : Known). IsSentBy k (at_hand side bytes) by x) (sym c.known) sent, tt);
         served = (served-now s two by c.book serves, tt);
         passed = [];
@@ -347,8 +385,8 @@ sending-tells s side bytes flow flags by frame sent own is all serves =
         dropped = [];
         once = subst (λ (ws : List HeldPacket). IsPermutation (at_hand side bytes ∷ packets_of s.shown.kept) (at_hand side bytes ∷ packets_of ws)) (sym c.kept) (IsPermutation-refl (at_hand side bytes ∷ packets_of s.shown.kept));
       };
-      roots = same-rooted s.shown.ledger.book.entries two.shown.ledger.book.entries (retaken_pairs (all_notes s.shown by)) (ap (λ (b : Book). b.entries) c.book);
-      steady = steady-same s two (all_notes s.shown by) (ap (λ (b : Book). b.entries) c.book, (ap (λ (b : Book). b.stage) c.book, ap (λ (b : Book). b.id) c.book));
+      roots = same-rooted s.shown.ledger.book.entries two.shown.ledger.book.entries (retaken_pairs notes) (ap (λ (b : Book). b.entries) c.book);
+      steady = steady-same s two notes (ap (λ (b : Book). b.entries) c.book, (ap (λ (b : Book). b.stage) c.book, ap (λ (b : Book). b.id) c.book));
       within = within-by s.shown two.shown c.said;
       later = c.said.1.1;
     }

@@ -55,7 +55,7 @@ use Rattle.spec_step.specs.declared.plans.Plan.{Plan}
 use Rattle.spec_step.specs.declared.plans.Plan.TheVariants.{Send, Ask, AskAgain, Wait as WaitFor}
 use Rattle.spec_step.specs.Founding.{begun, founded}
 use Rattle.spec_step.specs.GivingWay.{GivingWay, left, turn_of}
-use Rattle.spec_step.specs.Parts.{all_idle_done, all_taken, answered_by, arp_taken, asked_again, by_plan, by_row, by_verdict, carried_all, datagram_in, datagram_read, flags_in, flow_taken, framed, handed_in, has_synced, heard_by, heard_unless, idle_done, idle_taken, keeping, link_answered, link_ticked, neighbour_asked, old_dropped, record_done, record_shown, record_told, records_done, released, renewed_behind, request_by, reset, retaken_by, routers_started, side_plugged, taken_again, wait_ended, waiting, wanted_by, wanted_for, with_link, with_routers, by_error_plan, by_error_verdict, error_taken, echo_taken, size_in, refused, all_sought_done, alone_taken, gone_alone, peer_told, sought_done}
+use Rattle.spec_step.specs.Parts.{all_idle_done, all_taken, answered_by, arp_taken, asked_again, by_plan, by_row, by_verdict, carried_all, datagram_in, datagram_read, flags_in, flow_taken, framed, handed_in, has_synced, heard_by, heard_unless, idle_done, idle_taken, keeping, link_answered, link_ticked, old_dropped, record_done, record_shown, record_told, records_done, released, renewed_behind, request_by, reset, retaken_by, routers_started, side_plugged, taken_again, wait_ended, waiting, wanted_by, wanted_for, with_link, with_routers, by_error_plan, by_error_verdict, error_taken, echo_taken, size_in, refused, all_sought_done, alone_taken, gone_alone, peer_told, sought_done, waits_for_sender, is_taught, neighbour_sent}
 use Rattle.spec_step.specs.Settled.{AreIdle, HaveBegun, IsSettled}
 use Rattle.spec_step.specs.Shown.{GatewayAndOutput, Shown, is_apart, is_running, is_up, scene, station_on, with_station}
 use Rattle.spec_step.specs.Routers.{BothAct, RouterActs}
@@ -67,6 +67,7 @@ use Rattle.spec_step.proofs.Asked.{PlanSays, plan-says}
 use Rattle.spec_step.proofs.Erring.{ErrorSays, error-says}
 use Rattle.spec_step.proofs.Turning.{back_as, turn-by}
 use Rattle.icmp.specs.declared.packets.ErrorFlow.{ErrorFlow}
+use Rattle.spec_step.proofs.Behind.{asked_behind}
 
 -- what the parts of a step keep of a settled gateway
 pub record IsCalm (g : Shown) : Type 0 where
@@ -123,14 +124,15 @@ keeping-calms s side bytes w place =
     calm-by s.shown (keeping s side bytes w).shown refl refl refl
     (λ k. kept-push s.shown.kept (waiting side bytes s.shown.moment w) k place)
 
--- a gateway stays settled where a neighbour, or a next hop, is asked for
+-- a gateway stays settled where a packet was sent to a neighbour, and where a next hop is asked for
 renewed-calms : (s : GatewayAndOutput) (exit : Side) (hop : Ip) → Calming s (renewed_behind s exit hop)
 renewed-calms s exit hop = at exit (asks_at hop.0 s.shown.moment (station_on s.shown exit).neighbours)
   where
-    at : (side : Side) (b : Bool) → Calming s (let x : GatewayAndOutput = cond b (framed (scene (neighbour_asked s.shown side hop) s.told) side (request_by s.shown side hop)) s in x)
-    at Inside true = calm-by s.shown (neighbour_asked s.shown Inside hop) refl refl refl (λ k. k)
-    at Outside true = calm-by s.shown (neighbour_asked s.shown Outside hop) refl refl refl (λ k. k)
-    at side false = nothing-calms s
+    at : (side : Side) (b : Bool) → Calming s (asked_behind s side hop b)
+    at Inside true = calm-by s.shown (neighbour_sent s.shown Inside hop) refl refl refl (λ k. k)
+    at Outside true = calm-by s.shown (neighbour_sent s.shown Outside hop) refl refl refl (λ k. k)
+    at Inside false = calm-by s.shown (neighbour_sent s.shown Inside hop) refl refl refl (λ k. k)
+    at Outside false = calm-by s.shown (neighbour_sent s.shown Outside hop) refl refl refl (λ k. k)
 
 again-calms : (s : GatewayAndOutput) (exit : Side) (hop : Ip) → Calming s (asked_again s exit hop)
 again-calms s exit hop = at (asks_again s.shown.moment (wait.Hop exit hop) s.shown.kept)
@@ -234,11 +236,11 @@ station-calms g Outside station idle was is = record {
   places = is.places;
 }
 
-after-router : (station : Interface) (p : ArpPacket) (now : ℕ) → (after_arp station p now).router ≡ station.router
+after-router : (station : Interface) (p : ArpPacket) (waited : Bool) (now : ℕ) → (after_arp station p waited now).router ≡ station.router
 unfolding after_arp
-after-router station p now = at (is_learnable station.network p)
+after-router station p waited now = at (is_learnable station.network p)
   where
-    at : (b : Bool) → (let x : Interface = cond b (with_neighbour station p now) station in x.router) ≡ station.router
+    at : (b : Bool) → (let x : Interface = cond b (with_neighbour station p waited now) station in x.router) ≡ station.router
     at true = refl
     at false = refl
 
@@ -249,17 +251,18 @@ answered-calms s side p None = nothing-calms s
 arp-calms : (s : GatewayAndOutput) (side : Side) (p : ArpPacket) → Calming s (arp_taken s side p)
 arp-calms s side p =
     let station = station_on s.shown side in
-    let after = after_arp station p s.shown.moment in
+    let waited = waits_for_sender s.shown side p in
+    let after = after_arp station p waited s.shown.moment in
     let heard = scene (with_station s.shown side after) s.told in
     let o = answer_to station.network (is_active station) p in
     let told = answered_by heard side p o in
     calming-then s told (arp_taken s side p)
     (calming-then s heard told
     (station-calms s.shown side after
-    (λ idle. ap (λ (r : Router). r.state) (after-router station p s.shown.moment) ∙ idle)
-    (λ idle. sym (ap (λ (r : Router). r.state) (after-router station p s.shown.moment)) ∙ idle))
+    (λ idle. ap (λ (r : Router). r.state) (after-router station p waited s.shown.moment) ∙ idle)
+    (λ idle. sym (ap (λ (r : Router). r.state) (after-router station p waited s.shown.moment)) ∙ idle))
     (answered-calms heard side p o))
-    (at (is_learnable station.network p) told)
+    (at (is_taught s.shown side p) told)
   where
     at : (b : Bool) (told : GatewayAndOutput) → Calming told (let x : GatewayAndOutput = cond b (released told (One (wait.Hop side p.sender_ip))) told in x)
     at true told = released-calms told (One (wait.Hop side p.sender_ip))
@@ -530,7 +533,7 @@ step-settles s event s2 step is =
 -- ---- a gateway as it begins
 
 none-kept : IsKept []
-none-kept = record { pairs = omega arith; hops = omega arith; once = λ i j d order below. absurd (omega arith) }
+none-kept = record { pairs = omega arith; shares = λ address. omega arith; hops = omega arith; once = λ i j d order below. absurd (omega arith) }
 
 pub begun-settles : (settings : Settings) (id : GatewayId) (boot : ℕ) → IsSettled (begun settings id boot)
 unfolding begun stations.new_station

@@ -8,13 +8,13 @@ use Rattle.arp.specs.declared.packets.ArpPacket.{ArpPacket}
 use Rattle.waiting.specs.declared.waits.Ended.TheVariants.{One}
 use Rattle.waiting.specs.declared.waits.WaitsFor.TheVariants as wait
 use Rattle.spec_pair.specs.Box.{Letter}
-use Rattle.packet_rules.specs.Arping.{answer_to, is_learnable}
+use Rattle.packet_rules.specs.Arping.{answer_to}
 use Rattle.interfaces.specs.Stations.{Interface, after_arp, is_active, with_plug}
 use Rattle.vrrp_states.specs.declared.Action.{Action}
 use Rattle.vrrp_states.specs.Table as table
 use Rattle.vrrp_states.specs.Table.{Event as RouterEvent}
 use Rattle.spec_step.specs.GivingWay.{GivingWay, left, turn_of}
-use Rattle.spec_step.specs.Parts.{acted, all_framed, answered_by, arp_taken, framed, frames_of, old_dropped, released, side_plugged}
+use Rattle.spec_step.specs.Parts.{acted, all_framed, answered_by, arp_taken, framed, frames_of, old_dropped, released, side_plugged, waits_for_sender, is_taught}
 use Rattle.spec_step.specs.Shown.{GatewayAndOutput, scene, station_on, with_station}
 use Rattle.spec_step.specs.Routers.{BothAct, RouterActs}
 use Rattle.spec_step.specs.Steps.{stopped}
@@ -35,11 +35,12 @@ module _ (letters : List Letter) (words : List ℕ) where
   pub arp-goes : Reads → (s : GatewayAndOutput) (side : Side) (p : ArpPacket) → Going letters words s (arp_taken s side p)
   arp-goes reads s side p =
       let station = station_on s.shown side in
-      let heard = scene (with_station s.shown side (after_arp station p s.shown.moment)) s.told in
+      let waited = waits_for_sender s.shown side p in
+      let heard = scene (with_station s.shown side (after_arp station p waited s.shown.moment)) s.told in
       let told = answered_by heard side p (answer_to station.network (is_active station) p) in
       going-then letters words s told _
-      (going-then letters words s heard told (station-goes s side (after_arp station p s.shown.moment)) (answered-goes heard side p (answer_to station.network (is_active station) p)))
-      (at (is_learnable station.network p) told)
+      (going-then letters words s heard told (station-goes s side (after_arp station p waited s.shown.moment)) (answered-goes heard side p (answer_to station.network (is_active station) p)))
+      (at (is_taught s.shown side p) told)
     where
       at : (b : Bool) (told : GatewayAndOutput) → Going letters words told (let x : GatewayAndOutput = cond b (released told (One (wait.Hop side p.sender_ip))) told in x)
       at true told = released-goes letters words reads told (One (wait.Hop side p.sender_ip))

@@ -42,11 +42,12 @@ use Rattle.vrrp_states.specs.declared.State.TheVariants.{Initialize, Backup, Act
 use Rattle.vrrp_states.specs.Table.{Router}
 use Rattle.spec_step.specs.declared.plans.Plan.{Plan}
 use Rattle.spec_step.specs.declared.plans.Plan.TheVariants.{Send, Ask, AskAgain, Wait as WaitFor}
-use Rattle.spec_step.specs.Parts.{all_taken, answered_by, arp_taken, asked_again, by_error_plan, by_error_verdict, by_plan, by_row, by_verdict, carried_all, datagram_in, datagram_read, echo_taken, error_taken, flags_in, flow_taken, framed, handed_in, has_synced, heard_by, heard_unless, keeping, size_in, link_ticked, neighbour_asked, record_done, record_shown, record_told, records_done, refused, released, renewed_behind, request_by, reset, retaken_by, routers_started, side_plugged, started_in, taken_again, wait_ended, wanted_by, wanted_for, with_link, with_routers, all_sought_done, alone_taken, gone_alone, peer_told, sought_done}
+use Rattle.spec_step.specs.Parts.{all_taken, answered_by, arp_taken, asked_again, by_error_plan, by_error_verdict, by_plan, by_row, by_verdict, carried_all, datagram_in, datagram_read, echo_taken, error_taken, flags_in, flow_taken, framed, handed_in, has_synced, heard_by, heard_unless, keeping, size_in, link_ticked, record_done, record_shown, record_told, records_done, refused, released, renewed_behind, request_by, reset, retaken_by, routers_started, side_plugged, started_in, taken_again, wait_ended, wanted_by, wanted_for, with_link, with_routers, all_sought_done, alone_taken, gone_alone, peer_told, sought_done, waits_for_sender, is_taught}
 use Rattle.spec_step.specs.Shown.{GatewayAndOutput, Shown, id_of, is_apart, is_running, scene, station_on, with_notes, with_station}
 use Rattle.spec_step.specs.Steps.{word_by}
 use Rattle.spec_step.specs.Verdict.{error_hop, error_plan, exit_by, hop_by, plan_of, reading_on}
 use Rattle.spec_step.proofs.Own.{Said, echo-by, refusal-by, refused-by, said_scene}
+use Rattle.spec_step.proofs.Behind.{asked_behind}
 
 -- a router that has begun stays as it was
 abbrev pub Keeps : Router → Router → Type 0
@@ -97,14 +98,15 @@ carried-all-stands s flow flags (Hairpin own other) = stands-by s (carried_all s
 keeping-stands : (s : GatewayAndOutput) (side : Side) (bytes : List ℕ) (w : WaitsFor) → Stands s (keeping s side bytes w)
 keeping-stands s side bytes w = stands-by s (keeping s side bytes w) refl refl refl refl
 
--- a router that has begun stays as it was where a neighbour, or a next hop, is asked for
+-- a router that has begun stays as it was where a packet was sent to a neighbour, and where a next hop is asked for
 renewed-stands : (s : GatewayAndOutput) (exit : Side) (hop : Ip) → Stands s (renewed_behind s exit hop)
 renewed-stands s exit hop = at exit (asks_at hop.0 s.shown.moment (station_on s.shown exit).neighbours)
   where
-    at : (side : Side) (b : Bool) → Stands s (let x : GatewayAndOutput = cond b (framed (scene (neighbour_asked s.shown side hop) s.told) side (request_by s.shown side hop)) s in x)
+    at : (side : Side) (b : Bool) → Stands s (asked_behind s side hop b)
     at Inside true = record { inside = λ begun. refl; outside = λ begun. refl; moment = refl; away = refl }
     at Outside true = record { inside = λ begun. refl; outside = λ begun. refl; moment = refl; away = refl }
-    at side false = nothing-moves s
+    at Inside false = record { inside = λ begun. refl; outside = λ begun. refl; moment = refl; away = refl }
+    at Outside false = record { inside = λ begun. refl; outside = λ begun. refl; moment = refl; away = refl }
 
 again-stands : (s : GatewayAndOutput) (exit : Side) (hop : Ip) → Stands s (asked_again s exit hop)
 again-stands s exit hop = at (asks_again s.shown.moment (wait.Hop exit hop) s.shown.kept)
@@ -194,11 +196,11 @@ released-stands s ended =
 
 -- ---- interfaces
 
-after-router : (station : Interface) (p : ArpPacket) (now : ℕ) → (after_arp station p now).router ≡ station.router
+after-router : (station : Interface) (p : ArpPacket) (waited : Bool) (now : ℕ) → (after_arp station p waited now).router ≡ station.router
 unfolding after_arp
-after-router station p now = at (is_learnable station.network p)
+after-router station p waited now = at (is_learnable station.network p)
   where
-    at : (b : Bool) → (let x : Interface = cond b (with_neighbour station p now) station in x.router) ≡ station.router
+    at : (b : Bool) → (let x : Interface = cond b (with_neighbour station p waited now) station in x.router) ≡ station.router
     at true = refl
     at false = refl
 
@@ -214,13 +216,14 @@ answered-stands s side p None = nothing-moves s
 pub arp-stands : (s : GatewayAndOutput) (side : Side) (p : ArpPacket) → Stands s (arp_taken s side p)
 arp-stands s side p =
     let station = station_on s.shown side in
-    let after = after_arp station p s.shown.moment in
+    let waited = waits_for_sender s.shown side p in
+    let after = after_arp station p waited s.shown.moment in
     let heard = scene (with_station s.shown side after) s.told in
     let o = answer_to station.network (is_active station) p in
     let told = answered_by heard side p o in
     stands-then s told (arp_taken s side p)
-    (stands-then s heard told (station-stands s side after (after-router station p s.shown.moment)) (answered-stands heard side p o))
-    (at (is_learnable station.network p) told)
+    (stands-then s heard told (station-stands s side after (after-router station p waited s.shown.moment)) (answered-stands heard side p o))
+    (at (is_taught s.shown side p) told)
   where
     at : (b : Bool) (told : GatewayAndOutput) → Stands told (let x : GatewayAndOutput = cond b (released told (One (wait.Hop side p.sender_ip))) told in x)
     at true told = released-stands told (One (wait.Hop side p.sender_ip))

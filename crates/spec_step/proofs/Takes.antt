@@ -31,11 +31,12 @@ use Rattle.packet_rules.specs.Flows.{source_of}
 use Rattle.spec_step.specs.declared.plans.Plan.{Plan}
 use Rattle.spec_step.specs.declared.plans.Plan.TheVariants.{Send, Ask, AskAgain, Wait as WaitFor}
 use Rattle.spec_step.specs.Machine.{AreBytes, KeepsBytes}
-use Rattle.spec_step.specs.Parts.{all_taken, asked_again, by_error_plan, by_error_verdict, by_plan, by_verdict, carried, carried_all, carried_by, echo_taken, error_taken, flags_in, flow_taken, framed, keeping, size_in, neighbour_asked, refused, released, remote, renewed_behind, request_by, retaken_by, taken_again, wanted_by, wanted_for}
+use Rattle.spec_step.specs.Parts.{all_taken, asked_again, by_error_plan, by_error_verdict, by_plan, by_verdict, carried, carried_all, carried_by, echo_taken, error_taken, flags_in, flow_taken, framed, keeping, size_in, refused, released, remote, renewed_behind, request_by, retaken_by, taken_again, wanted_by, wanted_for}
 use Rattle.spec_step.specs.Shown.{GatewayAndOutput, scene, station_on}
 use Rattle.spec_step.specs.Verdict.{error_hop, error_plan, exit_by, hop_by, plan_of, reading_on}
 use Rattle.spec_step.proofs.Own.{Said, echo-by, refusal-by, refused-by, said_scene}
 use Rattle.spec_step.proofs.Packets.{Reads, kept-filter, kept-more, read-formed}
+use Rattle.spec_step.proofs.Behind.{asked_behind}
 
 -- no packet of the list waits for a pair
 abbrev pub NoneForPair : List HeldPacket → Type 0
@@ -84,10 +85,11 @@ same-unseen s = record { ledger = refl; link = refl; moment = refl; away = refl;
 renewed-unseen : (s : GatewayAndOutput) (exit : Side) (hop : Ip) → IsUnseen s (renewed_behind s exit hop)
 renewed-unseen s exit hop = at exit (asks_at hop.0 s.shown.moment (station_on s.shown exit).neighbours)
   where
-    at : (side : Side) (b : Bool) → IsUnseen s (let x : GatewayAndOutput = cond b (framed (scene (neighbour_asked s.shown side hop) s.told) side (request_by s.shown side hop)) s in x)
+    at : (side : Side) (b : Bool) → IsUnseen s (asked_behind s side hop b)
     at Inside true = record { ledger = refl; link = refl; moment = refl; away = refl; notes = refl; kept = λ k. k; none = λ n. n }
     at Outside true = record { ledger = refl; link = refl; moment = refl; away = refl; notes = refl; kept = λ k. k; none = λ n. n }
-    at side false = same-unseen s
+    at Inside false = record { ledger = refl; link = refl; moment = refl; away = refl; notes = refl; kept = λ k. k; none = λ n. n }
+    at Outside false = record { ledger = refl; link = refl; moment = refl; away = refl; notes = refl; kept = λ k. k; none = λ n. n }
 
 again-unseen : (s : GatewayAndOutput) (exit : Side) (hop : Ip) → IsUnseen s (asked_again s exit hop)
 again-unseen s exit hop = at (asks_again s.shown.moment (wait.Hop exit hop) s.shown.kept)
@@ -122,7 +124,7 @@ module _ (P : GatewayAndOutput → GatewayAndOutput → Type 0)
   carries-all s flow flags (Inward p) = carries s p.key _
   carries-all s flow flags (Hairpin own other) =
       let here = s.shown.networks.outside.interface.virtual_ip in
-      let one = carried_by s own.key (carried (remote here flow.destination_port) goes.Outward flags s.shown.moment) in
+      let one = carried_by s own.key (carried s.shown (remote here flow.destination_port) goes.Outward flags) in
       join s one _ (carries s own.key _) (carries one other.key _)
 
   wants-for : (s : GatewayAndOutput) (flow : Flow) (by : Translation) → IsWellFormedEndpoint (source_of flow) → P s (wanted_for s flow by)

@@ -117,7 +117,7 @@ idle-stands s =
     stands-by s (idle_taken s) (ap (λ (x : GatewayAndOutput). x.shown.inside.router) once) (ap (λ (x : GatewayAndOutput). x.shown.outside.router) once)
     (ap (λ (x : GatewayAndOutput). x.shown.moment) once) (ap (λ (x : GatewayAndOutput). x.shown.away) once)
 
-kept-on : (s s2 : GatewayAndOutput) (side : Side) → Stands s s2 → Keeps (router_on s.shown side) (router_on s2.shown side)
+pub kept-on : (s s2 : GatewayAndOutput) (side : Side) → Stands s s2 → Keeps (router_on s.shown side) (router_on s2.shown side)
 kept-on s s2 Inside stands = stands.inside
 kept-on s s2 Outside stands = stands.outside
 

@@ -27,7 +27,7 @@ use Rattle.spec_binding.specs.declared.changes.Transition.{Transition}
 use Rattle.spec_binding.specs.declared.changes.Want.TheVariants as want
 use Rattle.spec_binding.specs.declared.changes.PortRequest.{PortRequest}
 use Rattle.spec_binding.specs.Books.{Book, IsBook, is_lone, is_synced}
-use Rattle.spec_binding.specs.Rows.{after, carry_row, is_at_limit, known_wish, may_want, new_pair, new_wish, none_row, noted_by, paired_wish, port_for, quiet, row, use_row, used_row, wish, wish_by, wish_of}
+use Rattle.spec_binding.specs.Rows.{after, carry_row, is_at_limit, known_wish, may_want, new_pair, new_wish, none_row, paired_wish, port_for, quiet, row, use_row, used_row, wish, wish_by, wish_of, noted_with}
 use Rattle.spec_binding.specs.Serving.{serving}
 use Rattle.spec_binding.specs.WellFormed.{IsWellFormedEndpoint}
 use Rattle.spec_binding.proofs.Offered.{at-key, chosen-says, wish-keeps}
@@ -45,25 +45,25 @@ pub record Translates (b : Book) (p : Pair) : Type 0 where
   pub pair : entry.pair ≡ p
   pub live : translates entry.state ≡ true
 
-state-note : (i : GatewayId) (now : ℕ) (q : Pair) (s : EntryState) → translates s ≡ true → used_pairs (noted_by i now (used_row q s).what) ≡ q ∷ []
-state-note i now q (state.Pending true) is = refl
-state-note i now q (state.Pending false) is = absurd (cc)
-state-note i now q state.Doomed is = absurd (cc)
-state-note i now q state.Live is = refl
-state-note i now q (state.Closing true) is = refl
-state-note i now q (state.Closing false) is = absurd (cc)
-state-note i now q state.Alone is = refl
-state-note i now q state.Held is = refl
+state-note : (counts : Bool) (i : GatewayId) (now : ℕ) (q : Pair) (s : EntryState) → translates s ≡ true → used_pairs (noted_with counts i now (used_row q s).what) ≡ q ∷ []
+state-note counts i now q (state.Pending true) is = refl
+state-note counts i now q (state.Pending false) is = absurd (cc)
+state-note counts i now q state.Doomed is = absurd (cc)
+state-note counts i now q state.Live is = refl
+state-note counts i now q (state.Closing true) is = refl
+state-note counts i now q (state.Closing false) is = absurd (cc)
+state-note counts i now q state.Alone is = refl
+state-note counts i now q state.Held is = refl
 
--- a packet that a pair carries is noted as a use of it
-pub carry-note : (b : Book) (p : Pair) (i : GatewayId) (now : ℕ) → Translates b p → used_pairs (noted_by i now (carry_row b p.key).what) ≡ p ∷ []
-carry-note b p i now t = at (is_synced b.stage) (slot_of b.entries p.key) t.synced t.found
+-- a packet that a pair carries is noted as a use of it, whether the use counts or not
+pub carry-note : (counts : Bool) (b : Book) (p : Pair) (i : GatewayId) (now : ℕ) → Translates b p → used_pairs (noted_with counts i now (carry_row b p.key).what) ≡ p ∷ []
+carry-note counts b p i now t = at (is_synced b.stage) (slot_of b.entries p.key) t.synced t.found
   where
-    at : (s : Bool) (o : Option Entry) → s ≡ true → o ≡ Some t.entry → used_pairs (noted_by i now (let r : Transition = cond s (use_row o) quiet in r.what)) ≡ p ∷ []
+    at : (s : Bool) (o : Option Entry) → s ≡ true → o ≡ Some t.entry → used_pairs (noted_with counts i now (let r : Transition = cond s (use_row o) quiet in r.what)) ≡ p ∷ []
     at true (Some x) synced is =
         let same : x ≡ t.entry = cc in
-        subst (λ (y : Entry). used_pairs (noted_by i now (used_row y.pair y.state).what) ≡ p ∷ []) (sym same)
-        (state-note i now t.entry.pair t.entry.state t.live ∙ ap (λ (q : Pair). q ∷ []) t.pair)
+        subst (λ (y : Entry). used_pairs (noted_with counts i now (used_row y.pair y.state).what) ≡ p ∷ []) (sym same)
+        (state-note counts i now t.entry.pair t.entry.state t.live ∙ ap (λ (q : Pair). q ∷ []) t.pair)
     at true None synced is = absurd (cc)
     at false o synced is = absurd (cc)
 

@@ -11,7 +11,7 @@ use Rattle.nat_types.specs.declared.pairs.Key.{Key}
 use Rattle.nat_types.specs.declared.records.Record.{Record}
 use Rattle.arp.specs.declared.packets.ArpPacket.{ArpPacket}
 use Rattle.arp.specs.Neighbours.{Neighbours}
-use Rattle.arp.proofs.Offered.{learn-six}
+use Rattle.arp.proofs.Offered.{taught-six}
 use Rattle.bindings.specs.Lives.{idle_keys_in}
 use Rattle.link.specs.declared.datagrams.Datagram.{Datagram}
 use Rattle.link.specs.declared.faults.LinkFault.{LinkFault}
@@ -32,7 +32,7 @@ use Rattle.packet_rules.specs.declared.readings.Reading.TheVariants.{Arp, Advert
 use Rattle.packet_rules.specs.declared.reasons.Reason.{Reason}
 use Rattle.packet_rules.specs.declared.reasons.Reason.TheVariants.{NotUp, OldWord}
 use Rattle.packet_rules.specs.Arping.{answer_frame, answer_to, is_learnable}
-use Rattle.interfaces.specs.Stations.{IsWired, Interface, after_arp, is_active, with_neighbour}
+use Rattle.interfaces.specs.Stations.{IsWired, Interface, after_arp, is_active, with_neighbour, may_come_in}
 use Rattle.output.specs.Output.{Output, with_datagram}
 use Rattle.vrrp_states.specs.declared.Action.{Action}
 use Rattle.vrrp_states.specs.declared.Action.TheVariants.{Nothing, Advertise, AdvertiseAndArp}
@@ -41,7 +41,7 @@ use Rattle.vrrp_states.specs.Table.{Event as RouterEvent, Router}
 use Rattle.spec_step.specs.declared.events.Event.{Event}
 use Rattle.spec_step.specs.declared.events.Event.TheVariants.{Frame, Datagram as Comes, Tick, Stop, PeerOff, Side as SideIs}
 use Rattle.spec_step.specs.Machine.{AreBytes, HasBytes}
-use Rattle.spec_step.specs.Parts.{acted, all_framed, all_idle_done, answered_by, arp_taken, datagram_in, datagram_read, flow_taken, framed, frames_of, handed_in, has_synced, heard_by, heard_unless, idle_done, idle_taken, link_answered, link_ticked, old_dropped, record_done, record_shown, record_told, records_done, released, reset, started, wait_ended, with_link, word_taken, side_plugged, error_taken, echo_taken, refused, all_sought_done, alone_taken, gone_alone, peer_told, sought_done}
+use Rattle.spec_step.specs.Parts.{acted, all_framed, all_idle_done, answered_by, arp_taken, datagram_in, datagram_read, flow_taken, framed, frames_of, handed_in, has_synced, heard_by, heard_unless, idle_done, idle_taken, link_answered, link_ticked, old_dropped, record_done, record_shown, record_told, records_done, released, reset, started, wait_ended, with_link, word_taken, side_plugged, error_taken, echo_taken, refused, all_sought_done, alone_taken, gone_alone, peer_told, sought_done, waits_for_sender, is_taught}
 use Rattle.spec_step.specs.Shown.{GatewayAndOutput, Shown, id_of, is_running, scene, station_on, with_notes, with_station, is_apart}
 use Rattle.spec_step.specs.Routers.{BothAct, RouterActs}
 use Rattle.spec_step.specs.GivingWay.{GivingWay, left, turn_of}
@@ -94,27 +94,27 @@ wired-on g w Outside = w.1.1
 
 -- ---- ARP
 
-pub after-wired : (station : Interface) (p : ArpPacket) (now : ℕ) → length p.sender_mac.0 ≡ 6 → IsWired station → IsWired (after_arp station p now)
+pub after-wired : (station : Interface) (p : ArpPacket) (waited : Bool) (now : ℕ) → length p.sender_mac.0 ≡ 6 → IsWired station → IsWired (after_arp station p waited now)
 unfolding after_arp
-after-wired station p now six w = at (is_learnable station.network p)
+after-wired station p waited now six w = at (is_learnable station.network p)
   where
-    at : (b : Bool) → IsWired (let x : Interface = cond b (with_neighbour station p now) station in x)
-    at true = record { own = w.own; known = learn-six station.neighbours (record { address = p.sender_ip; mac = p.sender_mac; at = now; asked = now }) w.known six }
+    at : (b : Bool) → IsWired (let x : Interface = cond b (with_neighbour station p waited now) station in x)
+    at true = record { own = w.own; known = taught-six p.sender_ip p.sender_mac (may_come_in station p waited) now station.neighbours w.known six }
     at false = w
 
-pub after-said : (station : Interface) (p : ArpPacket) (now : ℕ) → (after_arp station p now).said ≡ station.said
+pub after-said : (station : Interface) (p : ArpPacket) (waited : Bool) (now : ℕ) → (after_arp station p waited now).said ≡ station.said
 unfolding after_arp
-after-said station p now = at (is_learnable station.network p)
+after-said station p waited now = at (is_learnable station.network p)
   where
-    at : (b : Bool) → (let x : Interface = cond b (with_neighbour station p now) station in x.said) ≡ station.said
+    at : (b : Bool) → (let x : Interface = cond b (with_neighbour station p waited now) station in x.said) ≡ station.said
     at true = refl
     at false = refl
 
-pub after-net : (station : Interface) (p : ArpPacket) (now : ℕ) → (after_arp station p now).network ≡ station.network
+pub after-net : (station : Interface) (p : ArpPacket) (waited : Bool) (now : ℕ) → (after_arp station p waited now).network ≡ station.network
 unfolding after_arp
-after-net station p now = at (is_learnable station.network p)
+after-net station p waited now = at (is_learnable station.network p)
   where
-    at : (b : Bool) → (let x : Interface = cond b (with_neighbour station p now) station in x.network) ≡ station.network
+    at : (b : Bool) → (let x : Interface = cond b (with_neighbour station p waited now) station in x.network) ≡ station.network
     at true = refl
     at false = refl
 
@@ -126,13 +126,14 @@ answered-says frames s side p None six = saying-nothing s []
 arp-speaks : Frames → (s : GatewayAndOutput) (side : Side) (p : ArpPacket) → length p.sender_mac.0 ≡ 6 → Speaks [] s (arp_taken s side p)
 arp-speaks frames s side p six =
     let station = station_on s.shown side in
-    let heard = scene (with_station s.shown side (after_arp station p s.shown.moment)) s.told in
+    let waited = waits_for_sender s.shown side p in
+    let heard = scene (with_station s.shown side (after_arp station p waited s.shown.moment)) s.told in
     let told = answered_by heard side p (answer_to station.network (is_active station) p) in
     speaks-then [] [] s told (arp_taken s side p)
     (speaks-then [] [] s heard told
-    (station-speaks s side (after_arp station p s.shown.moment) (after-net station p s.shown.moment) (after-said station p s.shown.moment) (λ w. after-wired station p s.shown.moment six (wired-on s.shown w side)))
+    (station-speaks s side (after_arp station p waited s.shown.moment) (after-net station p waited s.shown.moment) (after-said station p waited s.shown.moment) (λ w. after-wired station p waited s.shown.moment six (wired-on s.shown w side)))
     (answered-says frames heard side p (answer_to station.network (is_active station) p) six))
-    (at (is_learnable station.network p) told)
+    (at (is_taught s.shown side p) told)
   where
     at : (b : Bool) (told : GatewayAndOutput) → Saying [] told (let x : GatewayAndOutput = cond b (released told (One (wait.Hop side p.sender_ip))) told in x)
     at true told = released-says frames told (One (wait.Hop side p.sender_ip))

@@ -27,7 +27,7 @@ use Rattle.spec_binding.specs.declared.changes.Transition.{Transition}
 use Rattle.spec_binding.specs.Books.{IsBook, is_lone, is_synced}
 use Rattle.spec_binding.specs.Ledgers.{Ledger, lone_ledger, carried_ledger, ledger_after, may_ask, restarted_ledger, rests_for, sought_keys, taken_ledger}
 use Rattle.spec_binding.specs.Resets.{back_in, restart_link, restart_notes, retaken}
-use Rattle.spec_binding.specs.Rows.{after, alone_row, answered, carry_row, idle_row, is_full, noted_by, taken_answer, taken_book, taken_ended, taken_what, wish_of}
+use Rattle.spec_binding.specs.Rows.{after, alone_row, answered, idle_row, is_full, noted_by, taken_answer, taken_book, taken_ended, taken_what, wish_of}
 use Rattle.spec_binding.specs.Serving.{Stays, serving}
 use Rattle.spec_binding.specs.WellFormed.{IsWellFormedEndpoint}
 use Rattle.spec_binding.proofs.Offered.{lone-keeps, alone-moves-none, alone-row-keeps, change-leaves, idle-keeps, idle-moves-none, restart-keeps, restart-moves-none, taken-keeps, taken-moves-none, wish-keeps, wish-moves-none, word-moves-none}
@@ -38,7 +38,7 @@ use Rattle.waiting.specs.declared.waits.WaitsFor.TheVariants as wait
 use Rattle.packet_rules.specs.declared.readings.Reading.{Reading}
 use Rattle.packet_rules.specs.declared.readings.Reading.TheVariants.{Arp, Advert, Packet, Error, Asked}
 use Rattle.packet_rules.specs.declared.reasons.Reason.{Reason}
-use Rattle.packet_rules.specs.Arping.{answer_to, is_learnable}
+use Rattle.packet_rules.specs.Arping.{answer_to}
 use Rattle.packet_rules.specs.Flows.{source_of}
 use Rattle.interfaces.specs.Stations.{Interface, after_arp, is_active, with_plug}
 use Rattle.output.specs.Output.{Output, with_datagram}
@@ -51,7 +51,7 @@ use Rattle.spec_step.specs.declared.plans.Plan.TheVariants.{Wait as WaitFor}
 use Rattle.spec_step.specs.Apart.{IsUnmoved}
 use Rattle.spec_step.specs.GivingWay.{GivingWay, left, turn_of}
 use Rattle.spec_step.specs.Machine.{AreBytes, HasBytes, KeepsBytes}
-use Rattle.spec_step.specs.Parts.{acted, all_framed, all_idle_done, all_sought_done, alone_taken, answered_by, arp_taken, by_plan, by_row, carried_by, datagram_in, datagram_read, framed, frames_of, gone_alone, handed_in, has_synced, heard_by, heard_unless, idle_done, idle_taken, keeping, size_in, link_answered, link_ticked, old_dropped, peer_told, record_done, record_shown, record_told, records_done, released, reset, sought_done, started, wait_ended, wanted_by, with_link, word_taken}
+use Rattle.spec_step.specs.Parts.{acted, all_framed, all_idle_done, all_sought_done, alone_taken, answered_by, arp_taken, by_plan, by_row, carried_by, datagram_in, datagram_read, framed, frames_of, gone_alone, handed_in, has_synced, heard_by, heard_unless, idle_done, idle_taken, keeping, size_in, link_answered, link_ticked, old_dropped, peer_told, record_done, record_shown, record_told, records_done, released, reset, sought_done, started, wait_ended, wanted_by, with_link, word_taken, waits_for_sender, is_taught}
 use Rattle.spec_step.specs.Routers.{BothAct, RouterActs}
 use Rattle.spec_step.specs.Shown.{GatewayAndOutput, Shown, id_of, is_apart, is_running, scene, station_on, with_notes, with_station}
 use Rattle.spec_step.specs.Steps.{Does, FrameDoes, IsStepOn, ended_on, stopped, ticked, word_by, word_refusal}
@@ -64,6 +64,7 @@ use Rattle.spec_step.proofs.Stepping.{begun_on}
 use Rattle.spec_step.proofs.Takes.{IsUnseen, echoes, errors, flows, refusals, releases}
 use Rattle.spec_step.proofs.Truths.{word-synced}
 use Rattle.spec_step.proofs.Turning.{back_as, turn-by}
+use Rattle.spec_binding.specs.Uses.{carried_notes}
 
 -- From one scene to another of a synced gateway, at one time: an endpoint's pair that translates stays, or a note says
 -- that it is released.
@@ -164,7 +165,7 @@ wanted-moves s e formed =
 carried-moves : (s : GatewayAndOutput) (k : Key) (p : Carried) → Unmoving s (carried_by s k p)
 carried-moves s k p =
     let g = s.shown in
-    noted-moves s (carried_ledger k p g.ledger) g.link (noted_by (id_of g) g.moment (carry_row g.ledger.book k).what) (λ is. is) (λ t. t) refl (λ x q is t q_is. inl q_is)
+    noted-moves s (carried_ledger k p g.ledger) g.link (carried_notes g.ledger k p) (λ is. is) (λ t. t) refl (λ x q is t q_is. inl q_is)
 
 waits-moves : (s : GatewayAndOutput) (side : Side) (bytes : List ℕ) (flow : Flow) (e : Endpoint) → AreBytes bytes → IsWellFormedEndpoint (source_of flow) → plan_of s.shown side flow (size_in bytes) ≡ Ok (WaitFor e) → Unmoving s (by_plan s side bytes flow (WaitFor e))
 waits-moves s side bytes flow e are formed is =
@@ -193,11 +194,12 @@ answered-moves s side p None = nothing-moves s
 arp-moves : Reads → (s : GatewayAndOutput) (side : Side) (p : ArpPacket) → Unmoving s (arp_taken s side p)
 arp-moves reads s side p =
     let station = station_on s.shown side in
-    let heard = scene (with_station s.shown side (after_arp station p s.shown.moment)) s.told in
+    let waited = waits_for_sender s.shown side p in
+    let heard = scene (with_station s.shown side (after_arp station p waited s.shown.moment)) s.told in
     let told = answered_by heard side p (answer_to station.network (is_active station) p) in
     unmoving-then s told _
-    (unmoving-then s heard told (station-moves s side (after_arp station p s.shown.moment)) (answered-moves heard side p (answer_to station.network (is_active station) p)))
-    (at (is_learnable station.network p) told)
+    (unmoving-then s heard told (station-moves s side (after_arp station p waited s.shown.moment)) (answered-moves heard side p (answer_to station.network (is_active station) p)))
+    (at (is_taught s.shown side p) told)
   where
     at : (b : Bool) (told : GatewayAndOutput) → Unmoving told (let x : GatewayAndOutput = cond b (released told (One (wait.Hop side p.sender_ip))) told in x)
     at true told = released-moves reads told (One (wait.Hop side p.sender_ip))

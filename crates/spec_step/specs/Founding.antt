@@ -11,6 +11,7 @@ use Rattle.slots.specs.declared.hashers.Hashers.TheVariants.{Fixed}
 use Rattle.bindings.specs.declared.entries.PortBounds.{PortBounds}
 use Rattle.bindings.specs.Ports.{AreBounds, key_count}
 use Rattle.spec_binding.specs.Books.{empty_book, founded_book}
+use Rattle.spec_binding.specs.Ledgers.{bare_ledger}
 use Rattle.link.specs.Link.{fresh}
 use Rattle.packet_rules.specs.Networks.{networks_of}
 use Rattle.interfaces.specs.Stations.{new_station}
@@ -32,12 +33,13 @@ unfoldable pub begun : Settings → GatewayId → ℕ → Shown
 begun settings id boot =
     let zero = bounds_of settings.ports.zero in
     let one = bounds_of settings.ports.one in
+    let book = empty_book id zero one settings.ports.host_limit settings.alone in
     record {
       networks = networks_of settings id;
       moment = 0;
       stopped = false;
       away = false;
-      ledger = record { book = empty_book id zero one settings.ports.host_limit settings.alone; lives = []; hashers = Fixed };
+      ledger = bare_ledger book settings.ports.inward_refresh Fixed;
       link = fresh id boot (link_places zero one);
       inside = new_station settings id Inside;
       outside = new_station settings id Outside;

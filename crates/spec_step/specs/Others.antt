@@ -35,7 +35,7 @@ use Rattle.packet_rules.specs.declared.reasons.Reason.{Reason}
 use Rattle.packet_rules.specs.declared.reasons.Reason.TheVariants.{TooLong, TtlOver}
 use Rattle.packet_rules.specs.declared.translations.Translation.{Translation}
 use Rattle.packet_rules.specs.declared.translations.Translation.TheVariants.{Outward, Inward, Hairpin}
-use Rattle.packet_rules.specs.Arping.{answer_frame, answer_to, is_learnable}
+use Rattle.packet_rules.specs.Arping.{answer_frame, answer_to}
 use Rattle.packet_rules.specs.Errors.{AreErrorPairs, error_direction, is_error_frame}
 use Rattle.packet_rules.specs.Flows.{flow_in, source_of, error_flow_in}
 use Rattle.packet_rules.specs.Frames.{hop_of, is_translation, way_of}
@@ -55,7 +55,7 @@ use Rattle.spec_step.specs.declared.events.Event.TheVariants.{Frame, Datagram, T
 use Rattle.spec_step.specs.declared.turns.Turn.{Turn}
 use Rattle.spec_step.specs.declared.turns.Turn.TheVariants.{Leaves, Returns, Stays}
 use Rattle.spec_step.specs.GivingWay.{returned, turn_of}
-use Rattle.spec_step.specs.Parts.{frames_of, record_done, request_by, reset, sender_in, waiting, with_link}
+use Rattle.spec_step.specs.Parts.{arp_heard, frames_of, is_taught, record_done, request_by, reset, sender_in, waiting, with_link}
 use Rattle.spec_step.specs.Shown.{GatewayAndOutput, Shown, is_apart, station_on}
 use Rattle.spec_step.specs.Steps.{clock_after, word_refusal}
 use Rattle.spec_step.specs.Truly.{AreItsPairs, AtHand, Known, known_of, near_on, packets_of}
@@ -128,9 +128,9 @@ Owes g (SideIs side up) own = own ≡ []
 
 -- ---- the packets whose wait an event ends
 
--- whether an ARP packet ends a packet's wait: it waits for the ARP packet's sender, which may be learnt
+-- whether an ARP packet ends a packet's wait: it waits for the ARP packet's sender, which is learnt or renewed
 abbrev pub frees_as : Shown → Side → Result Reading Reason → HeldPacket → Bool
-frees_as g side (Ok (Arp p)) w = is_learnable (station_on g side).network p && ends (One (wait.Hop side p.sender_ip)) w.wait
+frees_as g side (Ok (Arp p)) w = is_taught g side p && ends (One (wait.Hop side p.sender_ip)) w.wait
 frees_as g side (Ok (Advert a from)) w = false
 frees_as g side (Ok (Packet packet)) w = false
 frees_as g side (Ok (Error packet)) w = false
@@ -297,6 +297,24 @@ pub record IsNew (k : Known) (may : Pair → Type 0) (w : HeldPacket) : Type 0 w
 
 -- ---- requests
 
+-- the gateway after the ARP packet that a frame is read as was heard, else the same
+abbrev pub heard_as : Shown → Side → Result Reading Reason → Shown
+heard_as g side (Ok (Arp p)) = arp_heard g side p
+heard_as g side (Ok (Advert a from)) = g
+heard_as g side (Ok (Packet packet)) = g
+heard_as g side (Ok (Error packet)) = g
+heard_as g side (Ok (Asked echo)) = g
+heard_as g side (Err reason) = g
+
+-- the gateway after an event's ARP packet was heard, else the same
+abbrev pub heard_in : Shown → Event → Shown
+heard_in g (Frame side bytes) = heard_as g side (reading_on g side bytes.now)
+heard_in g (Datagram bytes) = g
+heard_in g (Tick now) = g
+heard_in g Stop = g
+heard_in g (PeerOff n) = g
+heard_in g (SideIs side up) = g
+
 -- The cause for which a packet's next hop is asked for. Waits: the packet comes to wait for it. Sends: the packet, or
 -- what the gateway says of it, was sent to it in this step. Drops: the packet is dropped, because another waits for it.
 pub data Cause : Type 0 where
@@ -325,9 +343,10 @@ request_of g a = record { side = a.exit; bytes = request_by g a.exit a.host }
 abbrev pub requests : Shown → List Asking → List Sent
 requests g askings = map (request_of g) askings
 
--- When a request may be made, by its cause. Waits and Drops: no hardware address is known for the host; at Drops the
--- packet that waits for it already was last asked for 100 cs ago or more. Sends: the host is a neighbour that was
--- learnt or renewed 90,000 cs ago or more, and last asked for 100 cs ago or more.
+-- When a request may be made, by its cause, at the gateway after the event's ARP packet was heard. Waits and Drops: no
+-- hardware address is known for the host; at Drops the packet that waits for it already was last asked for 100 cs ago or
+-- more. Sends: the host is a neighbour whose last ARP packet changed its hardware address, or came 3,000 cs ago or more,
+-- and which was learnt, and last asked for, 100 cs ago or more.
 abbrev pub IsCause : Shown → Known → Side → Ip → Cause → Type 0
 IsCause g k exit host Waits = IsUnknown k exit host
 IsCause g k exit host Sends = asks_at host.0 k.moment (station_on g exit).neighbours ≡ true
@@ -397,7 +416,7 @@ pub record AreOthers (s : GatewayAndOutput) (event : Event) (s2 : GatewayAndOutp
   pub own : List Sent
   pub owed : Owes s.shown event own
   pub askings : List Asking
-  pub due : AllByRecursion (IsDue s.shown (known_of s2.shown) (MayGoBy s.shown notes)) askings
+  pub due : AllByRecursion (IsDue (heard_in s.shown event) (known_of s2.shown) (MayGoBy s.shown notes)) askings
   pub others : other_frames s2.shown.networks frames ≡ own ++ requests s.shown askings
   pub came : List HeldPacket
   pub new : AllByRecursion (IsNew (known_of s2.shown) (MayGoBy s.shown notes)) came

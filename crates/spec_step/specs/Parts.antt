@@ -1,7 +1,7 @@
 -- The parts of a step: what each does to a scene (a gateway and its output), and the takings of the packets whose wait
 -- it ended.
 use Rattle.std.specs.Prelude.{ℕ, ◌+◌, Bool, true, false, not, ◌&&◌, Option, Some, None, Result, Ok, Err, List, [], ◌∷◌, ◌++◌, take, drop, if◌then◌else◌}
-use Rattle.std.specs.List.{filter}
+use Rattle.std.specs.List.{filter, list_any}
 use Rattle.addresses.specs.declared.ethernet.Mac.{Mac}
 use Rattle.addresses.specs.declared.internet.Ip.{Ip}
 use Rattle.addresses.specs.declared.transport.Port.{Port}
@@ -11,7 +11,7 @@ use Rattle.nat_types.specs.declared.pairs.Endpoint.{Endpoint}
 use Rattle.nat_types.specs.declared.pairs.Key.{Key}
 use Rattle.nat_types.specs.declared.records.Record.{Record}
 use Rattle.arp.specs.declared.packets.ArpPacket.{ArpPacket}
-use Rattle.arp.specs.Neighbours.{asked_at, asks_at}
+use Rattle.arp.specs.Neighbours.{asks_at, sent_at}
 use Rattle.frames.specs.Frame.{frame_of}
 use Rattle.icmp.specs.declared.packets.ErrorFlow.{ErrorFlow}
 use Rattle.ipv4.specs.declared.flows.Flow.{Flow}
@@ -33,12 +33,14 @@ use Rattle.spec_binding.specs.declared.changes.Transition.{Transition}
 use Rattle.spec_binding.specs.Books.{is_lone, is_synced}
 use Rattle.spec_binding.specs.Ledgers.{lone_ledger, carried_ledger, ledger_after, may_ask, rests_for, restarted_ledger, sought_keys, taken_ledger}
 use Rattle.spec_binding.specs.Resets.{back_in, restart_link, restart_notes, retaken}
-use Rattle.spec_binding.specs.Rows.{alone_row, answered, carry_row, idle_row, is_full, noted_by, taken_answer, taken_ended, taken_what, wish_of}
+use Rattle.spec_binding.specs.Rows.{alone_row, answered, idle_row, is_full, noted_by, taken_answer, taken_ended, taken_what, wish_of}
+use Rattle.spec_binding.specs.Uses.{carried_notes}
 use Rattle.waiting.specs.declared.waits.Ended.{Ended}
 use Rattle.waiting.specs.declared.waits.Ended.TheVariants.{One, AllPairs}
 use Rattle.waiting.specs.declared.waits.WaitsFor.{WaitsFor}
 use Rattle.waiting.specs.declared.waits.WaitsFor.TheVariants as wait
 use Rattle.waiting.specs.Packets.{HeldPacket, asks_again, ended_by, is_young, left_by, with_asked, with_room}
+use Rattle.waiting.specs.Waits.{same_wait}
 use Rattle.packet_rules.specs.declared.complaints.Complaint.{Complaint}
 use Rattle.packet_rules.specs.declared.readings.Asked.{Asked as Echo}
 use Rattle.packet_rules.specs.declared.readings.Reading.{Reading}
@@ -48,13 +50,13 @@ use Rattle.packet_rules.specs.declared.reasons.Reason.TheVariants.{NoPort, TooLo
 use Rattle.packet_rules.specs.declared.translations.Translation.{Translation}
 use Rattle.packet_rules.specs.declared.translations.Translation.TheVariants.{Outward, Inward, Hairpin}
 use Rattle.packet_rules.specs.Adverts.{advert_frame}
-use Rattle.packet_rules.specs.Arping.{answer_frame, answer_to, gratuitous_frame, is_learnable, request_frame}
+use Rattle.packet_rules.specs.Arping.{answer_frame, answer_to, gratuitous_frame, request_frame}
 use Rattle.packet_rules.specs.Errors.{passed_frame}
 use Rattle.packet_rules.specs.Flows.{source_of}
 use Rattle.packet_rules.specs.Frames.{sent_frame}
 use Rattle.packet_rules.specs.Networks.{direction_of, network_of}
 use Rattle.packet_rules.specs.Own.{answer_frame as own_answer, complaint_frame, complaint_of, exit_for}
-use Rattle.interfaces.specs.Stations.{Interface, after_arp, is_active, with_complaint, with_plug, with_reply}
+use Rattle.interfaces.specs.Stations.{Interface, after_arp, is_active, teaches, with_complaint, with_plug, with_reply}
 use Rattle.interfaces.specs.Tallies.{may_complain}
 use Rattle.vrrp_states.specs.declared.Action.{Action}
 use Rattle.vrrp_states.specs.declared.Action.TheVariants.{Nothing, Advertise, AdvertiseAndArp}
@@ -84,8 +86,7 @@ wanted_by s e = by_row s (wish_of s.shown.ledger.book (is_apart s.shown) (is_ful
 -- the scene after the pair of a key carried a packet
 abbrev pub carried_by : GatewayAndOutput → Key → Carried → GatewayAndOutput
 carried_by s k p = let g = s.shown in
-    scene (record g { ledger = carried_ledger k p g.ledger })
-    (with_notes s.told (noted_by (id_of g) g.moment (carry_row g.ledger.book k).what))
+    scene (record g { ledger = carried_ledger k p g.ledger }) (with_notes s.told (carried_notes g.ledger k p))
 
 -- ---- one packet
 
@@ -97,23 +98,29 @@ flags_in bytes = (segment_of (payload_of (frame_of bytes).body)).flags
 abbrev pub remote : Ip → Port → Remote
 remote address port = record { address = address; port = port }
 
--- a packet as the session of its pair sees it
-abbrev pub carried : Remote → Way → TcpFlags → ℕ → Carried
-carried r way flags now = record { remote = r; way = way; flags = flags; at = now }
+-- a packet that a gateway carries now, as the session of its pair sees it
+abbrev pub carried : Shown → Remote → Way → TcpFlags → Carried
+carried g r way flags = record {
+  remote = r;
+  way = way;
+  flags = flags;
+  inward_refresh = g.ledger.inward_refresh;
+  at = g.moment;
+}
 
 -- The scene after the pairs of a packet carried it. Each pair's session sees the packet's far end: for a hairpin the
 -- sender's pair sees the outside virtual address and the port that the packet goes to, and the other pair sees that
 -- address and the sender's outside port.
 abbrev pub carried_all : GatewayAndOutput → Flow → TcpFlags → Translation → GatewayAndOutput
 carried_all s flow flags (Outward p) =
-    carried_by s p.key (carried (remote flow.destination flow.destination_port) goes.Outward flags s.shown.moment)
+    carried_by s p.key (carried s.shown (remote flow.destination flow.destination_port) goes.Outward flags)
 carried_all s flow flags (Inward p) =
-    carried_by s p.key (carried (remote flow.source flow.source_port) goes.Inward flags s.shown.moment)
+    carried_by s p.key (carried s.shown (remote flow.source flow.source_port) goes.Inward flags)
 carried_all s flow flags (Hairpin own other) =
     let here = s.shown.networks.outside.interface.virtual_ip in
     carried_by
-    (carried_by s own.key (carried (remote here flow.destination_port) goes.Outward flags s.shown.moment))
-    other.key (carried (remote here own.key.port) goes.Inward flags s.shown.moment)
+    (carried_by s own.key (carried s.shown (remote here flow.destination_port) goes.Outward flags))
+    other.key (carried s.shown (remote here own.key.port) goes.Inward flags)
 
 -- the scene after a packet of the inside had its endpoint's pair made, or proposed, or a port wanted for it
 abbrev pub wanted_for : GatewayAndOutput → Flow → Translation → GatewayAndOutput
@@ -141,18 +148,19 @@ keeping s side bytes what = let g = s.shown in
 abbrev pub request_by : Shown → Side → Ip → List ℕ
 request_by g exit hop = request_frame (station_on g exit).network hop
 
--- the gateway where a neighbour on a side is asked for now
-abbrev pub neighbour_asked : Shown → Side → Ip → Shown
-neighbour_asked g exit hop = let station = station_on g exit in
-    with_station g exit (record station { neighbours = asked_at hop.0 g.moment station.neighbours })
+-- the gateway after a packet was sent to a neighbour on a side
+abbrev pub neighbour_sent : Shown → Side → Ip → Shown
+neighbour_sent g exit hop = let station = station_on g exit in
+    with_station g exit (record station { neighbours = sent_at hop.0 g.moment station.neighbours })
 
--- the scene after a packet was sent to a neighbour: one that was learnt or renewed long ago is asked for, where it
--- wasn't lately
+-- The scene after a packet was sent to a neighbour. One whose hardware address changed, or that was learnt or renewed
+-- long ago, is asked for, where it wasn't learnt or asked for lately.
 abbrev pub renewed_behind : GatewayAndOutput → Side → Ip → GatewayAndOutput
 renewed_behind s exit hop = let g = s.shown in
+    let sent = scene (neighbour_sent g exit hop) s.told in
     if asks_at hop.0 g.moment (station_on g exit).neighbours
-    then framed (scene (neighbour_asked g exit hop) s.told) exit (request_by g exit hop)
-    else s
+    then framed sent exit (request_by g exit hop)
+    else sent
 
 -- the scene where a next hop for which another packet waits is asked for again, where it wasn't lately
 abbrev pub asked_again : GatewayAndOutput → Side → Ip → GatewayAndOutput
@@ -307,14 +315,32 @@ abbrev pub answered_by : GatewayAndOutput → Side → ArpPacket → Option Mac 
 answered_by s side p (Some mac) = framed s side (answer_frame (station_on s.shown side).network p mac)
 answered_by s side p None = s
 
--- the scene after an ARP packet: its sender may be learnt, a request is answered, and a packet that waited for its
--- sender waits no more
+-- whether a packet waits for the sender of an ARP packet, as its next hop on that side
+abbrev pub waits_for_sender : Shown → Side → ArpPacket → Bool
+waits_for_sender g side p = list_any (λ w. same_wait w.wait (wait.Hop side p.sender_ip)) g.kept
+
+-- whether the sender of an ARP packet is learnt or renewed
+abbrev pub is_taught : Shown → Side → ArpPacket → Bool
+is_taught g side p = teaches (station_on g side) p (waits_for_sender g side p)
+
+-- the gateway after it heard an ARP packet, whose sender may be learnt or renewed
+abbrev pub arp_heard : Shown → Side → ArpPacket → Shown
+arp_heard g side p =
+    with_station g side (after_arp (station_on g side) p (waits_for_sender g side p) g.moment)
+
+-- the scene after an ARP packet was heard, and a request answered
+abbrev pub arp_answered : GatewayAndOutput → Side → ArpPacket → GatewayAndOutput
+arp_answered s side p =
+    let station = station_on s.shown side in
+    answered_by (scene (arp_heard s.shown side p) s.told) side p
+    (answer_to station.network (is_active station) p)
+
+-- the scene after an ARP packet: it is heard, a request is answered, and where its sender was learnt or renewed, a packet
+-- that waited for the sender waits no more
 abbrev pub arp_taken : GatewayAndOutput → Side → ArpPacket → GatewayAndOutput
 arp_taken s side p =
-    let station = station_on s.shown side in
-    let heard = scene (with_station s.shown side (after_arp station p s.shown.moment)) s.told in
-    let told = answered_by heard side p (answer_to station.network (is_active station) p) in
-    if is_learnable station.network p then released told (One (wait.Hop side p.sender_ip)) else told
+    let told = arp_answered s side p in
+    if is_taught s.shown side p then released told (One (wait.Hop side p.sender_ip)) else told
 
 -- the scene after these frames were sent at a side, in order
 abbrev pub all_framed : GatewayAndOutput → Side → List (List ℕ) → GatewayAndOutput

@@ -81,7 +81,8 @@ pub record LeavesPairs (old new : GatewayAndOutput) : Type 0 where
   pub notes : new.told.notes ≡ old.told.notes
   pub datagrams : new.told.datagrams ≡ old.told.datagrams
 
--- of a gateway only the counts of its own frames and the times at which neighbours were last asked for change
+-- of a gateway only the counts of its own frames change, and to which neighbours packets were sent and when they were last
+-- asked for
 pub record ChangesLittle (old new : Shown) : Type 0 where
   pub known : known_of new ≡ known_of old
   pub stopped : new.stopped ≡ old.stopped

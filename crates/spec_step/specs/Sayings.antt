@@ -18,17 +18,15 @@ use Rattle.waiting.specs.Packets.{ended_by, left_by}
 use Rattle.packet_rules.specs.declared.readings.Reading.{Reading}
 use Rattle.packet_rules.specs.declared.readings.Reading.TheVariants.{Arp, Advert, Packet, Error, Asked}
 use Rattle.packet_rules.specs.declared.reasons.Reason.{Reason}
-use Rattle.packet_rules.specs.Arping.{answer_to, is_learnable}
-use Rattle.interfaces.specs.Stations.{after_arp, is_active}
 use Rattle.output.specs.Output.{Sent}
 use Rattle.spec_step.specs.declared.events.Event.{Event}
 use Rattle.spec_step.specs.declared.events.Event.TheVariants.{Frame, Datagram as Comes, Tick, Stop, PeerOff, Side as SideIs}
 use Rattle.spec_step.specs.OwnAnswers.{all_own_of, own_read}
 use Rattle.vrrp_states.specs.Table as table
 use Rattle.spec_step.specs.GivingWay.{GivingWay}
-use Rattle.spec_step.specs.Parts.{all_sought_done, answered_by, idle_taken, old_dropped, record_done, record_shown, record_told, reset, with_link}
+use Rattle.spec_step.specs.Parts.{all_sought_done, arp_answered, idle_taken, is_taught, old_dropped, record_done, record_shown, record_told, reset, with_link}
 use Rattle.spec_step.specs.Routers.{BothAct}
-use Rattle.spec_step.specs.Shown.{GatewayAndOutput, id_of, is_apart, scene, station_on, with_notes, with_station}
+use Rattle.spec_step.specs.Shown.{GatewayAndOutput, id_of, is_apart, scene, with_notes}
 use Rattle.spec_step.specs.Steps.{ticked, word_refusal}
 use Rattle.spec_step.specs.Verdict.{reading_on}
 
@@ -37,14 +35,13 @@ abbrev pub own_released : GatewayAndOutput → Ended → List Sent
 own_released s ended =
     all_own_of (scene (record s.shown { kept = left_by ended s.shown.kept }) s.told) (ended_by ended s.shown.kept)
 
--- the own frames at an ARP packet: of the packets that waited for its sender, where the sender may
--- be learnt
+-- the own frames at an ARP packet: of the packets that waited for its sender, where the sender was
+-- learnt or renewed
 abbrev pub own_arp : GatewayAndOutput → Side → ArpPacket → List Sent
 own_arp s side p =
-    let station = station_on s.shown side in
-    let heard = scene (with_station s.shown side (after_arp station p s.shown.moment)) s.told in
-    let told = answered_by heard side p (answer_to station.network (is_active station) p) in
-    if is_learnable station.network p then own_released told (One (wait.Hop side p.sender_ip)) else []
+    if is_taught s.shown side p
+    then own_released (arp_answered s side p) (One (wait.Hop side p.sender_ip))
+    else []
 
 -- the own frames at a frame: of its own packet, or at its ARP packet
 abbrev pub own_framed : GatewayAndOutput → Side → List ℕ → Result Reading Reason → List Sent

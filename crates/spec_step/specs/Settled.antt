@@ -13,8 +13,8 @@ abbrev pub HaveBegun : Shown → Type 0
 HaveBegun g = (g.inside.router.state ≡ Initialize → ⊥) × (g.outside.router.state ≡ Initialize → ⊥)
 
 -- A gateway is settled: its routers have begun where it runs and are in Initialize where it doesn't, its link owes no
--- datagram, and of the packets that it keeps at most 64 wait for pairs and at most 64 for next hops, no two for the
--- same.
+-- datagram, and of the packets that it keeps at most 64 wait for pairs, of one inside address at most 16, and at most 64
+-- for next hops, no two for the same.
 pub record IsSettled (g : Shown) : Type 0 where
   pub running : is_running g ≡ true → HaveBegun g
   pub idle : is_running g ≡ false → AreIdle g

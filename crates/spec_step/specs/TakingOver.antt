@@ -1,8 +1,9 @@
 -- Taking over: what a gateway does on a side on which it hears no advertisement any more.
-use Rattle.std.specs.Prelude.{◌≡◌, ℕ, Bool, true, false, ◌&&◌, Some, Result, Ok, Err, List, [], ◌∷◌}
+use Rattle.std.specs.Prelude.{◌≡◌, ◌⊎◌, ℕ, Bool, true, false, ◌&&◌, Some, Result, Ok, Err, List, [], ◌∷◌}
 use Rattle.nat_types.specs.declared.gateways.Side.{Side}
 use Rattle.interfaces.specs.Stations.{same_side}
 use Rattle.output.specs.Output.{Output}
+use Rattle.packet_rules.specs.declared.networks.Peer.{Peer}
 use Rattle.packet_rules.specs.declared.readings.Reading.{Reading}
 use Rattle.packet_rules.specs.declared.readings.Reading.TheVariants.{Arp, Advert, Packet, Error, Asked}
 use Rattle.packet_rules.specs.declared.reasons.Reason.{Reason}
@@ -50,6 +51,17 @@ IsAdvertOf priority interval (Ok (Packet packet)) = ⊥
 IsAdvertOf priority interval (Ok (Error packet)) = ⊥
 IsAdvertOf priority interval (Ok (Asked echo)) = ⊥
 IsAdvertOf priority interval (Err reason) = ⊥
+
+-- the frame was read as an advertisement with the other gateway's address and interval, and its priority or 0
+abbrev pub IsAdvertFrom : Peer → Result Reading Reason → Type 0
+IsAdvertFrom peer (Ok (Arp p)) = ⊥
+IsAdvertFrom peer (Ok (Advert a from)) =
+    (from.0 ≡ peer.ip.0) × (a.interval ≡ peer.interval)
+    × ((a.priority ≡ peer.priority) ⊎ (a.priority ≡ 0))
+IsAdvertFrom peer (Ok (Packet packet)) = ⊥
+IsAdvertFrom peer (Ok (Error packet)) = ⊥
+IsAdvertFrom peer (Ok (Asked echo)) = ⊥
+IsAdvertFrom peer (Err reason) = ⊥
 
 -- the event is an advertisement on a side, with this priority and this interval
 abbrev pub HearsAdvert : Side → Shown → Event → ℕ → ℕ → Type 0

@@ -1,7 +1,7 @@
 -- Told truly: the translated frames of a step are, one for one and in order, translations of different packets at hand,
 -- by the pairs that the step's Used notes name. The packets at hand are the event's own packet and the kept packets. Each
 -- frame is a whole one: what came in fragments was put together before, and what is too long is cut afterwards.
-use Rattle.std.specs.Prelude.{◌≡◌, ℕ, Bool, not, ◌&&◌, List, [], ◌∷◌, ◌++◌, map, Some, Ok}
+use Rattle.std.specs.Prelude.{◌≡◌, ℕ, Bool, false, not, ◌&&◌, List, [], ◌∷◌, ◌++◌, map, Some, Ok}
 use Rattle.std.specs.List.{AllByRecursion, filter, flat_map}
 use Rattle.std.specs.List.Sorted.{IsPermutation}
 use Rattle.addresses.specs.declared.ethernet.Mac.{Mac}
@@ -63,9 +63,10 @@ hand_of (SideIs side up) = []
 abbrev pub packets_of : List HeldPacket → List AtHand
 packets_of kept = map (λ w. record { side = w.side; bytes = w.bytes }) kept
 
--- the neighbours without the times at which they were last asked for
+-- the neighbours without whether a packet was sent to them, and when they were last asked for
 abbrev pub unasked : Neighbours → Neighbours
-unasked known = record known { learnt = map (λ (e : CacheEntry). record e { asked = 0 }) known.learnt }
+unasked known =
+    record known { learnt = map (λ (e : CacheEntry). record e { asked = 0; sent = false }) known.learnt }
 
 -- what decides where a translated packet goes and what the gateway says itself
 pub record Known : Type 0 where

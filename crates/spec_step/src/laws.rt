@@ -1,6 +1,6 @@
 //! The laws of a step of a gateway. Each law is the contract of a function that does nothing.
 
-ghost use Rattle.std.specs.Prelude.{◌≡◌, ◌≢◌, ◌↔◌, Ok, ◌≤◌, ◌<◌, ◌+◌, ◌^◌, ◌∷◌, ◌++◌, ℕ, true, false, [], Bool, List, length, reverse, Err, Some};
+ghost use Rattle.std.specs.Prelude.{◌≡◌, ◌≢◌, ◌↔◌, Ok, ◌≤◌, ◌<◌, ◌+◌, ◌^◌, ◌∷◌, ◌++◌, ℕ, true, false, [], Bool, List, length, reverse, Err, None, Some};
 ghost use Rattle.std.specs.Borrow.{Bor};
 ghost use Rattle.std.specs.List.{AllByRecursion};
 ghost use Rattle.nat_types.specs.declared.gateways.GatewayId.{GatewayId};
@@ -13,6 +13,8 @@ ghost use Rattle.nat_types.specs.declared.pairs.Key.{Key};
 ghost use Rattle.nat_types.specs.declared.records.Record.{Record};
 ghost use Rattle.nat_types.specs.Same.{same};
 ghost use Rattle.addresses.specs.declared.ethernet.Mac.{Mac};
+ghost use Rattle.arp.specs.declared.packets.ArpPacket.{ArpPacket};
+ghost use Rattle.arp.specs.Neighbours.{fixed_mac, mac_at};
 ghost use Rattle.settings.specs.declared.whole.Settings.{Settings};
 ghost use Rattle.frames.specs.Frame.{frame_of};
 ghost use Rattle.icmp.specs.declared.packets.ErrorFlow.{ErrorFlow};
@@ -27,15 +29,17 @@ ghost use Rattle.ipv4.specs.Header.{is_unbroken};
 ghost use Rattle.packet_rules.specs.declared.complaints.Complaint.TheVariants.{TooBig};
 ghost use Rattle.packet_rules.specs.declared.networks.Network.{Network};
 ghost use Rattle.packet_rules.specs.declared.networks.Networks.{Networks};
+ghost use Rattle.packet_rules.specs.declared.networks.Peer.{Peer};
+ghost use Rattle.packet_rules.specs.declared.readings.Reading.TheVariants.{Arp};
 ghost use Rattle.packet_rules.specs.declared.reasons.Reason.{Reason};
-ghost use Rattle.packet_rules.specs.declared.reasons.Reason.TheVariants.{Fragment, HostLimit, NoPort, TooLong};
+ghost use Rattle.packet_rules.specs.declared.reasons.Reason.TheVariants.{Fragment, HostLimit, NoPort, SourceRoute, TooLong};
 ghost use Rattle.packet_rules.specs.declared.translations.Translation.{Translation};
 ghost use Rattle.packet_rules.specs.Networks.{direction_of, mtu_of};
 ghost use Rattle.packet_rules.specs.Own.{complaint_of, exit_for};
 ghost use Rattle.packet_rules.specs.Steps.{reading_of};
 ghost use Rattle.spec_trace.specs.Past.{Idle};
 ghost use Rattle.spec_pair.specs.Talk.{note};
-ghost use Rattle.waiting.specs.Packets.{HeldPacket, hop_count};
+ghost use Rattle.waiting.specs.Packets.{HeldPacket, hop_count, host_count};
 ghost use Rattle.bindings.specs.declared.entries.Entry.{Entry};
 ghost use Rattle.bindings.specs.Entries.{is_alone, is_marked, slot_of};
 ghost use Rattle.spec_binding.specs.declared.setups.Stage.TheVariants.{Paired};
@@ -56,7 +60,7 @@ ghost use Rattle.spec_step.specs.LettingGo.{CanAskForAll, HasRested, IsLetGo, No
 ghost use Rattle.spec_step.specs.LettingGo.{ReleasesAlone};
 ghost use Rattle.spec_step.specs.Others.{AreOthers};
 ghost use Rattle.spec_step.specs.OwnAnswers.{AreWithin, SaysJust, ShowsNothing, all_own_of, own_of};
-ghost use Rattle.spec_step.specs.Parts.{all_idle_done, all_sought_done, all_taken, echo_taken, error_taken, flow_taken, size_in, refused, retaken_by};
+ghost use Rattle.spec_step.specs.Parts.{all_idle_done, all_sought_done, all_taken, echo_taken, error_taken, flow_taken, is_taught, size_in, refused, retaken_by};
 ghost use Rattle.spec_step.specs.PassedOn.{ChangesLittle, HidesAllInside, LeavesPairs, TellsAll};
 ghost use Rattle.spec_step.specs.Rests.{AccountsOn, Rests, most_notes};
 ghost use Rattle.spec_step.specs.Settled.{AreIdle, HaveBegun, IsSettled};
@@ -66,13 +70,15 @@ ghost use Rattle.spec_step.specs.Seconds.{AreStepsSaying, StepOwn, answers_at, c
 ghost use Rattle.spec_step.specs.Shown.{with_notes};
 ghost use Rattle.spec_step.specs.Steps.{Does, IsStepOn};
 ghost use Rattle.spec_step.specs.TakingOver.{AreSilentSteps, HearsAdvert, IsBehind, IsSilentStep};
-ghost use Rattle.spec_step.specs.TakingOver.{router_on};
-ghost use Rattle.vrrp_states.specs.declared.State.TheVariants.{Backup};
+ghost use Rattle.spec_step.specs.TakingOver.{IsAdvertFrom, router_on};
+ghost use Rattle.vrrp_states.specs.declared.State.TheVariants.{Backup, Initialize};
 ghost use Rattle.vrrp_states.specs.Table.{Follows, active_down_interval};
 ghost use Rattle.spec_step.specs.Truly.{IsSetUp, Tells, hand_of};
 
 use interfaces::{limits_law, tallies_law};
-use packet_rules::{frames_law, own_frames_law, readings_law, shows_nothing_inside};
+use packet_rules::{
+    frames_law, own_frames_law, peer_alone as read_from_peer, readings_law, shows_nothing_inside,
+};
 use rewrite::hides_inside;
 
 /// A step of a gateway is a step of the pair machine. It reads only the letter and the word that
@@ -250,8 +256,8 @@ pub fn errors_leave_pairs()
 {}
 
 /// A frame of the gateway's own is no use of a pair. A drop with a complaint counts the complaint,
-/// and may set the time at which its next hop was last asked for; nothing else of the gateway
-/// changes. A packet that is too long is taken exactly as such a drop.
+/// and notes at its next hop that a packet was sent to it, and when it was asked for; nothing else
+/// of the gateway changes. A packet that is too long is taken exactly as such a drop.
 pub fn own_leaves_pairs()
     ensures answers { (s : GatewayAndOutput) (side : Side) (bytes : List ℕ) (echo : Echo)
         → LeavesPairs s (echo_taken s side bytes echo) }
@@ -273,6 +279,24 @@ pub fn other_frames()
     ensures { (s : GatewayAndOutput) (event : Event) (s2 : GatewayAndOutput) → IsStepOn s event s2
         → HasBytes event → IsBook s.shown.ledger.book → KeepsBytes s.shown → IsSetUp s.shown
         → hop_count s.shown.kept ≤ 64 → AreOthers s event s2 }
+{
+    readings_law();
+    frames_law();
+    own_frames_law();
+    tallies_law();
+}
+
+/// The true owner of an address mends what a forged ARP packet did. After a frame with an ARP packet
+/// by which its sender is learnt or renewed, and no neighbour of that address is fixed, packets to the
+/// sender go to the hardware address of that packet.
+pub fn true_owner_heals()
+    ensures { (s : GatewayAndOutput) (side : Side) (bytes : Bor (List ℕ)) (s2 : GatewayAndOutput)
+        (p : ArpPacket) → IsStepOn s (Frame side bytes) s2
+        → IsBook s.shown.ledger.book → KeepsBytes s.shown → IsSetUp s.shown
+        → reading_on s.shown side bytes.now ≡ Ok (Arp p) → is_taught s.shown side p ≡ true
+        → fixed_mac p.sender_ip.0 (station_on s.shown side).neighbours.fixed ≡ None
+        → mac_at p.sender_ip.0 s2.shown.moment (station_on s2.shown side).neighbours
+        ≡ Some p.sender_mac }
 {
     readings_law();
     frames_law();
@@ -344,10 +368,12 @@ pub fn beginnings()
 
 /// What holds of a gateway between steps holds after each step again: its routers have begun where
 /// it runs and are in Initialize where it doesn't, its link owes no datagram, and the packets that
-/// it keeps have their places.
+/// it keeps have their places. So at most 16 packets of one inside address wait for pairs.
 pub fn steps_settle()
-    ensures { (s : GatewayAndOutput) (event : Event) (s2 : GatewayAndOutput) → IsStepOn s event s2
-        → IsSettled s.shown → IsSettled s2.shown }
+    ensures settled { (s : GatewayAndOutput) (event : Event) (s2 : GatewayAndOutput)
+        → IsStepOn s event s2 → IsSettled s.shown → IsSettled s2.shown }
+    ensures share { (s : GatewayAndOutput) (event : Event) (s2 : GatewayAndOutput) (address : ℕ)
+        → IsStepOn s event s2 → IsSettled s.shown → host_count address s2.shown.kept ≤ 16 }
 {}
 
 /// A gateway as it begins, and the founded one, are settled.
@@ -415,6 +441,20 @@ pub fn takes_over()
         → IsSilentStep last side (Tick now) new → due ≤ new.moment
         → is_active (station_on new side) ≡ true }
 {}
+
+/// Where the other gateway's advertisements alone count on a side, a frame that comes in there changes
+/// a router that has begun only where it is an advertisement with that gateway's address and interval,
+/// and its priority or 0.
+pub fn peer_alone()
+    ensures { (s : GatewayAndOutput) (side : Side) (bytes : Bor (List ℕ)) (s2 : GatewayAndOutput)
+        (peer : Peer) → IsStepOn s (Frame side bytes) s2
+        → (station_on s.shown side).network.peer ≡ Some peer
+        → (router_on s.shown side).state ≢ Initialize
+        → router_on s2.shown side ≢ router_on s.shown side
+        → IsAdvertFrom peer (reading_on s.shown side bytes.now) }
+{
+    read_from_peer();
+}
 
 /// A pair that has rested is let go. After its rest and a tick, an entry that may be let go is gone
 /// at a lone gateway. Else, where the peer may be asked for all such entries, the entry is closing,
@@ -496,6 +536,14 @@ pub fn goes_on_is_sent()
 pub fn fragments_are_dropped()
     ensures { (s : GatewayAndOutput) (side : Side) (bytes : Bor (List ℕ)) (s2 : GatewayAndOutput)
         → reading_on s.shown side bytes.now ≡ Err Fragment → s.shown.link.due ≡ false
+        → wanted s.shown.link ≡ 0 → IsStepOn s (Frame side bytes) s2 → s2 ≡ s }
+{}
+
+/// A packet with a source route is dropped and nothing else happens, where the link owes no datagram
+/// and has the records that it was promised, as it does between steps.
+pub fn source_routes_are_dropped()
+    ensures { (s : GatewayAndOutput) (side : Side) (bytes : Bor (List ℕ)) (s2 : GatewayAndOutput)
+        → reading_on s.shown side bytes.now ≡ Err SourceRoute → s.shown.link.due ≡ false
         → wanted s.shown.link ≡ 0 → IsStepOn s (Frame side bytes) s2 → s2 ≡ s }
 {}
 

@@ -107,31 +107,31 @@ is_other Zero One e = refl
 is_other One Zero e = refl
 is_other One One e = absurd (cc)
 
-released_rested : (j : GatewayId) (p : Pair) (u : ℕ) (i : GatewayId) (at : ℕ) (w : NoteKind) (t : List Note) (b : Bool) → IdleAt i at w t → (has_released j p t ≡ true → UsedInLife j p u t → (r : ℕ) × (last_release j p t ≡ Some r) × (u + rest_of p.key.protocol ≤ r)) → released_word j p i w ≡ b → released_after j p i w (has_released j p t) ≡ true → UsesAt j p u i at w (UsedInLife j p u t) → (r : ℕ) × (release_after j p i at w (last_release j p t) ≡ Some r) × (u + rest_of p.key.protocol ≤ r)
-released_rested j p u i at (Used q) t true d was e h uses = absurd (let x : false ≡ true = sym (ap (λ b. cond b false (has_released j p t)) e) ∙ h in cc)
-released_rested j p u i at (Used q) t false d was e h uses =
+released_rested : (j : GatewayId) (p : Pair) (u : ℕ) (i : GatewayId) (at : ℕ) (m : Bool) (w : NoteKind) (t : List Note) (b : Bool) → IdleAt i at w t → (has_released j p t ≡ true → UsedInLife j p u t → (r : ℕ) × (last_release j p t ≡ Some r) × (u + rest_of p.key.protocol ≤ r)) → released_word j p i w ≡ b → released_after j p i w (has_released j p t) ≡ true → UsesAt j p u i at m w (UsedInLife j p u t) → (r : ℕ) × (release_after j p i at w (last_release j p t) ≡ Some r) × (u + rest_of p.key.protocol ≤ r)
+released_rested j p u i at m (Used q) t true d was e h uses = absurd (let x : false ≡ true = sym (ap (λ b. cond b false (has_released j p t)) e) ∙ h in cc)
+released_rested j p u i at m (Used q) t false d was e h uses =
     let before : has_released j p t ≡ true = sym (ap (λ b. cond b false (has_released j p t)) e) ∙ h in
     elim uses [ inl here ↦ absurd (both_ways (same j i && same_pair p q) e (is_both j i p q here.0 here.1)) | inr old ↦ was before old ]
-released_rested j p u i at (Released q) t true d was e h uses =
+released_rested j p u i at m (Released q) t true d was e h uses =
     let two : (j ≡ i) × (p ≡ q) = both_same j i p q e in
     let moved : UsedInLife i q u t = subst (λ (x : GatewayId). UsedInLife x q u t) two.0 (subst (λ (x : Pair). UsedInLife j x u t) two.1 uses) in
     (at, ap (λ b. cond b (Some at) (last_release j p t)) e, subst (λ (x : Pair). u + rest_of x.key.protocol ≤ at) (sym two.1) (d u moved))
-released_rested j p u i at (Released q) t false d was e h uses =
+released_rested j p u i at m (Released q) t false d was e h uses =
     let before : has_released j p t ≡ true = sym (ap (λ b. cond b true (has_released j p t)) e) ∙ h in
     let old = was before uses in
     (old.0, ap (λ b. cond b (Some at) (last_release j p t)) e ∙ old.1, old.2)
-released_rested j p u i at (Retaken q) t true d was e h uses = absurd (let x : false ≡ true = sym (ap (λ b. cond b false (has_released j p t)) e) ∙ h in cc)
-released_rested j p u i at (Alone q) t true d was e h uses = absurd (let x : false ≡ true = sym (ap (λ b. cond b false (has_released j p t)) e) ∙ h in cc)
-released_rested j p u i at (Retaken q) t false d was e h uses = was (sym (ap (λ b. cond b false (has_released j p t)) e) ∙ h) uses
-released_rested j p u i at (Alone q) t false d was e h uses = was (sym (ap (λ b. cond b false (has_released j p t)) e) ∙ h) uses
-released_rested j p u i at Synced t b d was e h uses = was h uses
-released_rested j p u i at Crashed t b d was e h uses = was h uses
-released_rested j p u i at (Booted n) t b d was e h uses = was h uses.1
+released_rested j p u i at m (Retaken q) t true d was e h uses = absurd (let x : false ≡ true = sym (ap (λ b. cond b false (has_released j p t)) e) ∙ h in cc)
+released_rested j p u i at m (Alone q) t true d was e h uses = absurd (let x : false ≡ true = sym (ap (λ b. cond b false (has_released j p t)) e) ∙ h in cc)
+released_rested j p u i at m (Retaken q) t false d was e h uses = was (sym (ap (λ b. cond b false (has_released j p t)) e) ∙ h) uses
+released_rested j p u i at m (Alone q) t false d was e h uses = was (sym (ap (λ b. cond b false (has_released j p t)) e) ∙ h) uses
+released_rested j p u i at m Synced t b d was e h uses = was h uses
+released_rested j p u i at m Crashed t b d was e h uses = was h uses
+released_rested j p u i at m (Booted n) t b d was e h uses = was h uses.1
 
 -- where a gateway has let the pair go, each use in its life is at least the pair's rest before its last release
 rested : (j : GatewayId) (p : Pair) (u : ℕ) (t : List Note) → Idle t → has_released j p t ≡ true → UsedInLife j p u t → (r : ℕ) × (last_release j p t ≡ Some r) × (u + rest_of p.key.protocol ≤ r)
 rested j p u [] d h uses = absurd uses
-rested j p u (n ∷ t) d h uses = released_rested j p u n.by n.at n.what t (released_word j p n.by n.what) d.0 (λ b c. rested j p u t d.1 b c) refl h uses
+rested j p u (n ∷ t) d h uses = released_rested j p u n.by n.at n.counts n.what t (released_word j p n.by n.what) d.0 (λ b c. rested j p u t d.1 b c) refl h uses
 
 -- whether a note of gateway i is one of gateway j on the pair, or begins a life of gateway j
 abbrev word_here : GatewayId → Pair → GatewayId → NoteKind → Bool
@@ -143,32 +143,32 @@ word_here j p i Synced = false
 word_here j p i Crashed = false
 word_here j p i (Booted n) = same j i
 
-unused_rested : (j : GatewayId) (p : Pair) (u : ℕ) (i : GatewayId) (at : ℕ) (w : NoteKind) (t : List Note) (b : Bool) → IdleAt i at w t → (goes_on j p t ≡ false → UsedInLife j p u t → (r : ℕ) × (last_release j p t ≡ Some r) × (u + rest_of p.key.protocol ≤ r)) → word_here j p i w ≡ b → goes_after j p i w (goes_on j p t) ≡ false → UsesAt j p u i at w (UsedInLife j p u t) → (r : ℕ) × (release_after j p i at w (last_release j p t) ≡ Some r) × (u + rest_of p.key.protocol ≤ r)
-unused_rested j p u i at (Used q) t true d was e h uses = absurd (let x : true ≡ false = sym (ap (λ b. cond b true (goes_on j p t)) e) ∙ h in cc)
-unused_rested j p u i at (Used q) t false d was e h uses =
+unused_rested : (j : GatewayId) (p : Pair) (u : ℕ) (i : GatewayId) (at : ℕ) (m : Bool) (w : NoteKind) (t : List Note) (b : Bool) → IdleAt i at w t → (goes_on j p t ≡ false → UsedInLife j p u t → (r : ℕ) × (last_release j p t ≡ Some r) × (u + rest_of p.key.protocol ≤ r)) → word_here j p i w ≡ b → goes_after j p i w (goes_on j p t) ≡ false → UsesAt j p u i at m w (UsedInLife j p u t) → (r : ℕ) × (release_after j p i at w (last_release j p t) ≡ Some r) × (u + rest_of p.key.protocol ≤ r)
+unused_rested j p u i at m (Used q) t true d was e h uses = absurd (let x : true ≡ false = sym (ap (λ b. cond b true (goes_on j p t)) e) ∙ h in cc)
+unused_rested j p u i at m (Used q) t false d was e h uses =
     let before : goes_on j p t ≡ false = sym (ap (λ b. cond b true (goes_on j p t)) e) ∙ h in
     elim uses [ inl here ↦ absurd (both_ways (same j i && same_pair p q) e (is_both j i p q here.0 here.1)) | inr old ↦ was before old ]
-unused_rested j p u i at (Released q) t true d was e h uses =
+unused_rested j p u i at m (Released q) t true d was e h uses =
     let two : (j ≡ i) × (p ≡ q) = both_same j i p q e in
     let moved : UsedInLife i q u t = subst (λ (x : GatewayId). UsedInLife x q u t) two.0 (subst (λ (x : Pair). UsedInLife j x u t) two.1 uses) in
     (at, ap (λ b. cond b (Some at) (last_release j p t)) e, subst (λ (x : Pair). u + rest_of x.key.protocol ≤ at) (sym two.1) (d u moved))
-unused_rested j p u i at (Released q) t false d was e h uses =
+unused_rested j p u i at m (Released q) t false d was e h uses =
     let before : goes_on j p t ≡ false = sym (ap (λ b. cond b false (goes_on j p t)) e) ∙ h in
     let old = was before uses in
     (old.0, ap (λ b. cond b (Some at) (last_release j p t)) e ∙ old.1, old.2)
-unused_rested j p u i at (Retaken q) t true d was e h uses = absurd (let x : true ≡ false = sym (ap (λ b. cond b true (goes_on j p t)) e) ∙ h in cc)
-unused_rested j p u i at (Retaken q) t false d was e h uses = was (sym (ap (λ b. cond b true (goes_on j p t)) e) ∙ h) uses
-unused_rested j p u i at (Alone q) t true d was e h uses = absurd (let x : true ≡ false = sym (ap (λ b. cond b true (goes_on j p t)) e) ∙ h in cc)
-unused_rested j p u i at (Alone q) t false d was e h uses = was (sym (ap (λ b. cond b true (goes_on j p t)) e) ∙ h) uses
-unused_rested j p u i at Synced t b d was e h uses = was h uses
-unused_rested j p u i at Crashed t b d was e h uses = was h uses
-unused_rested j p u i at (Booted n) t true d was e h uses = absurd (uses.0 (same-eq j i e))
-unused_rested j p u i at (Booted n) t false d was e h uses = was (sym (ap (λ b. cond b false (goes_on j p t)) e) ∙ h) uses.1
+unused_rested j p u i at m (Retaken q) t true d was e h uses = absurd (let x : true ≡ false = sym (ap (λ b. cond b true (goes_on j p t)) e) ∙ h in cc)
+unused_rested j p u i at m (Retaken q) t false d was e h uses = was (sym (ap (λ b. cond b true (goes_on j p t)) e) ∙ h) uses
+unused_rested j p u i at m (Alone q) t true d was e h uses = absurd (let x : true ≡ false = sym (ap (λ b. cond b true (goes_on j p t)) e) ∙ h in cc)
+unused_rested j p u i at m (Alone q) t false d was e h uses = was (sym (ap (λ b. cond b true (goes_on j p t)) e) ∙ h) uses
+unused_rested j p u i at m Synced t b d was e h uses = was h uses
+unused_rested j p u i at m Crashed t b d was e h uses = was h uses
+unused_rested j p u i at m (Booted n) t true d was e h uses = absurd (uses.0 (same-eq j i e))
+unused_rested j p u i at m (Booted n) t false d was e h uses = was (sym (ap (λ b. cond b false (goes_on j p t)) e) ∙ h) uses.1
 
 -- where a pair doesn't go on at a gateway, each use in its life is at least the pair's rest before its last release
 rested_unused : (j : GatewayId) (p : Pair) (u : ℕ) (t : List Note) → Idle t → goes_on j p t ≡ false → UsedInLife j p u t → (r : ℕ) × (last_release j p t ≡ Some r) × (u + rest_of p.key.protocol ≤ r)
 rested_unused j p u [] d h uses = absurd uses
-rested_unused j p u (n ∷ t) d h uses = unused_rested j p u n.by n.at n.what t (word_here j p n.by n.what) d.0 (λ b c. rested_unused j p u t d.1 b c) refl h uses
+rested_unused j p u (n ∷ t) d h uses = unused_rested j p u n.by n.at n.counts n.what t (word_here j p n.by n.what) d.0 (λ b c. rested_unused j p u t d.1 b c) refl h uses
 
 -- where a release is agreed, the pair has rested at each synced gateway
 drop_rested : (i : GatewayId) (at : ℕ) (p : Pair) (t : List Note) (j : GatewayId) (b : Bool) → IsIdle i p at t → Idle t → is_agreed i p t ≡ true → is_synced j t ≡ true → same j i ≡ b → (u : ℕ) → UsedInLife j p u t → (r : ℕ) × (cond (same j i && same_pair p p) (Some at) (last_release j p t) ≡ Some r) × (u + rest_of p.key.protocol ≤ r)
@@ -189,27 +189,27 @@ drop_rested i at p t j false idle d agreed synced e u uses =
     ] in
     (old.0, ap (λ b. cond (b && same_pair p p) (Some at) (last_release j p t)) e ∙ old.1, old.2)
 
-released_timely : (i : GatewayId) (at : ℕ) (p : Pair) (t : List Note) (b : Bool) → IsIdle i p at t → Idle t → (is_agreed i p t && is_open p t) ≡ b → AreTimely (cond b (Drop p ∷ []) []) (record { by = i; at = at; what = Released p } ∷ t)
-released_timely i at p t true idle d e = (λ j synced u uses. drop_rested i at p t j (same j i) idle d (and_parts (is_agreed i p t) (is_open p t) e).0 synced refl u uses, tt)
-released_timely i at p t false idle d e = tt
+released_timely : (i : GatewayId) (at : ℕ) (m : Bool) (p : Pair) (t : List Note) (b : Bool) → IsIdle i p at t → Idle t → (is_agreed i p t && is_open p t) ≡ b → AreTimely (cond b (Drop p ∷ []) []) (record { by = i; at = at; what = Released p; counts = m } ∷ t)
+released_timely i at m p t true idle d e = (λ j synced u uses. drop_rested i at p t j (same j i) idle d (and_parts (is_agreed i p t) (is_open p t) e).0 synced refl u uses, tt)
+released_timely i at m p t false idle d e = tt
 
 used_timely : (p : Pair) (b : Bool) (t : List Note) → AreTimely (cond b (Use p ∷ []) (Allot p ∷ Use p ∷ [])) t
 used_timely p true t = tt
 used_timely p false t = tt
 
-timely_at : (i : GatewayId) (at : ℕ) (w : NoteKind) (t : List Note) → IdleAt i at w t → Idle t → AreTimely (moves_at (opens t) i w t) (record { by = i; at = at; what = w } ∷ t)
-timely_at i at (Used p) t here d = used_timely p (is_open p t) (record { by = i; at = at; what = Used p } ∷ t)
-timely_at i at (Released p) t here d = released_timely i at p t (is_agreed i p t && is_open p t) here d refl
-timely_at i at (Retaken p) t here d = tt
-timely_at i at (Alone p) t here d = tt
-timely_at i at Synced t here d = tt
-timely_at i at Crashed t here d = tt
-timely_at i at (Booted n) t here d = tt
+timely_at : (i : GatewayId) (at : ℕ) (m : Bool) (w : NoteKind) (t : List Note) → IdleAt i at w t → Idle t → AreTimely (moves_at (opens t) i w t) (record { by = i; at = at; what = w; counts = m } ∷ t)
+timely_at i at m (Used p) t here d = used_timely p (is_open p t) (record { by = i; at = at; what = Used p; counts = m } ∷ t)
+timely_at i at m (Released p) t here d = released_timely i at m p t (is_agreed i p t && is_open p t) here d refl
+timely_at i at m (Retaken p) t here d = tt
+timely_at i at m (Alone p) t here d = tt
+timely_at i at m Synced t here d = tt
+timely_at i at m Crashed t here d = tt
+timely_at i at m (Booted n) t here d = tt
 
 -- a trace of One port and One endpoint that is idle is a run of one box, whose map has exactly the open pairs
 pub run_of : (t : List Note) → OnePort t → OneEndpoint t → Idle t → IsRun (opens t) t
 run_of [] f g d = λ q. refl
-run_of (n ∷ t) f g d = (opens t, run_of t f.1 g.1 d.1, leads_at n.by n.what t (opens (n ∷ t)) f.0 g.0 (λ q. refl), timely_at n.by n.at n.what t d.0 d.1)
+run_of (n ∷ t) f g d = (opens t, run_of t f.1 g.1 d.1, leads_at n.by n.what t (opens (n ∷ t)) f.0 g.0 (λ q. refl), timely_at n.by n.at n.counts n.what t d.0 d.1)
 
 used_open : (alone : Pair → Bool) (p : Pair) (l : Map) (t : List Note) (b : Bool) (m : Map) → ((q : Pair) → l q ≡ is_open q t) → l p ≡ b → Leads alone l (cond b (Use p ∷ []) (Allot p ∷ Use p ∷ [])) m → (q : Pair) → m q ≡ cond (same_pair q p) true (is_open q t)
 used_open alone p l t true m was e h q = h.1 q ∙ was q ∙ sym (used_again p q t (sym (was p) ∙ e))

@@ -24,8 +24,13 @@ icmp_pair = record { key = record { protocol = Icmp; port = record { 0 = 20000 }
 abbrev tcp_pair : Pair
 tcp_pair = record { key = record { protocol = Tcp; port = record { 0 = 20000 } }; endpoint = record { protocol = Tcp; address = record { 0 = 7 }; port = record { 0 = 4000 } } }
 
+-- a note; a use that it notes counts
 abbrev note : GatewayId → ℕ → NoteKind → Note
-note i at w = record { by = i; at = at; what = w }
+note i at w = record { by = i; at = at; what = w; counts = true }
+
+-- a note of a use that doesn't count
+abbrev loose : GatewayId → ℕ → Pair → Note
+loose i at p = record { by = i; at = at; what = Used p; counts = false }
 
 -- a pair used and released by gateway 0 while it alone is synced isn't open
 row_lone : is_open pair_p (note Zero 2 (Released pair_p) ∷ note Zero 1 (Used pair_p) ∷ []) ≡ false
@@ -84,29 +89,54 @@ row_idle : Idle (note Zero 30000 (Released pair_p) ∷ note Zero 0 (Used pair_p)
 row_idle = (λ u h. elim h [ inl a ↦ let e : u ≡ 0 = a.2 in omega arith | inr b ↦ absurd b ], (tt, tt))
 
 row_early : Idle (note Zero 29999 (Released pair_p) ∷ note Zero 0 (Used pair_p) ∷ []) → ⊥
-row_early h = let le : 0 + 30000 ≤ 29999 = h.0 0 (inl (refl, refl, refl)) in omega arith
+row_early h = let le : 0 + 30000 ≤ 29999 = h.0 0 (inl (refl, refl, refl, refl)) in omega arith
 
 row_icmp_idle : Idle (note Zero 6000 (Released icmp_pair) ∷ note Zero 0 (Used icmp_pair) ∷ [])
 row_icmp_idle = (λ u h. elim h [ inl a ↦ let e : u ≡ 0 = a.2 in omega arith | inr b ↦ absurd b ], (tt, tt))
 
 row_icmp_early : Idle (note Zero 5999 (Released icmp_pair) ∷ note Zero 0 (Used icmp_pair) ∷ []) → ⊥
-row_icmp_early h = let le : 0 + 6000 ≤ 5999 = h.0 0 (inl (refl, refl, refl)) in omega arith
+row_icmp_early h = let le : 0 + 6000 ≤ 5999 = h.0 0 (inl (refl, refl, refl, refl)) in omega arith
 
 row_tcp_idle : Idle (note Zero 24000 (Released tcp_pair) ∷ note Zero 0 (Used tcp_pair) ∷ [])
 row_tcp_idle = (λ u h. elim h [ inl a ↦ let e : u ≡ 0 = a.2 in omega arith | inr b ↦ absurd b ], (tt, tt))
 
 row_tcp_early : Idle (note Zero 23999 (Released tcp_pair) ∷ note Zero 0 (Used tcp_pair) ∷ []) → ⊥
-row_tcp_early h = let le : 0 + 24000 ≤ 23999 = h.0 0 (inl (refl, refl, refl)) in omega arith
+row_tcp_early h = let le : 0 + 24000 ≤ 23999 = h.0 0 (inl (refl, refl, refl, refl)) in omega arith
 
 -- a release after each packet isn't idle
 row_after_each_packet : Idle (note Zero 0 (Released pair_p) ∷ note Zero 0 (Used pair_p) ∷ []) → ⊥
-row_after_each_packet h = let le : 0 + 30000 ≤ 0 = h.0 0 (inl (refl, refl, refl)) in omega arith
+row_after_each_packet h = let le : 0 + 30000 ≤ 0 = h.0 0 (inl (refl, refl, refl, refl)) in omega arith
 
--- a use in an earlier life doesn't count
+-- a use that doesn't count says nothing of when a pair is idle: not by itself, and not behind one that counts
+row_loose : Idle (note Zero 1 (Released pair_p) ∷ loose Zero 1 pair_p ∷ [])
+row_loose = (λ u h. elim h [ inl a ↦ absurd (let e : false ≡ true = a.3 in cc) | inr b ↦ absurd b ], (tt, tt))
+
+row_loose_after : Idle (note Zero 30000 (Released pair_p) ∷ loose Zero 29999 pair_p ∷ note Zero 0 (Used pair_p) ∷ [])
+row_loose_after = (
+  λ u h. elim h [
+    | inl a ↦ absurd (let e : false ≡ true = a.3 in cc)
+    | inr b ↦ elim b [ inl a ↦ let e : u ≡ 0 = a.2 in omega arith | inr c ↦ absurd c ]
+  ],
+  (tt, (tt, tt)),
+)
+
+row_loose_early : Idle (note Zero 29999 (Released pair_p) ∷ loose Zero 1 pair_p ∷ note Zero 0 (Used pair_p) ∷ []) → ⊥
+row_loose_early h = let le : 0 + 30000 ≤ 29999 = h.0 0 (inr (inl (refl, refl, refl, refl))) in omega arith
+
+-- but it opens the pair, as each use does, and it is one at which the gateway goes on with the pair
+row_loose_opens : is_open pair_p (loose Zero 1 pair_p ∷ []) ≡ true
+unfolding same_pair same_key same_endpoint
+row_loose_opens = refl
+
+row_loose_goes_on : goes_on Zero pair_p (loose Zero 1 pair_p ∷ []) ≡ true
+unfolding same_pair same_key same_endpoint
+row_loose_goes_on = refl
+
+-- a use in an earlier life says nothing
 row_earlier_life : Idle (note Zero 5 (Released pair_p) ∷ note Zero 2 (Booted 2) ∷ note Zero 1 (Used pair_p) ∷ [])
 row_earlier_life = (λ u h. absurd (h.0 refl), (tt, (tt, tt)))
 
--- a use by the other gateway doesn't count
+-- a use by the other gateway says nothing
 row_other_gateway : Idle (note Zero 5 (Released pair_p) ∷ note One 1 (Used pair_p) ∷ [])
 row_other_gateway = (λ u h. elim h [ inl a ↦ absurd (let e : Zero ≡ One = a.0 in cc) | inr b ↦ absurd b ], (tt, tt))
 
@@ -131,7 +161,7 @@ row_no_early_drop m run =
     let had : was pair_p ≡ true = run_open was (note Zero 0 (Used pair_p) ∷ []) run.1 pair_p in
     let timely : AreTimely (cond (was pair_p) (Drop pair_p ∷ []) []) (note Zero 29999 (Released pair_p) ∷ note Zero 0 (Used pair_p) ∷ []) = run.3 in
     let dropped : AreTimely (Drop pair_p ∷ []) (note Zero 29999 (Released pair_p) ∷ note Zero 0 (Used pair_p) ∷ []) = subst (λ b. AreTimely (cond b (Drop pair_p ∷ []) []) (note Zero 29999 (Released pair_p) ∷ note Zero 0 (Used pair_p) ∷ [])) had timely in
-    let rested = dropped.0 Zero refl 0 (inl (refl, refl, refl)) in
+    let rested = dropped.0 Zero refl 0 (inl (refl, refl, refl, refl)) in
     let at : 29999 ≡ rested.0 = some_moment 29999 rested.0 rested.1 in
     let le : 0 + 30000 ≤ rested.0 = rested.2 in
     omega arith

@@ -38,21 +38,21 @@ and_yes false = refl
 quiet : {A : Type 0} (b : Bool) (x y : A) → y ≡ cond (b && false) x y
 quiet b x y = ap (λ c. cond c x y) (sym (and_no b))
 
-synced_step : (i j : GatewayId) (at : ℕ) (w : NoteKind) (b : Bool) (o : Option Note) → same i j ≡ b → synced_after i j w (synced_of i o) ≡ synced_of i (cond (same i j && is_state_word w) (Some (record { by = j; at = at; what = w })) o)
-synced_step i j at (Used p) b o e = ap (synced_of i) (quiet (same i j) (Some (record { by = j; at = at; what = Used p })) o)
-synced_step i j at (Released p) b o e = ap (synced_of i) (quiet (same i j) (Some (record { by = j; at = at; what = Released p })) o)
-synced_step i j at (Retaken p) b o e = ap (synced_of i) (quiet (same i j) (Some (record { by = j; at = at; what = Retaken p })) o)
-synced_step i j at (Alone p) b o e = ap (synced_of i) (quiet (same i j) (Some (record { by = j; at = at; what = Alone p })) o)
-synced_step i j at Synced true o e = rw e refl
-synced_step i j at Synced false o e = rw e refl
-synced_step i j at Crashed true o e = rw e refl
-synced_step i j at Crashed false o e = rw e refl
-synced_step i j at (Booted n) true o e = rw e refl
-synced_step i j at (Booted n) false o e = rw e refl
+synced_step : (i j : GatewayId) (at : ℕ) (m : Bool) (w : NoteKind) (b : Bool) (o : Option Note) → same i j ≡ b → synced_after i j w (synced_of i o) ≡ synced_of i (cond (same i j && is_state_word w) (Some (record { by = j; at = at; what = w; counts = m })) o)
+synced_step i j at m (Used p) b o e = ap (synced_of i) (quiet (same i j) (Some (record { by = j; at = at; what = Used p; counts = m })) o)
+synced_step i j at m (Released p) b o e = ap (synced_of i) (quiet (same i j) (Some (record { by = j; at = at; what = Released p; counts = m })) o)
+synced_step i j at m (Retaken p) b o e = ap (synced_of i) (quiet (same i j) (Some (record { by = j; at = at; what = Retaken p; counts = m })) o)
+synced_step i j at m (Alone p) b o e = ap (synced_of i) (quiet (same i j) (Some (record { by = j; at = at; what = Alone p; counts = m })) o)
+synced_step i j at m Synced true o e = rw e refl
+synced_step i j at m Synced false o e = rw e refl
+synced_step i j at m Crashed true o e = rw e refl
+synced_step i j at m Crashed false o e = rw e refl
+synced_step i j at m (Booted n) true o e = rw e refl
+synced_step i j at m (Booted n) false o e = rw e refl
 
 synced_last : (i : GatewayId) (t : List Note) → is_synced i t ≡ synced_of i (last_of (is_state i) t)
 synced_last i [] = refl
-synced_last i (n ∷ t) = ap (synced_after i n.by n.what) (synced_last i t) ∙ synced_step i n.by n.at n.what (same i n.by) (last_of (is_state i) t) refl
+synced_last i (n ∷ t) = ap (synced_after i n.by n.what) (synced_last i t) ∙ synced_step i n.by n.at n.counts n.what (same i n.by) (last_of (is_state i) t) refl
 
 synced_word : (w : NoteKind) → is_synced_word w ≡ true → w ≡ Synced
 synced_word (Used p) e = absurd (cc)
@@ -90,22 +90,22 @@ abbrev released_of : Option Note → Bool
 released_of None = false
 released_of (Some n) = is_released n.what
 
-released_step : (i : GatewayId) (p : Pair) (j : GatewayId) (at : ℕ) (w : NoteKind) (b : Bool) (o : Option Note) → (same i j && is_pair_word p w) ≡ b → released_after i p j w (released_of o) ≡ released_of (cond (same i j && is_pair_word p w) (Some (record { by = j; at = at; what = w })) o)
-released_step i p j at (Used q) true o e = rw e refl
-released_step i p j at (Used q) false o e = rw e refl
-released_step i p j at (Released q) true o e = rw e refl
-released_step i p j at (Released q) false o e = rw e refl
-released_step i p j at (Retaken q) true o e = rw e refl
-released_step i p j at (Alone q) true o e = rw e refl
-released_step i p j at (Retaken q) false o e = rw e refl
-released_step i p j at (Alone q) false o e = rw e refl
-released_step i p j at Synced b o e = ap released_of (quiet (same i j) (Some (record { by = j; at = at; what = Synced })) o)
-released_step i p j at Crashed b o e = ap released_of (quiet (same i j) (Some (record { by = j; at = at; what = Crashed })) o)
-released_step i p j at (Booted n) b o e = ap released_of (quiet (same i j) (Some (record { by = j; at = at; what = Booted n })) o)
+released_step : (i : GatewayId) (p : Pair) (j : GatewayId) (at : ℕ) (m : Bool) (w : NoteKind) (b : Bool) (o : Option Note) → (same i j && is_pair_word p w) ≡ b → released_after i p j w (released_of o) ≡ released_of (cond (same i j && is_pair_word p w) (Some (record { by = j; at = at; what = w; counts = m })) o)
+released_step i p j at m (Used q) true o e = rw e refl
+released_step i p j at m (Used q) false o e = rw e refl
+released_step i p j at m (Released q) true o e = rw e refl
+released_step i p j at m (Released q) false o e = rw e refl
+released_step i p j at m (Retaken q) true o e = rw e refl
+released_step i p j at m (Alone q) true o e = rw e refl
+released_step i p j at m (Retaken q) false o e = rw e refl
+released_step i p j at m (Alone q) false o e = rw e refl
+released_step i p j at m Synced b o e = ap released_of (quiet (same i j) (Some (record { by = j; at = at; what = Synced; counts = m })) o)
+released_step i p j at m Crashed b o e = ap released_of (quiet (same i j) (Some (record { by = j; at = at; what = Crashed; counts = m })) o)
+released_step i p j at m (Booted n) b o e = ap released_of (quiet (same i j) (Some (record { by = j; at = at; what = Booted n; counts = m })) o)
 
 released_last : (i : GatewayId) (p : Pair) (t : List Note) → has_released i p t ≡ released_of (last_of (is_on_pair i p) t)
 released_last i p [] = refl
-released_last i p (n ∷ t) = ap (released_after i p n.by n.what) (released_last i p t) ∙ released_step i p n.by n.at n.what (same i n.by && is_pair_word p n.what) (last_of (is_on_pair i p) t) refl
+released_last i p (n ∷ t) = ap (released_after i p n.by n.what) (released_last i p t) ∙ released_step i p n.by n.at n.counts n.what (same i n.by && is_pair_word p n.what) (last_of (is_on_pair i p) t) refl
 
 released_word : (p : Pair) (w : NoteKind) → is_pair_word p w ≡ true → is_released w ≡ true → w ≡ Released p
 released_word p (Used q) s e = absurd (cc)
@@ -147,25 +147,25 @@ or_no : (b : Bool) → (b || false) ≡ b
 or_no true = refl
 or_no false = refl
 
-goes_step : (i : GatewayId) (p : Pair) (j : GatewayId) (at : ℕ) (w : NoteKind) (b : Bool) (o : Option Note) → (same i j && (is_pair_word p w || is_boot_word w)) ≡ b → goes_after i p j w (goes_of o) ≡ goes_of (cond b (Some (record { by = j; at = at; what = w })) o)
-goes_step i p j at (Used q) true o e = ap (λ c. cond c true (goes_of o)) (ap (λ x. same i j && x) (sym (or_no (same_pair p q))) ∙ e)
-goes_step i p j at (Used q) false o e = ap (λ c. cond c true (goes_of o)) (ap (λ x. same i j && x) (sym (or_no (same_pair p q))) ∙ e)
-goes_step i p j at (Released q) true o e = ap (λ c. cond c false (goes_of o)) (ap (λ x. same i j && x) (sym (or_no (same_pair p q))) ∙ e)
-goes_step i p j at (Released q) false o e = ap (λ c. cond c false (goes_of o)) (ap (λ x. same i j && x) (sym (or_no (same_pair p q))) ∙ e)
-goes_step i p j at (Retaken q) true o e = ap (λ c. cond c true (goes_of o)) (ap (λ x. same i j && x) (sym (or_no (same_pair p q))) ∙ e)
-goes_step i p j at (Alone q) true o e = ap (λ c. cond c true (goes_of o)) (ap (λ x. same i j && x) (sym (or_no (same_pair p q))) ∙ e)
-goes_step i p j at (Retaken q) false o e = ap (λ c. cond c true (goes_of o)) (ap (λ x. same i j && x) (sym (or_no (same_pair p q))) ∙ e)
-goes_step i p j at (Alone q) false o e = ap (λ c. cond c true (goes_of o)) (ap (λ x. same i j && x) (sym (or_no (same_pair p q))) ∙ e)
-goes_step i p j at Synced true o e = absurd (both_ways (same i j && false) (and_no (same i j)) e)
-goes_step i p j at Synced false o e = refl
-goes_step i p j at Crashed true o e = absurd (both_ways (same i j && false) (and_no (same i j)) e)
-goes_step i p j at Crashed false o e = refl
-goes_step i p j at (Booted n) true o e = ap (λ c. cond c false (goes_of o)) (sym (and_yes (same i j)) ∙ e)
-goes_step i p j at (Booted n) false o e = ap (λ c. cond c false (goes_of o)) (sym (and_yes (same i j)) ∙ e)
+goes_step : (i : GatewayId) (p : Pair) (j : GatewayId) (at : ℕ) (m : Bool) (w : NoteKind) (b : Bool) (o : Option Note) → (same i j && (is_pair_word p w || is_boot_word w)) ≡ b → goes_after i p j w (goes_of o) ≡ goes_of (cond b (Some (record { by = j; at = at; what = w; counts = m })) o)
+goes_step i p j at m (Used q) true o e = ap (λ c. cond c true (goes_of o)) (ap (λ x. same i j && x) (sym (or_no (same_pair p q))) ∙ e)
+goes_step i p j at m (Used q) false o e = ap (λ c. cond c true (goes_of o)) (ap (λ x. same i j && x) (sym (or_no (same_pair p q))) ∙ e)
+goes_step i p j at m (Released q) true o e = ap (λ c. cond c false (goes_of o)) (ap (λ x. same i j && x) (sym (or_no (same_pair p q))) ∙ e)
+goes_step i p j at m (Released q) false o e = ap (λ c. cond c false (goes_of o)) (ap (λ x. same i j && x) (sym (or_no (same_pair p q))) ∙ e)
+goes_step i p j at m (Retaken q) true o e = ap (λ c. cond c true (goes_of o)) (ap (λ x. same i j && x) (sym (or_no (same_pair p q))) ∙ e)
+goes_step i p j at m (Alone q) true o e = ap (λ c. cond c true (goes_of o)) (ap (λ x. same i j && x) (sym (or_no (same_pair p q))) ∙ e)
+goes_step i p j at m (Retaken q) false o e = ap (λ c. cond c true (goes_of o)) (ap (λ x. same i j && x) (sym (or_no (same_pair p q))) ∙ e)
+goes_step i p j at m (Alone q) false o e = ap (λ c. cond c true (goes_of o)) (ap (λ x. same i j && x) (sym (or_no (same_pair p q))) ∙ e)
+goes_step i p j at m Synced true o e = absurd (both_ways (same i j && false) (and_no (same i j)) e)
+goes_step i p j at m Synced false o e = refl
+goes_step i p j at m Crashed true o e = absurd (both_ways (same i j && false) (and_no (same i j)) e)
+goes_step i p j at m Crashed false o e = refl
+goes_step i p j at m (Booted n) true o e = ap (λ c. cond c false (goes_of o)) (sym (and_yes (same i j)) ∙ e)
+goes_step i p j at m (Booted n) false o e = ap (λ c. cond c false (goes_of o)) (sym (and_yes (same i j)) ∙ e)
 
 goes_last : (i : GatewayId) (p : Pair) (t : List Note) → goes_on i p t ≡ goes_of (last_of (is_of_life i p) t)
 goes_last i p [] = refl
-goes_last i p (n ∷ t) = ap (goes_after i p n.by n.what) (goes_last i p t) ∙ goes_step i p n.by n.at n.what (same i n.by && (is_pair_word p n.what || is_boot_word n.what)) (last_of (is_of_life i p) t) refl
+goes_last i p (n ∷ t) = ap (goes_after i p n.by n.what) (goes_last i p t) ∙ goes_step i p n.by n.at n.counts n.what (same i n.by && (is_pair_word p n.what || is_boot_word n.what)) (last_of (is_of_life i p) t) refl
 
 on_word : (p : Pair) (w : NoteKind) → (is_pair_word p w || is_boot_word w) ≡ true → is_on_word w ≡ true → (w ≡ Used p) ⊎ ((w ≡ Retaken p) ⊎ (w ≡ Alone p))
 on_word p (Used q) s e = inl (ap (λ (x : Pair). Used x) (sym (pair-eq p q (sym (or_no (same_pair p q)) ∙ s))))
@@ -206,25 +206,25 @@ abbrev private_of : Option Note → Bool
 private_of None = false
 private_of (Some n) = is_alone n.what
 
-private_step : (i : GatewayId) (p : Pair) (j : GatewayId) (at : ℕ) (w : NoteKind) (b : Bool) (o : Option Note) → (same i j && (is_private_word p w || is_boot_word w)) ≡ b → private_after i p j w (private_of o) ≡ private_of (cond b (Some (record { by = j; at = at; what = w })) o)
-private_step i p j at (Used q) true o e = absurd (both_ways (same i j && false) (and_no (same i j)) e)
-private_step i p j at (Used q) false o e = refl
-private_step i p j at (Released q) true o e = ap (λ c. cond c false (private_of o)) (ap (λ x. same i j && x) (sym (or_no (same_pair p q))) ∙ e)
-private_step i p j at (Released q) false o e = ap (λ c. cond c false (private_of o)) (ap (λ x. same i j && x) (sym (or_no (same_pair p q))) ∙ e)
-private_step i p j at (Retaken q) true o e = ap (λ c. cond c false (private_of o)) (ap (λ x. same i j && x) (sym (or_no (same_pair p q))) ∙ e)
-private_step i p j at (Retaken q) false o e = ap (λ c. cond c false (private_of o)) (ap (λ x. same i j && x) (sym (or_no (same_pair p q))) ∙ e)
-private_step i p j at (Alone q) true o e = ap (λ c. cond c true (private_of o)) (ap (λ x. same i j && x) (sym (or_no (same_pair p q))) ∙ e)
-private_step i p j at (Alone q) false o e = ap (λ c. cond c true (private_of o)) (ap (λ x. same i j && x) (sym (or_no (same_pair p q))) ∙ e)
-private_step i p j at Synced true o e = absurd (both_ways (same i j && false) (and_no (same i j)) e)
-private_step i p j at Synced false o e = refl
-private_step i p j at Crashed true o e = absurd (both_ways (same i j && false) (and_no (same i j)) e)
-private_step i p j at Crashed false o e = refl
-private_step i p j at (Booted n) true o e = ap (λ c. cond c false (private_of o)) (sym (and_yes (same i j)) ∙ e)
-private_step i p j at (Booted n) false o e = ap (λ c. cond c false (private_of o)) (sym (and_yes (same i j)) ∙ e)
+private_step : (i : GatewayId) (p : Pair) (j : GatewayId) (at : ℕ) (m : Bool) (w : NoteKind) (b : Bool) (o : Option Note) → (same i j && (is_private_word p w || is_boot_word w)) ≡ b → private_after i p j w (private_of o) ≡ private_of (cond b (Some (record { by = j; at = at; what = w; counts = m })) o)
+private_step i p j at m (Used q) true o e = absurd (both_ways (same i j && false) (and_no (same i j)) e)
+private_step i p j at m (Used q) false o e = refl
+private_step i p j at m (Released q) true o e = ap (λ c. cond c false (private_of o)) (ap (λ x. same i j && x) (sym (or_no (same_pair p q))) ∙ e)
+private_step i p j at m (Released q) false o e = ap (λ c. cond c false (private_of o)) (ap (λ x. same i j && x) (sym (or_no (same_pair p q))) ∙ e)
+private_step i p j at m (Retaken q) true o e = ap (λ c. cond c false (private_of o)) (ap (λ x. same i j && x) (sym (or_no (same_pair p q))) ∙ e)
+private_step i p j at m (Retaken q) false o e = ap (λ c. cond c false (private_of o)) (ap (λ x. same i j && x) (sym (or_no (same_pair p q))) ∙ e)
+private_step i p j at m (Alone q) true o e = ap (λ c. cond c true (private_of o)) (ap (λ x. same i j && x) (sym (or_no (same_pair p q))) ∙ e)
+private_step i p j at m (Alone q) false o e = ap (λ c. cond c true (private_of o)) (ap (λ x. same i j && x) (sym (or_no (same_pair p q))) ∙ e)
+private_step i p j at m Synced true o e = absurd (both_ways (same i j && false) (and_no (same i j)) e)
+private_step i p j at m Synced false o e = refl
+private_step i p j at m Crashed true o e = absurd (both_ways (same i j && false) (and_no (same i j)) e)
+private_step i p j at m Crashed false o e = refl
+private_step i p j at m (Booted n) true o e = ap (λ c. cond c false (private_of o)) (sym (and_yes (same i j)) ∙ e)
+private_step i p j at m (Booted n) false o e = ap (λ c. cond c false (private_of o)) (sym (and_yes (same i j)) ∙ e)
 
 private_last : (i : GatewayId) (p : Pair) (t : List Note) → is_private i p t ≡ private_of (last_of (is_of_privacy i p) t)
 private_last i p [] = refl
-private_last i p (n ∷ t) = ap (private_after i p n.by n.what) (private_last i p t) ∙ private_step i p n.by n.at n.what (same i n.by && (is_private_word p n.what || is_boot_word n.what)) (last_of (is_of_privacy i p) t) refl
+private_last i p (n ∷ t) = ap (private_after i p n.by n.what) (private_last i p t) ∙ private_step i p n.by n.at n.counts n.what (same i n.by && (is_private_word p n.what || is_boot_word n.what)) (last_of (is_of_privacy i p) t) refl
 
 private_word : (p : Pair) (w : NoteKind) → (is_private_word p w || is_boot_word w) ≡ true → is_alone w ≡ true → w ≡ Alone p
 private_word p (Used q) s e = absurd (cc)
@@ -360,17 +360,17 @@ no_end : (p : Pair) (w : NoteKind) (A B : Type 0) → (w ≡ Released p → A �
 no_end p w A B a b (inl h) = a h.0 h.1
 no_end p w A B a b (inr h) = b h.0 h.1
 
-open_to : (p : Pair) (i : GatewayId) (at : ℕ) (w : NoteKind) (t : List Note) (b : Bool) → (IsTrue (is_open p t) → OpenSays p (reverse t)) → is_about p i w t ≡ b → open_after p w (is_agreed i p t) (is_only_at i p t) (is_open p t) ≡ true → OpenSays p (reverse t ++ record { by = i; at = at; what = w } ∷ [])
-open_to p i at (Used q) t true was e h = open_new p (reverse t) (record { by = i; at = at; what = Used q }) (ap (λ (x : Pair). Used x) (sym (pair-eq p q e)))
-open_to p i at (Used q) t false was e h = open_old p (reverse t) (record { by = i; at = at; what = Used q }) (was (sym (ap (λ b. cond b true (is_open p t)) e) ∙ h)) (no_end p (Used q) _ _ (λ d a. cc) (λ d a. cc))
-open_to p i at (Released q) t true was e h = absurd (let x : false ≡ true = sym (ap (λ b. cond b false (is_open p t)) e) ∙ h in cc)
-open_to p i at (Released q) t false was e h = open_old p (reverse t) (record { by = i; at = at; what = Released q }) (was (sym (ap (λ b. cond b false (is_open p t)) e) ∙ h)) (no_end p (Released q) _ _ (λ d a. both_ways (same_pair p q && is_agreed i p t) e (and_from (same_pair p q) (is_agreed i p t) (pair-true p q (released_same p q d)) ((agreed_so i p t).1 a))) (λ d a. cc))
-open_to p i at (Retaken q) t b was e h = open_old p (reverse t) (record { by = i; at = at; what = Retaken q }) (was h) (no_end p (Retaken q) _ _ (λ d a. cc) (λ d a. cc))
-open_to p i at (Alone q) t b was e h = open_old p (reverse t) (record { by = i; at = at; what = Alone q }) (was h) (no_end p (Alone q) _ _ (λ d a. cc) (λ d a. cc))
-open_to p i at Synced t b was e h = open_old p (reverse t) (record { by = i; at = at; what = Synced }) (was h) (no_end p Synced _ _ (λ d a. cc) (λ d a. cc))
-open_to p i at Crashed t true was e h = absurd (let x : false ≡ true = sym (ap (λ b. cond b false (is_open p t)) e) ∙ h in cc)
-open_to p i at Crashed t false was e h = open_old p (reverse t) (record { by = i; at = at; what = Crashed }) (was (sym (ap (λ b. cond b false (is_open p t)) e) ∙ h)) (no_end p Crashed _ _ (λ d a. cc) (λ d a. both_ways (is_only_at i p t) e ((only_so i p t).1 a)))
-open_to p i at (Booted n) t b was e h = open_old p (reverse t) (record { by = i; at = at; what = Booted n }) (was h) (no_end p (Booted n) _ _ (λ d a. cc) (λ d a. cc))
+open_to : (p : Pair) (i : GatewayId) (at : ℕ) (m : Bool) (w : NoteKind) (t : List Note) (b : Bool) → (IsTrue (is_open p t) → OpenSays p (reverse t)) → is_about p i w t ≡ b → open_after p w (is_agreed i p t) (is_only_at i p t) (is_open p t) ≡ true → OpenSays p (reverse t ++ record { by = i; at = at; what = w; counts = m } ∷ [])
+open_to p i at m (Used q) t true was e h = open_new p (reverse t) (record { by = i; at = at; what = Used q; counts = m }) (ap (λ (x : Pair). Used x) (sym (pair-eq p q e)))
+open_to p i at m (Used q) t false was e h = open_old p (reverse t) (record { by = i; at = at; what = Used q; counts = m }) (was (sym (ap (λ b. cond b true (is_open p t)) e) ∙ h)) (no_end p (Used q) _ _ (λ d a. cc) (λ d a. cc))
+open_to p i at m (Released q) t true was e h = absurd (let x : false ≡ true = sym (ap (λ b. cond b false (is_open p t)) e) ∙ h in cc)
+open_to p i at m (Released q) t false was e h = open_old p (reverse t) (record { by = i; at = at; what = Released q; counts = m }) (was (sym (ap (λ b. cond b false (is_open p t)) e) ∙ h)) (no_end p (Released q) _ _ (λ d a. both_ways (same_pair p q && is_agreed i p t) e (and_from (same_pair p q) (is_agreed i p t) (pair-true p q (released_same p q d)) ((agreed_so i p t).1 a))) (λ d a. cc))
+open_to p i at m (Retaken q) t b was e h = open_old p (reverse t) (record { by = i; at = at; what = Retaken q; counts = m }) (was h) (no_end p (Retaken q) _ _ (λ d a. cc) (λ d a. cc))
+open_to p i at m (Alone q) t b was e h = open_old p (reverse t) (record { by = i; at = at; what = Alone q; counts = m }) (was h) (no_end p (Alone q) _ _ (λ d a. cc) (λ d a. cc))
+open_to p i at m Synced t b was e h = open_old p (reverse t) (record { by = i; at = at; what = Synced; counts = m }) (was h) (no_end p Synced _ _ (λ d a. cc) (λ d a. cc))
+open_to p i at m Crashed t true was e h = absurd (let x : false ≡ true = sym (ap (λ b. cond b false (is_open p t)) e) ∙ h in cc)
+open_to p i at m Crashed t false was e h = open_old p (reverse t) (record { by = i; at = at; what = Crashed; counts = m }) (was (sym (ap (λ b. cond b false (is_open p t)) e) ∙ h)) (no_end p Crashed _ _ (λ d a. cc) (λ d a. both_ways (is_only_at i p t) e ((only_so i p t).1 a)))
+open_to p i at m (Booted n) t b was e h = open_old p (reverse t) (record { by = i; at = at; what = Booted n; counts = m }) (was h) (no_end p (Booted n) _ _ (λ d a. cc) (λ d a. cc))
 
 open_from : (p : Pair) (i : GatewayId) (w : NoteKind) (t : List Note) (b : Bool) → (OpenSays p (reverse t) → IsTrue (is_open p t)) → is_about p i w t ≡ b → (w ≡ Used p) ⊎ (OpenSays p (reverse t) × (((w ≡ Released p) × AgreedSays i p (reverse t)) ⊎ ((w ≡ Crashed) × OnlyAtSays i p (reverse t)) → ⊥)) → open_after p w (is_agreed i p t) (is_only_at i p t) (is_open p t) ≡ true
 open_from p i (Used q) t b was e (inl h) = ap (λ c. cond c true (is_open p t)) (pair-true p q (used_same p q h))
@@ -393,7 +393,7 @@ open_from p i (Booted n) t b was e (inr h) = was h.0
 pub open_so : (p : Pair) (t : List Note) → IsTrue (is_open p t) ↔ OpenSays p (reverse t)
 open_so p [] = (λ h. absurd (cc), λ h. absurd (none_open p h))
 open_so p (n ∷ t) = (
-  λ h. subst (λ (x : List Note). OpenSays p x) (sym (reverse_more n t)) (open_to p n.by n.at n.what t (is_about p n.by n.what t) (open_so p t).0 refl h),
+  λ h. subst (λ (x : List Note). OpenSays p x) (sym (reverse_more n t)) (open_to p n.by n.at n.counts n.what t (is_about p n.by n.what t) (open_so p t).0 refl h),
   λ h. open_from p n.by n.what t (is_about p n.by n.what t) (open_so p t).1 refl (open_less p (reverse t) n (subst (λ (x : List Note). OpenSays p x) (reverse_more n t) h)),
 )
 
@@ -412,36 +412,36 @@ each_less P xs n all = (
 none_each : (P : Note → List Note → Type 0) → Each P []
 none_each P k m at = absurd (cc)
 
-pub fits_here : (i : GatewayId) (at : ℕ) (w : NoteKind) (t : List Note) → FitsAt w t ↔ FitsHere (record { by = i; at = at; what = w }) (reverse t)
-fits_here i at (Used r) t = (λ f p q e o. subst (λ (x : Pair). DoFit q x) (sym (used_same p r e)) (f q ((open_so q t).1 o)), λ f q o. f r q refl ((open_so q t).0 o))
-fits_here i at (Released r) t = (λ f p q e o. absurd (cc), λ f. tt)
-fits_here i at (Retaken r) t = (λ f p q e o. absurd (cc), λ f. tt)
-fits_here i at (Alone r) t = (λ f p q e o. absurd (cc), λ f. tt)
-fits_here i at Synced t = (λ f p q e o. absurd (cc), λ f. tt)
-fits_here i at Crashed t = (λ f p q e o. absurd (cc), λ f. tt)
-fits_here i at (Booted n) t = (λ f p q e o. absurd (cc), λ f. tt)
+pub fits_here : (i : GatewayId) (at : ℕ) (m : Bool) (w : NoteKind) (t : List Note) → FitsAt w t ↔ FitsHere (record { by = i; at = at; what = w; counts = m }) (reverse t)
+fits_here i at m (Used r) t = (λ f p q e o. subst (λ (x : Pair). DoFit q x) (sym (used_same p r e)) (f q ((open_so q t).1 o)), λ f q o. f r q refl ((open_so q t).0 o))
+fits_here i at m (Released r) t = (λ f p q e o. absurd (cc), λ f. tt)
+fits_here i at m (Retaken r) t = (λ f p q e o. absurd (cc), λ f. tt)
+fits_here i at m (Alone r) t = (λ f p q e o. absurd (cc), λ f. tt)
+fits_here i at m Synced t = (λ f p q e o. absurd (cc), λ f. tt)
+fits_here i at m Crashed t = (λ f p q e o. absurd (cc), λ f. tt)
+fits_here i at m (Booted n) t = (λ f p q e o. absurd (cc), λ f. tt)
 
 pub fits_so : (t : List Note) → Fits t ↔ FitsSays (reverse t)
 fits_so [] = (λ f. none_each FitsHere, λ f. tt)
 fits_so (n ∷ t) = (
-  λ f. subst (Each FitsHere) (sym (reverse_more n t)) (each_more FitsHere (reverse t) n ((fits_so t).0 f.1) ((fits_here n.by n.at n.what t).0 f.0)),
-  λ f. let parts : FitsHere n (reverse t) × Each FitsHere (reverse t) = each_less FitsHere (reverse t) n (subst (Each FitsHere) (reverse_more n t) f) in ((fits_here n.by n.at n.what t).1 parts.0, (fits_so t).1 parts.1),
+  λ f. subst (Each FitsHere) (sym (reverse_more n t)) (each_more FitsHere (reverse t) n ((fits_so t).0 f.1) ((fits_here n.by n.at n.counts n.what t).0 f.0)),
+  λ f. let parts : FitsHere n (reverse t) × Each FitsHere (reverse t) = each_less FitsHere (reverse t) n (subst (Each FitsHere) (reverse_more n t) f) in ((fits_here n.by n.at n.counts n.what t).1 parts.0, (fits_so t).1 parts.1),
 )
 
-pub one_port_here : (i : GatewayId) (at : ℕ) (w : NoteKind) (t : List Note) → OnePortAt w t ↔ OnePortHere (record { by = i; at = at; what = w }) (reverse t)
-one_port_here i at (Used r) t = (λ f p q e o k. f q ((open_so q t).1 o) (k ∙ ap (λ (x : Pair). x.key) (used_same p r e)) ∙ sym (ap (λ (x : Pair). x.endpoint) (used_same p r e)), λ f q o. f r q refl ((open_so q t).0 o))
-one_port_here i at (Released r) t = (λ f p q e o. absurd (cc), λ f. tt)
-one_port_here i at (Retaken r) t = (λ f p q e o. absurd (cc), λ f. tt)
-one_port_here i at (Alone r) t = (λ f p q e o. absurd (cc), λ f. tt)
-one_port_here i at Synced t = (λ f p q e o. absurd (cc), λ f. tt)
-one_port_here i at Crashed t = (λ f p q e o. absurd (cc), λ f. tt)
-one_port_here i at (Booted n) t = (λ f p q e o. absurd (cc), λ f. tt)
+pub one_port_here : (i : GatewayId) (at : ℕ) (m : Bool) (w : NoteKind) (t : List Note) → OnePortAt w t ↔ OnePortHere (record { by = i; at = at; what = w; counts = m }) (reverse t)
+one_port_here i at m (Used r) t = (λ f p q e o k. f q ((open_so q t).1 o) (k ∙ ap (λ (x : Pair). x.key) (used_same p r e)) ∙ sym (ap (λ (x : Pair). x.endpoint) (used_same p r e)), λ f q o. f r q refl ((open_so q t).0 o))
+one_port_here i at m (Released r) t = (λ f p q e o. absurd (cc), λ f. tt)
+one_port_here i at m (Retaken r) t = (λ f p q e o. absurd (cc), λ f. tt)
+one_port_here i at m (Alone r) t = (λ f p q e o. absurd (cc), λ f. tt)
+one_port_here i at m Synced t = (λ f p q e o. absurd (cc), λ f. tt)
+one_port_here i at m Crashed t = (λ f p q e o. absurd (cc), λ f. tt)
+one_port_here i at m (Booted n) t = (λ f p q e o. absurd (cc), λ f. tt)
 
 pub one_port_so : (t : List Note) → OnePort t ↔ OnePortSays (reverse t)
 one_port_so [] = (λ f. none_each OnePortHere, λ f. tt)
 one_port_so (n ∷ t) = (
-  λ f. subst (Each OnePortHere) (sym (reverse_more n t)) (each_more OnePortHere (reverse t) n ((one_port_so t).0 f.1) ((one_port_here n.by n.at n.what t).0 f.0)),
-  λ f. let parts : OnePortHere n (reverse t) × Each OnePortHere (reverse t) = each_less OnePortHere (reverse t) n (subst (Each OnePortHere) (reverse_more n t) f) in ((one_port_here n.by n.at n.what t).1 parts.0, (one_port_so t).1 parts.1),
+  λ f. subst (Each OnePortHere) (sym (reverse_more n t)) (each_more OnePortHere (reverse t) n ((one_port_so t).0 f.1) ((one_port_here n.by n.at n.counts n.what t).0 f.0)),
+  λ f. let parts : OnePortHere n (reverse t) × Each OnePortHere (reverse t) = each_less OnePortHere (reverse t) n (subst (Each OnePortHere) (reverse_more n t) f) in ((one_port_here n.by n.at n.counts n.what t).1 parts.0, (one_port_so t).1 parts.1),
 )
 
 alone_either : (p q : Pair) (t : List Note) → IsTrue (was_alone p t || was_alone q t) → WasAloneSays p (reverse t) ⊎ WasAloneSays q (reverse t)
@@ -451,41 +451,41 @@ alone_both : (p q : Pair) (t : List Note) → WasAloneSays p (reverse t) ⊎ Was
 alone_both p q t (inl a) = or_left (was_alone p t) (was_alone q t) ((alone_so p t).1 a)
 alone_both p q t (inr a) = or_right (was_alone p t) (was_alone q t) ((alone_so q t).1 a)
 
-pub one_endpoint_here : (i : GatewayId) (at : ℕ) (w : NoteKind) (t : List Note) → OneEndpointAt w t ↔ OneEndpointHere (record { by = i; at = at; what = w }) (reverse t)
-one_endpoint_here i at (Used r) t = (
+pub one_endpoint_here : (i : GatewayId) (at : ℕ) (m : Bool) (w : NoteKind) (t : List Note) → OneEndpointAt w t ↔ OneEndpointHere (record { by = i; at = at; what = w; counts = m }) (reverse t)
+one_endpoint_here i at m (Used r) t = (
   λ f p q e o n k. let same_one : p ≡ r = used_same p r e in
       subst (λ (x : Pair). WasAloneSays x (reverse t) ⊎ WasAloneSays q (reverse t)) (sym same_one)
       (alone_either r q t (f q ((open_so q t).1 o) (n ∙ ap (λ (x : Pair). x.endpoint) same_one) (λ h. k (h ∙ sym (ap (λ (x : Pair). x.key) same_one))))),
   λ f q o n k. alone_both r q t (f r q refl ((open_so q t).0 o) n k),
 )
-one_endpoint_here i at (Released r) t = (λ f p q e o. absurd (cc), λ f. tt)
-one_endpoint_here i at (Retaken r) t = (λ f p q e o. absurd (cc), λ f. tt)
-one_endpoint_here i at (Alone r) t = (λ f p q e o. absurd (cc), λ f. tt)
-one_endpoint_here i at Synced t = (λ f p q e o. absurd (cc), λ f. tt)
-one_endpoint_here i at Crashed t = (λ f p q e o. absurd (cc), λ f. tt)
-one_endpoint_here i at (Booted n) t = (λ f p q e o. absurd (cc), λ f. tt)
+one_endpoint_here i at m (Released r) t = (λ f p q e o. absurd (cc), λ f. tt)
+one_endpoint_here i at m (Retaken r) t = (λ f p q e o. absurd (cc), λ f. tt)
+one_endpoint_here i at m (Alone r) t = (λ f p q e o. absurd (cc), λ f. tt)
+one_endpoint_here i at m Synced t = (λ f p q e o. absurd (cc), λ f. tt)
+one_endpoint_here i at m Crashed t = (λ f p q e o. absurd (cc), λ f. tt)
+one_endpoint_here i at m (Booted n) t = (λ f p q e o. absurd (cc), λ f. tt)
 
 pub one_endpoint_so : (t : List Note) → OneEndpoint t ↔ OneEndpointSays (reverse t)
 one_endpoint_so [] = (λ f. none_each OneEndpointHere, λ f. tt)
 one_endpoint_so (n ∷ t) = (
-  λ f. subst (Each OneEndpointHere) (sym (reverse_more n t)) (each_more OneEndpointHere (reverse t) n ((one_endpoint_so t).0 f.1) ((one_endpoint_here n.by n.at n.what t).0 f.0)),
-  λ f. let parts : OneEndpointHere n (reverse t) × Each OneEndpointHere (reverse t) = each_less OneEndpointHere (reverse t) n (subst (Each OneEndpointHere) (reverse_more n t) f) in ((one_endpoint_here n.by n.at n.what t).1 parts.0, (one_endpoint_so t).1 parts.1),
+  λ f. subst (Each OneEndpointHere) (sym (reverse_more n t)) (each_more OneEndpointHere (reverse t) n ((one_endpoint_so t).0 f.1) ((one_endpoint_here n.by n.at n.counts n.what t).0 f.0)),
+  λ f. let parts : OneEndpointHere n (reverse t) × Each OneEndpointHere (reverse t) = each_less OneEndpointHere (reverse t) n (subst (Each OneEndpointHere) (reverse_more n t) f) in ((one_endpoint_here n.by n.at n.counts n.what t).1 parts.0, (one_endpoint_so t).1 parts.1),
 )
 
-pub silent_here : (i : GatewayId) (at : ℕ) (w : NoteKind) (t : List Note) → SilentAt i w t ↔ SilentHere (record { by = i; at = at; what = w }) (reverse t)
-silent_here i at (Used r) t = (λ f p e. (synced_so i t).0 f, λ f. (synced_so i t).1 (f r refl))
-silent_here i at (Released r) t = (λ f p e. absurd (cc), λ f. tt)
-silent_here i at (Retaken r) t = (λ f p e. absurd (cc), λ f. tt)
-silent_here i at (Alone r) t = (λ f p e. absurd (cc), λ f. tt)
-silent_here i at Synced t = (λ f p e. absurd (cc), λ f. tt)
-silent_here i at Crashed t = (λ f p e. absurd (cc), λ f. tt)
-silent_here i at (Booted n) t = (λ f p e. absurd (cc), λ f. tt)
+pub silent_here : (i : GatewayId) (at : ℕ) (m : Bool) (w : NoteKind) (t : List Note) → SilentAt i w t ↔ SilentHere (record { by = i; at = at; what = w; counts = m }) (reverse t)
+silent_here i at m (Used r) t = (λ f p e. (synced_so i t).0 f, λ f. (synced_so i t).1 (f r refl))
+silent_here i at m (Released r) t = (λ f p e. absurd (cc), λ f. tt)
+silent_here i at m (Retaken r) t = (λ f p e. absurd (cc), λ f. tt)
+silent_here i at m (Alone r) t = (λ f p e. absurd (cc), λ f. tt)
+silent_here i at m Synced t = (λ f p e. absurd (cc), λ f. tt)
+silent_here i at m Crashed t = (λ f p e. absurd (cc), λ f. tt)
+silent_here i at m (Booted n) t = (λ f p e. absurd (cc), λ f. tt)
 
 pub silent_so : (t : List Note) → Silent t ↔ SilentSays (reverse t)
 silent_so [] = (λ f. none_each SilentHere, λ f. tt)
 silent_so (n ∷ t) = (
-  λ f. subst (Each SilentHere) (sym (reverse_more n t)) (each_more SilentHere (reverse t) n ((silent_so t).0 f.1) ((silent_here n.by n.at n.what t).0 f.0)),
-  λ f. let parts : SilentHere n (reverse t) × Each SilentHere (reverse t) = each_less SilentHere (reverse t) n (subst (Each SilentHere) (reverse_more n t) f) in ((silent_here n.by n.at n.what t).1 parts.0, (silent_so t).1 parts.1),
+  λ f. subst (Each SilentHere) (sym (reverse_more n t)) (each_more SilentHere (reverse t) n ((silent_so t).0 f.1) ((silent_here n.by n.at n.counts n.what t).0 f.0)),
+  λ f. let parts : SilentHere n (reverse t) × Each SilentHere (reverse t) = each_less SilentHere (reverse t) n (subst (Each SilentHere) (reverse_more n t) f) in ((silent_here n.by n.at n.counts n.what t).1 parts.0, (silent_so t).1 parts.1),
 )
 
 pub kept_so : (Holds : GatewayId → Pair → Type 0) (t : List Note) → ((p : Pair) → IsTrue (is_open p t) → (i : GatewayId) → IsTrue (is_synced i t) → Holds i p ⊎ IsHeldApart Holds p t) ↔ KeptSays Holds (reverse t)
@@ -494,15 +494,16 @@ kept_so Holds t = (
   λ h p o i s. elim (h p ((open_so p t).0 o) i ((synced_so i t).0 s)) [ inl a ↦ inl a | inr a ↦ inr (a.0, (synced_so a.0 t).1 a.1, (private_so a.0 p t).1 a.2, a.3) ],
 )
 
--- a use of the pair at the end of the trace is one in the present life
-use_new : (i : GatewayId) (p : Pair) (u : ℕ) (xs : List Note) (n : Note) → n.by ≡ i → n.what ≡ Used p → n.at ≡ u → UseSays i p u (xs ++ n ∷ [])
-use_new i p u xs n a b c = (
+-- a use of the pair that counts, at the end of the trace, is one in the present life
+use_new : (i : GatewayId) (p : Pair) (u : ℕ) (xs : List Note) (n : Note) → n.by ≡ i → n.what ≡ Used p → n.at ≡ u → IsTrue n.counts → UseSays i p u (xs ++ n ∷ [])
+use_new i p u xs n a b c d = (
   length xs,
   n,
   at_last xs n,
   a,
   b,
   c,
+  d,
   λ k m e lt at g w. elim (at_cases xs n k m at) [
     | inl old ↦ let w : k < length xs = at_within xs k m old in omega arith
     | inr new ↦ let w : k ≡ length xs = new.0 in omega arith
@@ -517,72 +518,73 @@ use_old i p u xs n o never = (
   o.3,
   o.4,
   o.5,
+  o.6,
   λ k m e lt at g w. elim (at_cases xs n k m at) [
-    | inl old ↦ o.6 k m e lt old g w
+    | inl old ↦ o.7 k m e lt old g w
     | inr new ↦ never e (ap (λ (x : Note). x.by) new.1 ∙ g) (ap (λ (x : Note). x.what) new.1 ∙ w)
   ],
 )
 
-use_less : (i : GatewayId) (p : Pair) (u : ℕ) (xs : List Note) (n : Note) → UseSays i p u (xs ++ n ∷ []) → ((n.by ≡ i) × (n.what ≡ Used p) × (n.at ≡ u)) ⊎ (UseSays i p u xs × ((b : ℕ) → n.by ≡ i → n.what ≡ Booted b → ⊥))
+use_less : (i : GatewayId) (p : Pair) (u : ℕ) (xs : List Note) (n : Note) → UseSays i p u (xs ++ n ∷ []) → ((n.by ≡ i) × (n.what ≡ Used p) × (n.at ≡ u) × IsTrue n.counts) ⊎ (UseSays i p u xs × ((b : ℕ) → n.by ≡ i → n.what ≡ Booted b → ⊥))
 use_less i p u xs n o = elim (at_cases xs n o.0 o.1 o.2) [
   | inl old ↦ inr (
-    (o.0, o.1, old, o.3, o.4, o.5, λ k m e lt at g w. o.6 k m e lt (at_old xs (n ∷ []) k m at) g w),
-    λ b g w. o.6 (length xs) n b (at_within xs o.0 o.1 old) (at_last xs n) g w,
+    (o.0, o.1, old, o.3, o.4, o.5, o.6, λ k m e lt at g w. o.7 k m e lt (at_old xs (n ∷ []) k m at) g w),
+    λ b g w. o.7 (length xs) n b (at_within xs o.0 o.1 old) (at_last xs n) g w,
   )
-  | inr new ↦ inl (ap (λ (x : Note). x.by) new.1 ∙ o.3, ap (λ (x : Note). x.what) new.1 ∙ o.4, ap (λ (x : Note). x.at) new.1 ∙ o.5)
+  | inr new ↦ inl (ap (λ (x : Note). x.by) new.1 ∙ o.3, ap (λ (x : Note). x.what) new.1 ∙ o.4, ap (λ (x : Note). x.at) new.1 ∙ o.5, ap (λ (x : Note). x.counts) new.1 ∙ o.6)
 ]
 
 none_used : (i : GatewayId) (p : Pair) (u : ℕ) → UseSays i p u [] → ⊥
 none_used i p u o = let h : None ≡ Some o.1 = o.2 in cc
 
-use_to : (i : GatewayId) (p : Pair) (u : ℕ) (j : GatewayId) (at : ℕ) (w : NoteKind) (t : List Note) → (UsedInLife i p u t → UseSays i p u (reverse t)) → UsesAt i p u j at w (UsedInLife i p u t) → UseSays i p u (reverse t ++ record { by = j; at = at; what = w } ∷ [])
-use_to i p u j at (Used q) t was (inl h) = use_new i p u (reverse t) (record { by = j; at = at; what = Used q }) (sym h.0) (ap (λ (x : Pair). Used x) (sym h.1)) (sym h.2)
-use_to i p u j at (Used q) t was (inr h) = use_old i p u (reverse t) (record { by = j; at = at; what = Used q }) (was h) (λ b g w. absurd (cc))
-use_to i p u j at (Released q) t was h = use_old i p u (reverse t) (record { by = j; at = at; what = Released q }) (was h) (λ b g w. absurd (cc))
-use_to i p u j at (Retaken q) t was h = use_old i p u (reverse t) (record { by = j; at = at; what = Retaken q }) (was h) (λ b g w. absurd (cc))
-use_to i p u j at (Alone q) t was h = use_old i p u (reverse t) (record { by = j; at = at; what = Alone q }) (was h) (λ b g w. absurd (cc))
-use_to i p u j at Synced t was h = use_old i p u (reverse t) (record { by = j; at = at; what = Synced }) (was h) (λ b g w. absurd (cc))
-use_to i p u j at Crashed t was h = use_old i p u (reverse t) (record { by = j; at = at; what = Crashed }) (was h) (λ b g w. absurd (cc))
-use_to i p u j at (Booted n) t was h = use_old i p u (reverse t) (record { by = j; at = at; what = Booted n }) (was h.1) (λ b g w. h.0 (sym g))
+use_to : (i : GatewayId) (p : Pair) (u : ℕ) (j : GatewayId) (at : ℕ) (m : Bool) (w : NoteKind) (t : List Note) → (UsedInLife i p u t → UseSays i p u (reverse t)) → UsesAt i p u j at m w (UsedInLife i p u t) → UseSays i p u (reverse t ++ record { by = j; at = at; what = w; counts = m } ∷ [])
+use_to i p u j at m (Used q) t was (inl h) = use_new i p u (reverse t) (record { by = j; at = at; what = Used q; counts = m }) (sym h.0) (ap (λ (x : Pair). Used x) (sym h.1)) (sym h.2) h.3
+use_to i p u j at m (Used q) t was (inr h) = use_old i p u (reverse t) (record { by = j; at = at; what = Used q; counts = m }) (was h) (λ b g w. absurd (cc))
+use_to i p u j at m (Released q) t was h = use_old i p u (reverse t) (record { by = j; at = at; what = Released q; counts = m }) (was h) (λ b g w. absurd (cc))
+use_to i p u j at m (Retaken q) t was h = use_old i p u (reverse t) (record { by = j; at = at; what = Retaken q; counts = m }) (was h) (λ b g w. absurd (cc))
+use_to i p u j at m (Alone q) t was h = use_old i p u (reverse t) (record { by = j; at = at; what = Alone q; counts = m }) (was h) (λ b g w. absurd (cc))
+use_to i p u j at m Synced t was h = use_old i p u (reverse t) (record { by = j; at = at; what = Synced; counts = m }) (was h) (λ b g w. absurd (cc))
+use_to i p u j at m Crashed t was h = use_old i p u (reverse t) (record { by = j; at = at; what = Crashed; counts = m }) (was h) (λ b g w. absurd (cc))
+use_to i p u j at m (Booted n) t was h = use_old i p u (reverse t) (record { by = j; at = at; what = Booted n; counts = m }) (was h.1) (λ b g w. h.0 (sym g))
 
-use_from : (i : GatewayId) (p : Pair) (u : ℕ) (j : GatewayId) (at : ℕ) (w : NoteKind) (t : List Note) → (UseSays i p u (reverse t) → UsedInLife i p u t) → ((j ≡ i) × (w ≡ Used p) × (at ≡ u)) ⊎ (UseSays i p u (reverse t) × ((b : ℕ) → j ≡ i → w ≡ Booted b → ⊥)) → UsesAt i p u j at w (UsedInLife i p u t)
-use_from i p u j at (Used q) t was (inl h) = inl (sym h.0, used_same p q h.1, sym h.2)
-use_from i p u j at (Used q) t was (inr h) = inr (was h.0)
-use_from i p u j at (Released q) t was (inl h) = absurd (let x : Released q ≡ Used p = h.1 in cc)
-use_from i p u j at (Released q) t was (inr h) = was h.0
-use_from i p u j at (Retaken q) t was (inl h) = absurd (let x : Retaken q ≡ Used p = h.1 in cc)
-use_from i p u j at (Alone q) t was (inl h) = absurd (let x : Alone q ≡ Used p = h.1 in cc)
-use_from i p u j at (Retaken q) t was (inr h) = was h.0
-use_from i p u j at (Alone q) t was (inr h) = was h.0
-use_from i p u j at Synced t was (inl h) = absurd (let x : Synced ≡ Used p = h.1 in cc)
-use_from i p u j at Synced t was (inr h) = was h.0
-use_from i p u j at Crashed t was (inl h) = absurd (let x : Crashed ≡ Used p = h.1 in cc)
-use_from i p u j at Crashed t was (inr h) = was h.0
-use_from i p u j at (Booted n) t was (inl h) = absurd (let x : Booted n ≡ Used p = h.1 in cc)
-use_from i p u j at (Booted n) t was (inr h) = (λ g. h.1 n (sym g) refl, was h.0)
+use_from : (i : GatewayId) (p : Pair) (u : ℕ) (j : GatewayId) (at : ℕ) (m : Bool) (w : NoteKind) (t : List Note) → (UseSays i p u (reverse t) → UsedInLife i p u t) → ((j ≡ i) × (w ≡ Used p) × (at ≡ u) × IsTrue m) ⊎ (UseSays i p u (reverse t) × ((b : ℕ) → j ≡ i → w ≡ Booted b → ⊥)) → UsesAt i p u j at m w (UsedInLife i p u t)
+use_from i p u j at m (Used q) t was (inl h) = inl (sym h.0, used_same p q h.1, sym h.2, h.3)
+use_from i p u j at m (Used q) t was (inr h) = inr (was h.0)
+use_from i p u j at m (Released q) t was (inl h) = absurd (let x : Released q ≡ Used p = h.1 in cc)
+use_from i p u j at m (Released q) t was (inr h) = was h.0
+use_from i p u j at m (Retaken q) t was (inl h) = absurd (let x : Retaken q ≡ Used p = h.1 in cc)
+use_from i p u j at m (Alone q) t was (inl h) = absurd (let x : Alone q ≡ Used p = h.1 in cc)
+use_from i p u j at m (Retaken q) t was (inr h) = was h.0
+use_from i p u j at m (Alone q) t was (inr h) = was h.0
+use_from i p u j at m Synced t was (inl h) = absurd (let x : Synced ≡ Used p = h.1 in cc)
+use_from i p u j at m Synced t was (inr h) = was h.0
+use_from i p u j at m Crashed t was (inl h) = absurd (let x : Crashed ≡ Used p = h.1 in cc)
+use_from i p u j at m Crashed t was (inr h) = was h.0
+use_from i p u j at m (Booted n) t was (inl h) = absurd (let x : Booted n ≡ Used p = h.1 in cc)
+use_from i p u j at m (Booted n) t was (inr h) = (λ g. h.1 n (sym g) refl, was h.0)
 
 pub use_so : (i : GatewayId) (p : Pair) (u : ℕ) (t : List Note) → UsedInLife i p u t ↔ UseSays i p u (reverse t)
 use_so i p u [] = (λ h. absurd h, λ h. none_used i p u h)
 use_so i p u (n ∷ t) = (
-  λ h. subst (λ (x : List Note). UseSays i p u x) (sym (reverse_more n t)) (use_to i p u n.by n.at n.what t (use_so i p u t).0 h),
-  λ h. use_from i p u n.by n.at n.what t (use_so i p u t).1 (use_less i p u (reverse t) n (subst (λ (x : List Note). UseSays i p u x) (reverse_more n t) h)),
+  λ h. subst (λ (x : List Note). UseSays i p u x) (sym (reverse_more n t)) (use_to i p u n.by n.at n.counts n.what t (use_so i p u t).0 h),
+  λ h. use_from i p u n.by n.at n.counts n.what t (use_so i p u t).1 (use_less i p u (reverse t) n (subst (λ (x : List Note). UseSays i p u x) (reverse_more n t) h)),
 )
 
-idle_here : (i : GatewayId) (at : ℕ) (w : NoteKind) (t : List Note) → IdleAt i at w t ↔ IdleHere (record { by = i; at = at; what = w }) (reverse t)
-idle_here i at (Used r) t = (λ f p u e o. absurd (cc), λ f. tt)
-idle_here i at (Released r) t = (
+idle_here : (i : GatewayId) (at : ℕ) (m : Bool) (w : NoteKind) (t : List Note) → IdleAt i at w t ↔ IdleHere (record { by = i; at = at; what = w; counts = m }) (reverse t)
+idle_here i at m (Used r) t = (λ f p u e o. absurd (cc), λ f. tt)
+idle_here i at m (Released r) t = (
   λ f p u e o. let h : u + rest_of r.key.protocol ≤ at = f u ((use_so i r u t).1 (subst (λ (x : Pair). UseSays i x u (reverse t)) (released_same p r e) o)) in subst (λ (x : Pair). u + rest_of x.key.protocol ≤ at) (sym (released_same p r e)) h,
   λ f u o. f r u refl ((use_so i r u t).0 o),
 )
-idle_here i at (Retaken r) t = (λ f p u e o. absurd (cc), λ f. tt)
-idle_here i at (Alone r) t = (λ f p u e o. absurd (cc), λ f. tt)
-idle_here i at Synced t = (λ f p u e o. absurd (cc), λ f. tt)
-idle_here i at Crashed t = (λ f p u e o. absurd (cc), λ f. tt)
-idle_here i at (Booted n) t = (λ f p u e o. absurd (cc), λ f. tt)
+idle_here i at m (Retaken r) t = (λ f p u e o. absurd (cc), λ f. tt)
+idle_here i at m (Alone r) t = (λ f p u e o. absurd (cc), λ f. tt)
+idle_here i at m Synced t = (λ f p u e o. absurd (cc), λ f. tt)
+idle_here i at m Crashed t = (λ f p u e o. absurd (cc), λ f. tt)
+idle_here i at m (Booted n) t = (λ f p u e o. absurd (cc), λ f. tt)
 
 pub idle_so : (t : List Note) → Idle t ↔ IdleSays (reverse t)
 idle_so [] = (λ f. none_each IdleHere, λ f. tt)
 idle_so (n ∷ t) = (
-  λ f. subst (Each IdleHere) (sym (reverse_more n t)) (each_more IdleHere (reverse t) n ((idle_so t).0 f.1) ((idle_here n.by n.at n.what t).0 f.0)),
-  λ f. let parts : IdleHere n (reverse t) × Each IdleHere (reverse t) = each_less IdleHere (reverse t) n (subst (Each IdleHere) (reverse_more n t) f) in ((idle_here n.by n.at n.what t).1 parts.0, (idle_so t).1 parts.1),
+  λ f. subst (Each IdleHere) (sym (reverse_more n t)) (each_more IdleHere (reverse t) n ((idle_so t).0 f.1) ((idle_here n.by n.at n.counts n.what t).0 f.0)),
+  λ f. let parts : IdleHere n (reverse t) × Each IdleHere (reverse t) = each_less IdleHere (reverse t) n (subst (Each IdleHere) (reverse_more n t) f) in ((idle_here n.by n.at n.counts n.what t).1 parts.0, (idle_so t).1 parts.1),
 )

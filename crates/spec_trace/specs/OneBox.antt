@@ -1,6 +1,7 @@
 -- One box: a map from keys to endpoints, carried along a run of moves. It is one to one, save for the endpoints of
 -- pairs that were alone. Of the two gateways a run uses which of them are synced, which deletions are agreed, which
--- pairs are lost with a box and which were alone, and when each gateway used and last released a pair.
+-- pairs are lost with a box and which were alone, when the uses of a pair were that count, and when each gateway last
+-- released it.
 use Rattle.std.specs.Prelude.{◌≡◌, ℕ, ◌+◌, ◌≤◌, Bool, false, not, ◌&&◌, ◌||◌, cond, List, [], ◌∷◌, IsTrue, Option, Some, None, reverse}
 use Rattle.nat_types.specs.declared.gateways.GatewayId.{GatewayId}
 use Rattle.nat_types.specs.declared.pairs.Pair.{Pair}
@@ -78,8 +79,8 @@ last_release gateway pair [] = None
 last_release gateway pair (note ∷ notes) =
     release_after gateway pair note.by note.at note.what (last_release gateway pair notes)
 
--- each use of the pair by the gateway in its present life is at least the pair's rest before the gateway's last release
--- of it
+-- each use of the pair that counts, by the gateway in its present life, is at least the pair's rest before the
+-- gateway's last release of it
 abbrev pub HasRested : GatewayId → Pair → List Note → Type 0
 HasRested gateway pair notes =
     (use_at : ℕ) → UsedInLife gateway pair use_at notes →

@@ -1,7 +1,8 @@
 -- The words on a trace, as recursions over its notes: each list of notes has the newest first. A word has two
 -- definitions: what one more note changes, and the recursion. A note tells that a gateway used, released or retook a
 -- pair, or goes on with it alone, without the other's answer; that it became synced, crashed, or booted. A life of a
--- gateway lasts from a boot, or from the founding, to the next boot.
+-- gateway lasts from a boot, or from the founding, to the next boot. Each note has a mark that says whether a use
+-- counts; the words on rest alone look at it, those from UsesAt on.
 use Rattle.std.specs.Prelude.{◌≡◌, ℕ, ◌+◌, ◌≤◌, Bool, true, false, not, ◌&&◌, ◌||◌, cond, List, [], ◌∷◌, IsTrue, ◌↔◌, ◌⊎◌}
 use Rattle.nat_types.specs.declared.gateways.GatewayId.{GatewayId}
 use Rattle.nat_types.specs.declared.gateways.GatewayId.TheVariants.{Zero}
@@ -236,31 +237,32 @@ GoesOn Translates notes =
     (gateway : GatewayId) → IsTrue (is_synced gateway notes) → (pair : Pair) →
     (IsTrue (goes_on gateway pair notes) ↔ Translates gateway pair)
 
--- the rest of a pair by its protocol, in centiseconds: how long it is unused before it may be let go
+-- the rest of a pair by its protocol, in centiseconds: how long after its last use that counts it may be let go
 abbrev pub rest_of : Protocol → ℕ
 rest_of Icmp = 6000
 rest_of Tcp = 24000
 rest_of Udp = 30000
 
--- a note of the gateway `by` at time `at` is a use of the pair by `gateway` at time `use_at`, or there is such a use
--- before it in the same life
-abbrev pub UsesAt : GatewayId → Pair → ℕ → GatewayId → ℕ → NoteKind → Type 0 → Type 0
-UsesAt gateway pair use_at by at (Used noted) before =
-    ((gateway ≡ by) × (pair ≡ noted) × (use_at ≡ at)) ⊎ before
-UsesAt gateway pair use_at by at (Released noted) before = before
-UsesAt gateway pair use_at by at (Retaken noted) before = before
-UsesAt gateway pair use_at by at (Alone noted) before = before
-UsesAt gateway pair use_at by at Synced before = before
-UsesAt gateway pair use_at by at Crashed before = before
-UsesAt gateway pair use_at by at (Booted number) before = (gateway ≡ by → ⊥) × before
+-- A note of the gateway `by` at time `at` is a use of the pair by `gateway` at time `use_at` that counts, or there is
+-- such a use before it in the same life. `counts` is the note's mark.
+abbrev pub UsesAt : GatewayId → Pair → ℕ → GatewayId → ℕ → Bool → NoteKind → Type 0 → Type 0
+UsesAt gateway pair use_at by at counts (Used noted) before =
+    ((gateway ≡ by) × (pair ≡ noted) × (use_at ≡ at) × IsTrue counts) ⊎ before
+UsesAt gateway pair use_at by at counts (Released noted) before = before
+UsesAt gateway pair use_at by at counts (Retaken noted) before = before
+UsesAt gateway pair use_at by at counts (Alone noted) before = before
+UsesAt gateway pair use_at by at counts Synced before = before
+UsesAt gateway pair use_at by at counts Crashed before = before
+UsesAt gateway pair use_at by at counts (Booted number) before = (gateway ≡ by → ⊥) × before
 
--- the gateway used the pair at time `use_at`, in its present life
+-- the gateway used the pair at time `use_at`, in its present life, and the use counts
 abbrev pub UsedInLife : GatewayId → Pair → ℕ → List Note → Type 0
 UsedInLife gateway pair use_at [] = ⊥
 UsedInLife gateway pair use_at (note ∷ notes) =
-    UsesAt gateway pair use_at note.by note.at note.what (UsedInLife gateway pair use_at notes)
+    UsesAt gateway pair use_at note.by note.at note.counts note.what
+    (UsedInLife gateway pair use_at notes)
 
--- each use of the pair by the gateway in its present life is at least the pair's rest before `now`
+-- each use of the pair that counts, by the gateway in its present life, is at least the pair's rest before `now`
 abbrev pub IsIdle : GatewayId → Pair → ℕ → List Note → Type 0
 IsIdle gateway pair now notes =
     (use_at : ℕ) → UsedInLife gateway pair use_at notes → use_at + rest_of pair.key.protocol ≤ now

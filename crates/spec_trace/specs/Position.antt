@@ -210,15 +210,15 @@ TranslatesSays Translates trace =
     (gateway : GatewayId) → SyncedSays gateway trace → (pair : Pair) →
     (GoesOnSays gateway pair trace ↔ Translates gateway pair)
 
--- the gateway has a Used note of the pair at time `use_at`, and didn't boot since
+-- the gateway has a Used note of the pair at time `use_at` that counts, and didn't boot since
 abbrev pub UseSays : GatewayId → Pair → ℕ → List Note → Type 0
 UseSays gateway pair use_at trace =
     (j : ℕ) × (note : Note) × (note_at trace j ≡ Some note) × (note.by ≡ gateway)
-    × (note.what ≡ Used pair) × (note.at ≡ use_at)
+    × (note.what ≡ Used pair) × (note.at ≡ use_at) × IsTrue note.counts
     × ((k : ℕ) (later : Note) (number : ℕ) → j < k → note_at trace k ≡ Some later →
     later.by ≡ gateway → later.what ≡ Booted number → ⊥)
 
--- a release of a pair comes at least its rest after each use of it by the same gateway in the same life
+-- a release of a pair comes at least its rest after each use of it that counts, by the same gateway in the same life
 abbrev pub IdleHere : Note → List Note → Type 0
 IdleHere note before =
     (pair : Pair) (use_at : ℕ) → note.what ≡ Released pair → UseSays note.by pair use_at before →

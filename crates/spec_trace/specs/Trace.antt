@@ -69,6 +69,6 @@ AtMostTwo Holds trace = past.AtMostTwo Holds (reverse trace)
 abbrev pub GoesOn : (GatewayId → Pair → Type 0) → List Note → Type 0
 GoesOn Translates trace = past.GoesOn Translates (reverse trace)
 
--- Idle: no gateway releases a pair that it used, in the same life, less than the pair's rest before
+-- Idle: no gateway releases a pair less than the pair's rest after a use that counts, of its own and in the same life
 abbrev pub Idle : List Note → Type 0
 Idle trace = past.Idle (reverse trace)

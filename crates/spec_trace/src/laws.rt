@@ -104,8 +104,8 @@ pub fn goes_on_by_position()
         ↔ TranslatesSays (λ i p. IsTrue (translates i p)) t }
 {}
 
-/// A trace is idle exactly where each release comes at least the pair's rest after each use of the pair by the same
-/// gateway in the same life.
+/// A trace is idle exactly where each release comes at least the pair's rest after each use of the pair that counts, by
+/// the same gateway in the same life.
 pub fn idle_by_position()
     ensures { (t : List Note) → Idle t ↔ IdleSays t }
 {}
@@ -176,8 +176,8 @@ pub fn none_is_private()
 
 /// A trace of One port and One endpoint that is idle is a run of one box. One box is a map from keys to endpoints, one
 /// to one save for pairs that were alone. A use is of a pair in the map, which is allotted just before where the map
-/// doesn't have it. An agreed deletion drops the pair, which has then rested at each synced gateway. A crash loses the
-/// pairs that are lost with that box.
+/// doesn't have it. An agreed deletion drops the pair, which has then rested from all uses that count at each synced
+/// gateway. A crash loses the pairs that are lost with that box.
 pub fn is_one_box()
     ensures { (t : List Note) → OnePort t → OneEndpoint t → Idle t → IsOneBox t }
 {}

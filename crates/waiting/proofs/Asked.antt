@@ -6,7 +6,7 @@ use Rattle.std.proofs.lemmas.List.Sums.{sum_by-cons}
 use Rattle.waiting.specs.declared.waits.Ended.{Ended}
 use Rattle.waiting.specs.declared.waits.WaitsFor.{WaitsFor}
 use Rattle.waiting.specs.declared.waits.WaitsFor.TheVariants.{Pair, Hop}
-use Rattle.waiting.specs.Waits.{ends, is_for_pair, same_wait}
+use Rattle.waiting.specs.Waits.{ends, is_for_host, is_for_pair, same_wait}
 use Rattle.waiting.specs.Packets.{AreApart, HeldPacket, IsKept, asked_packet, ended_by, hop_count, is_young, left_by, with_asked, with_room, without_first_hop}
 
 -- f doesn't depend on the time at which a next hop was asked for
@@ -107,6 +107,7 @@ apart-asked now wait ws once i j d less within =
 pub kept-asked : (now : ℕ) (wait : WaitsFor) (ws : List HeldPacket) → IsKept ws → IsKept (with_asked now wait ws)
 kept-asked now wait ws is = record {
   pairs = omega (arith, sum-asked (λ (w : HeldPacket). cond (is_for_pair w.wait) 1 0) (λ w n. refl) now wait ws, is.pairs);
+  shares = λ address. omega (arith, sum-asked (λ (w : HeldPacket). cond (is_for_host address w.wait) 1 0) (λ w n. refl) now wait ws, is.shares address);
   hops = omega (arith, sum-asked (λ (w : HeldPacket). cond (not (is_for_pair w.wait)) 1 0) (λ w n. refl) now wait ws, is.hops);
   once = apart-asked now wait ws is.once;
 }

@@ -1,7 +1,7 @@
 -- The invariant of the list of waiting packets.
-use Rattle.std.proofs.Common.{◌≡◌, ℕ, zero, suc, ◌+◌, ◌-◌, ◌≤◌, ◌<◌, Bool, true, false, ◌||◌, not, cond, nat_lt, ap, Option, Some, None, List, [], ◌∷◌, ◌++◌, length, get_or, refl, arith}
+use Rattle.std.proofs.Common.{◌≡◌, ℕ, zero, suc, ◌+◌, ◌-◌, ◌≤◌, ◌<◌, Bool, true, false, ◌||◌, not, cond, nat_lt, ap, Option, Some, None, List, [], ◌∷◌, ◌++◌, length, get_or, refl, ◌∙◌, subst, sym, arith}
 use Rattle.std.specs.List.{filter, list_any, position, remove}
-use Rattle.std.proofs.lemmas.Bool.{and_parts, ltb-true, not-true, both_ways}
+use Rattle.std.proofs.lemmas.Bool.{and_parts, eqb-true, ltb-true, not-true, both_ways}
 use Rattle.std.proofs.lemmas.List.Filters.{length-filter_both, sum_by-filter_both}
 use Rattle.std.proofs.lemmas.List.Folds.{list_any_at}
 use Rattle.std.proofs.lemmas.List.Kept.{AllPairs-filter}
@@ -10,8 +10,8 @@ use Rattle.std.proofs.lemmas.List.Sums.{length-filter, sum_by-cons, sum_by_push}
 use Rattle.nat_types.specs.declared.pairs.Endpoint.{Endpoint}
 use Rattle.waiting.specs.declared.waits.WaitsFor.{WaitsFor}
 use Rattle.waiting.specs.declared.waits.WaitsFor.TheVariants.{Pair, Hop}
-use Rattle.waiting.specs.Waits.{is_for_pair, same_wait}
-use Rattle.waiting.specs.Packets.{AreApart, HeldPacket, IsKept, has_place, has_room, hop_count, pair_count, with_room, without_first_hop}
+use Rattle.waiting.specs.Waits.{is_for_host, is_for_pair, same_wait}
+use Rattle.waiting.specs.Packets.{AreApart, HeldPacket, IsKept, has_place, has_room, hop_count, host_count, pair_count, with_room, without_first_hop}
 use Rattle.waiting.proofs.Singles.{passes-none}
 
 -- each packet waits for a pair or for a next hop
@@ -70,6 +70,22 @@ pairs-left (w ∷ ws) = by (is_for_pair w.wait) refl (pairs-left ws)
     by true is rest = omega (arith, sum_by-cons f w (without_first_hop ws), sum_by-cons f w ws, rest)
     by false is rest = omega (arith, sum_by-cons f w ws, ap {B = ℕ} (λ (t : Bool). cond t 1 0) is)
 
+-- what waits for no pair waits for none of an inside address
+no-host : (address : ℕ) (wait : WaitsFor) → is_for_pair wait ≡ false → is_for_host address wait ≡ false
+no-host address (Pair endpoint) e = cc
+no-host address (Hop side host) e = refl
+
+shares-left : (address : ℕ) (ws : List HeldPacket) → host_count address (without_first_hop ws) ≡ host_count address ws
+shares-left address [] = refl
+shares-left address (w ∷ ws) = by (is_for_pair w.wait) refl (shares-left address ws)
+  where
+    f : HeldPacket → ℕ
+    f v = cond (is_for_host address v.wait) 1 0
+
+    by : (b : Bool) → is_for_pair w.wait ≡ b → host_count address (without_first_hop ws) ≡ host_count address ws → host_count address (cond b (w ∷ without_first_hop ws) ws) ≡ host_count address (w ∷ ws)
+    by true is rest = omega (arith, sum_by-cons f w (without_first_hop ws), sum_by-cons f w ws, rest)
+    by false is rest = omega (arith, sum_by-cons f w ws, ap {B = ℕ} (λ (t : Bool). cond t 1 0) (no-host address w.wait is))
+
 hops-left : (ws : List HeldPacket) → hop_count (without_first_hop ws) ≡ hop_count ws - 1
 hops-left [] = refl
 hops-left (w ∷ ws) = by (is_for_pair w.wait) refl (hops-left ws)
@@ -108,6 +124,7 @@ hop-room true kept few is = (is, ltb-true _ _ few)
 hop-room false kept many is = (
   record {
     pairs = omega (arith, pairs-left kept, is.pairs);
+    shares = λ address. omega (arith, shares-left address kept, is.shares address);
     hops = omega (arith, hops-left kept, is.hops);
     once = apart-left kept is.once;
   },
@@ -126,11 +143,16 @@ none-in-room (Hop side host) p kept none = by (nat_lt (hop_count kept) 64)
     by true = none
     by false = none-left p kept none
 
--- where a pair has a place, fewer than 64 packets wait for pairs
-pair-few : (kept : List HeldPacket) (endpoint : Endpoint) → has_place kept (Pair endpoint) ≡ true → pair_count kept < 64
-pair-few kept endpoint place =
+-- where a pair has a place, fewer than 64 packets wait for pairs, and fewer than 16 of its inside address
+pair-room : (kept : List HeldPacket) (endpoint : Endpoint) → has_place kept (Pair endpoint) ≡ true → (pair_count kept < 64) × (host_count endpoint.address.0 kept < 16)
+pair-room kept endpoint place =
     let test : Bool = list_any (λ (w : HeldPacket). same_wait w.wait (Pair endpoint)) kept in
-    ltb-true _ _ (and_parts (nat_lt (pair_count kept) 64) (not test) place).0
+    let room = (and_parts (has_room (Pair endpoint) kept) (not test) place).0 in
+    let both = and_parts (nat_lt (pair_count kept) 64) (nat_lt (host_count endpoint.address.0 kept) 16) room in
+    (ltb-true _ _ both.0, ltb-true _ _ both.1)
+
+pair-few : (kept : List HeldPacket) (endpoint : Endpoint) → has_place kept (Pair endpoint) ≡ true → pair_count kept < 64
+pair-few kept endpoint place = (pair-room kept endpoint place).0
 
 pub place-room : (kept : List HeldPacket) (wait : WaitsFor) → IsKept kept → has_place kept wait ≡ true → length (with_room wait kept) < 128
 place-room kept (Pair endpoint) is place = omega (arith, counts-length kept, pair-few kept endpoint place, is.hops)
@@ -164,12 +186,32 @@ counts-push kept w (Hop side host) for place is =
     let h = sum_by_push (λ (v : HeldPacket). cond (not (is_for_pair v.wait)) 1 0) (with_room (Hop side host) kept) w in
     (omega (arith, rw hop at p, room.0.pairs), omega (arith, rw hop at h, room.1))
 
+-- at most 16 of an inside address wait for pairs, with one more
+shares-push : (kept : List HeldPacket) (w : HeldPacket) (wait : WaitsFor) → w.wait ≡ wait → has_place kept wait ≡ true → IsKept kept → (address : ℕ) → host_count address (with_room wait kept ++ w ∷ []) ≤ 16
+shares-push kept w (Pair endpoint) for place is address = by (is_for_host address w.wait) refl
+  where
+    f : HeldPacket → ℕ
+    f v = cond (is_for_host address v.wait) 1 0
+
+    by : (b : Bool) → is_for_host address w.wait ≡ b → host_count address (kept ++ w ∷ []) ≤ 16
+    by true is_of =
+        let same : endpoint.address.0 ≡ address = eqb-true _ _ (ap (is_for_host address) (sym for) ∙ is_of) in
+        let few : host_count address kept < 16 = subst (λ (a : ℕ). host_count a kept < 16) same (pair-room kept endpoint place).1 in
+        omega (arith, rw is_of at (sum_by_push f kept w), few)
+    by false isnt = omega (arith, rw isnt at (sum_by_push f kept w), is.shares address)
+shares-push kept w (Hop side host) for place is address =
+    let none : is_for_host address w.wait ≡ false = ap (is_for_host address) for in
+    let room = hop-room (nat_lt (hop_count kept) 64) kept refl is in
+    let p = sum_by_push (λ (v : HeldPacket). cond (is_for_host address v.wait) 1 0) (with_room (Hop side host) kept) w in
+    omega (arith, rw none at p, room.0.shares address)
+
 -- the invariant holds with one more packet, where it has a place
 pub kept-push : (kept : List HeldPacket) (w : HeldPacket) → IsKept kept → has_place kept w.wait ≡ true → IsKept (with_room w.wait kept ++ w ∷ [])
 kept-push kept w is place =
     let counts = counts-push kept w w.wait refl place is in
     record {
       pairs = counts.0;
+      shares = shares-push kept w w.wait refl place is;
       hops = counts.1;
       once = all_pairs_push (λ (a b : HeldPacket). same_wait a.wait b.wait ≡ false) (with_room w.wait kept) w (room-kept w.wait kept is).once (apart kept w.wait place);
     }
@@ -178,6 +220,7 @@ kept-push kept w is place =
 pub kept-filter : (p : HeldPacket → Bool) (kept : List HeldPacket) → IsKept kept → IsKept (filter p kept)
 kept-filter p kept is = record {
   pairs = omega (arith, sum_by-filter_both p (λ (w : HeldPacket). not (p w)) (λ _. refl) (λ (w : HeldPacket). cond (is_for_pair w.wait) 1 0) kept, is.pairs);
+  shares = λ address. omega (arith, sum_by-filter_both p (λ (w : HeldPacket). not (p w)) (λ _. refl) (λ (w : HeldPacket). cond (is_for_host address w.wait) 1 0) kept, is.shares address);
   hops = omega (arith, sum_by-filter_both p (λ (w : HeldPacket). not (p w)) (λ _. refl) (λ (w : HeldPacket). cond (not (is_for_pair w.wait)) 1 0) kept, is.hops);
   once = AllPairs-filter (λ (a b : HeldPacket). same_wait a.wait b.wait ≡ false) p kept is.once;
 }

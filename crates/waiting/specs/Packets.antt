@@ -5,7 +5,7 @@ use Rattle.nat_types.specs.declared.gateways.Side.{Side}
 use Rattle.waiting.specs.declared.waits.WaitsFor.{WaitsFor}
 use Rattle.waiting.specs.declared.waits.WaitsFor.TheVariants.{Pair, Hop}
 use Rattle.waiting.specs.declared.waits.Ended.{Ended}
-use Rattle.waiting.specs.Waits.{is_for_pair, same_wait, ends}
+use Rattle.waiting.specs.Waits.{is_for_host, is_for_pair, same_wait, ends}
 
 -- a packet that waits: the side on which it came in, its bytes, since when it waits, for what, and when its next hop was
 -- last asked for (of a packet that waits for a pair: since when it waits)
@@ -35,9 +35,15 @@ pair_count kept = count_by (λ packet. is_for_pair packet.wait) kept
 abbrev pub hop_count : List HeldPacket → ℕ
 hop_count kept = count_by (λ packet. not (is_for_pair packet.wait)) kept
 
--- whether one more packet may wait for this: for a pair where fewer than 64 do, for a next hop always
+-- how many packets of an inside address wait for pairs
+abbrev pub host_count : ℕ → List HeldPacket → ℕ
+host_count address kept = count_by (λ packet. is_for_host address packet.wait) kept
+
+-- whether one more packet may wait for this: for a pair where fewer than 64 do, and fewer than 16 of its inside address; for
+-- a next hop always
 abbrev pub has_room : WaitsFor → List HeldPacket → Bool
-has_room (Pair endpoint) kept = nat_lt (pair_count kept) 64
+has_room (Pair endpoint) kept =
+    nat_lt (pair_count kept) 64 && nat_lt (host_count endpoint.address.0 kept) 16
 has_room (Hop side host) kept = true
 
 -- whether a packet that waits for this can be kept: it may wait, and none waits for the same
@@ -86,8 +92,10 @@ listed (Some packet) = packet ∷ []
 abbrev pub AreApart : List HeldPacket → Type 0
 AreApart kept = AllPairs (λ a b. same_wait a.wait b.wait ≡ false) kept
 
--- the invariant of a list: at most 64 wait for pairs and 64 for next hops, and no two for the same
+-- the invariant of a list: at most 64 wait for pairs, 16 of one inside address, and 64 for next hops, and no two for the
+-- same
 pub record IsKept (kept : List HeldPacket) : Type 0 where
   pub pairs : pair_count kept ≤ 64
+  pub shares : (address : ℕ) → host_count address kept ≤ 16
   pub hops : hop_count kept ≤ 64
   pub once : AllPairs (λ a b. same_wait a.wait b.wait ≡ false) kept

@@ -1,5 +1,5 @@
 -- The things that packets wait for, and the ends of these waits.
-use Rattle.std.specs.Prelude.{Bool, true, false, ◌&&◌, ◌==◌}
+use Rattle.std.specs.Prelude.{ℕ, Bool, true, false, ◌&&◌, ◌==◌}
 use Rattle.nat_types.specs.Same.{same_endpoint}
 use Rattle.nat_types.specs.declared.gateways.Side.{Side}
 use Rattle.nat_types.specs.declared.gateways.Side.TheVariants.{Inside, Outside}
@@ -17,6 +17,11 @@ same_side Outside Outside = true
 abbrev pub is_for_pair : WaitsFor → Bool
 is_for_pair (Pair endpoint) = true
 is_for_pair (Hop side host) = false
+
+-- whether a packet waits for the pair of an endpoint with this inside address
+abbrev pub is_for_host : ℕ → WaitsFor → Bool
+is_for_host address (Pair endpoint) = endpoint.address.0 == address
+is_for_host address (Hop side host) = false
 
 -- whether both wait for the pair of one endpoint, or for one host on one side
 abbrev pub same_wait : WaitsFor → WaitsFor → Bool

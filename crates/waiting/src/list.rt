@@ -4,7 +4,7 @@ ghost use Rattle.std.specs.Prelude.{vec_len, vec_capacity, position};
 ghost use Rattle.std.specs.List.{filter, list_any, AllPass};
 ghost use Rattle.waiting.specs.Waits.{is_for_pair, same_wait, ends};
 ghost use Rattle.waiting.specs.declared.waits.Ended.TheVariants.{One, AllPairs};
-ghost use Rattle.waiting.specs.Packets.{is_young, has_place, has_room, pair_count, hop_count, ended_by, left_by, IsKept};
+ghost use Rattle.waiting.specs.Packets.{is_young, has_place, has_room, pair_count, host_count, hop_count, ended_by, left_by, IsKept};
 ghost use Rattle.waiting.specs.Packets.{beyond, octets_in};
 ghost use Rattle.waiting.specs.Packets.{without_first_hop, with_room, asks_again, with_asked};
 ghost use Rattle.waiting.specs.Packets.{AreApart, listed};
@@ -13,12 +13,16 @@ ghost use Rattle.waiting.specs.Memory.{LacksCopy, LacksPackets};
 
 use crate::buffers::{LONGEST_FRAME, SpareBuffers};
 use crate::{Ended, WaitsFor};
+use addresses::Ip;
 use nat_types::Side;
 use std::alloc::{AllocError, Global};
 use std::marker::Model;
 
 /// The most packets that may wait for pairs, and the most that may wait for next hops.
 const PLACES: usize = 64;
+
+/// The most packets of one inside address that may wait for pairs.
+const SHARE: usize = 16;
 
 /// The time after which a next hop is asked for again, in centiseconds.
 const ASKED_AFTER: u64 = 100;
@@ -106,7 +110,7 @@ impl HeldPacket {
 }
 
 /// The packets that wait, in the order in which they were kept: at most 64 for pairs, one for each
-/// endpoint, and at most 64 for next hops, one for each side and address. The buffers of packets
+/// endpoint and 16 of one inside address, and at most 64 for next hops, one for each side and address. The buffers of packets
 /// that no longer wait are used again.
 #[derive(Debug, Drop)]
 pub struct WaitingPackets {
@@ -135,6 +139,16 @@ fn pair_count(packets: &[HeldPacket]) -> usize
         .count()
 }
 
+/// Returns how many packets of an inside address wait for pairs.
+fn host_count(packets: &[HeldPacket], address: Ip) -> usize
+    ensures { result ≡ host_count address.0 packets.now }
+{
+    packets
+        .iter()
+        .filter(|packet| packet.wait.is_for_host(address))
+        .count()
+}
+
 /// Returns how many packets wait for next hops.
 fn hop_count(packets: &[HeldPacket]) -> usize
     ensures { result ≡ hop_count packets.now }
@@ -158,13 +172,15 @@ fn octets_of(packets: &[HeldPacket]) -> usize
     total
 }
 
-/// Whether one more packet may wait for this: for a pair where fewer than 64 do, for a next hop
-/// always.
+/// Whether one more packet may wait for this: for a pair where fewer than 64 do, and fewer than 16
+/// of its inside address; for a next hop always.
 fn has_room(packets: &[HeldPacket], wait: WaitsFor) -> bool
     ensures { result ≡ has_room wait packets.now }
 {
     match wait {
-        WaitsFor::Pair(_) => pair_count(packets) < PLACES,
+        WaitsFor::Pair(endpoint) => {
+            pair_count(packets) < PLACES && host_count(packets, endpoint.address) < SHARE
+        }
         WaitsFor::Hop(..) => true,
     }
 }
@@ -367,7 +383,7 @@ impl WaitingPackets {
     }
 
     /// Whether a packet that waits for this can be kept: none waits for the same, and of those for
-    /// pairs there are fewer than 64.
+    /// pairs there are fewer than 64, and fewer than 16 of its inside address.
     pub fn has_place(&self, wait: WaitsFor) -> bool
         ensures { result ≡ has_place self.now wait }
     {

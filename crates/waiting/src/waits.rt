@@ -1,7 +1,7 @@
 //! The things that packets wait for, and the ends of these waits.
 ghost use Rattle.std.specs.Prelude.{◌≡◌};
 ghost use Rattle.nat_types.specs.Same.{same_endpoint};
-ghost use Rattle.waiting.specs.Waits.{same_side, is_for_pair, same_wait, ends};
+ghost use Rattle.waiting.specs.Waits.{same_side, is_for_host, is_for_pair, same_wait, ends};
 
 use addresses::Ip;
 use nat_types::{Endpoint, Side};
@@ -44,6 +44,16 @@ impl WaitsFor {
     {
         match self {
             WaitsFor::Pair(_) => true,
+            WaitsFor::Hop(..) => false,
+        }
+    }
+
+    /// Whether the packet waits for the pair of an endpoint with this inside address.
+    pub(crate) fn is_for_host(self, address: Ip) -> bool
+        ensures { result ≡ is_for_host address.0 self }
+    {
+        match self {
+            WaitsFor::Pair(endpoint) => endpoint.address == address,
             WaitsFor::Hop(..) => false,
         }
     }

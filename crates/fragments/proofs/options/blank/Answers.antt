@@ -1,7 +1,8 @@
 use Rattle.std.proofs.Common.{◌≡◌, ◌+◌, ◌-◌, ◌<◌, ◌≤◌, ℕ, length, take, drop, ap, ◌∙◌, sym, arith}
 use borrow.Rule.Slice.PartMut.{put_mid}
 use Rattle.std.proofs.lemmas.List.{length-take-le, take_rest}
-use Rattle.fragments.specs.Options.{option_later, option_size}
+use Rattle.ipv4.specs.Options.{option_size}
+use Rattle.fragments.specs.Options.{option_later}
 use Rattle.fragments.proofs.Later.{blanking-ends, blanking-goes, blanking-past}
 use Rattle.fragments.proofs.options.blank.Goals as goal
 

@@ -24,7 +24,7 @@ returns-clause-gateway c =
       pushed = go.pushed;
       places = rw (lasts.zero, lasts.one) (lasts.capacity ∙ g.places);
       house = rw (lasts.networks, lasts.inside, lasts.outside) g.house;
-      settled = c.steps_settle.ensures s c.args.event s2 step g.settled;
+      settled = c.steps_settle.ensures.settled s c.args.event s2 step g.settled;
     }
 
 pub returns-clause-stays : goal.returns-clause-stays

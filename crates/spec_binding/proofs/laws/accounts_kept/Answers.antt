@@ -5,10 +5,10 @@ use Rattle.spec_binding.proofs.Settling.{lone-accounts, begun-accounts, carried-
 use Rattle.spec_binding.proofs.laws.accounts_kept.Goals as goal
 
 pub returns-clause-begun : goal.returns-clause-begun
-returns-clause-begun c = λ now id zero one limit alone hashers h none idle. begun-accounts now (empty_book id zero one limit alone) hashers h refl none idle
+returns-clause-begun c = λ now id zero one limit alone refresh hashers h none idle. begun-accounts now (empty_book id zero one limit alone) refresh hashers h refl none idle
 
 pub returns-clause-founded : goal.returns-clause-founded
-returns-clause-founded c = λ now zero one limit alone hashers h none idle. begun-accounts now (founded_book zero one limit alone) hashers h refl none idle
+returns-clause-founded c = λ now zero one limit alone refresh hashers h none idle. begun-accounts now (founded_book zero one limit alone) refresh hashers h refl none idle
 
 pub returns-clause-later : goal.returns-clause-later
 returns-clause-later c = later-accounts

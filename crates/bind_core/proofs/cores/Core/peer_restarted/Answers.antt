@@ -32,7 +32,7 @@ promised c =
     ∙ sym (restarted-synced (book_of c.args.self.now) (sym c.is_synced.ensures ∙ c.if-is_synced.true))
 
 pub returns-then-is_synced-clause-ledger : goal.returns-then-is_synced-clause-ledger
-returns-then-is_synced-clause-ledger c = restarted-ledger c.args.self.now c.revive.new.self (sym c.is_synced.ensures ∙ c.if-is_synced.true) (promised c) c.revive.ensures.lives c.revive.ensures.hashers
+returns-then-is_synced-clause-ledger c = restarted-ledger c.args.self.now c.revive.new.self (sym c.is_synced.ensures ∙ c.if-is_synced.true) (promised c) c.revive.ensures.lives c.revive.ensures.refresh c.revive.ensures.hashers
 
 pub returns-then-is_synced-clause-link : goal.returns-then-is_synced-clause-link
 returns-then-is_synced-clause-link c =
@@ -55,7 +55,7 @@ returns-then-is_synced-clause-works c = λ e h n l agrees boot greater from.
 pub returns-else-is_synced-clause-ledger : goal.returns-else-is_synced-clause-ledger
 returns-else-is_synced-clause-ledger c =
     let bare = sym c.is_synced.ensures ∙ c.if-is_synced.false in
-    bare-ledger c.args.self.now c.forget.new.self bare (c.forget.ensures.book ∙ sym (restarted-bare (book_of c.args.self.now) bare)) c.forget.ensures.lives c.forget.ensures.hashers
+    bare-ledger c.args.self.now c.forget.new.self bare (c.forget.ensures.book ∙ sym (restarted-bare (book_of c.args.self.now) bare)) c.forget.ensures.lives c.forget.ensures.refresh c.forget.ensures.hashers
 
 pub returns-else-is_synced-clause-link : goal.returns-else-is_synced-clause-link
 returns-else-is_synced-clause-link c = sym (link-bare (book_of c.args.self.now) c.args.link.now (sym c.is_synced.ensures ∙ c.if-is_synced.false))

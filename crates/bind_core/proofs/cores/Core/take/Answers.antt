@@ -13,7 +13,7 @@ pub returns-then-is_synced-clause-ready : goal.returns-then-is_synced-clause-rea
 returns-then-is_synced-clause-ready c = ready-then c.args.now c.args.self.now c.take_synced.new.self (row_of (book_of c.args.self.now) (rests_for c.args.now (ledger_of c.args.self.now) c.args.entry) c.args.entry) c.take_synced.ensures.core
 
 pub returns-else-is_synced-clause-ledger : goal.returns-else-is_synced-clause-ledger
-returns-else-is_synced-clause-ledger c = loaded-ledger c.args.now c.args.self.now c.load.new.self c.args.entry (sym c.is_synced.ensures ∙ c.if-is_synced.false) c.load.ensures.book c.load.ensures.lives c.load.ensures.hashers
+returns-else-is_synced-clause-ledger c = loaded-ledger c.args.now c.args.self.now c.load.new.self c.args.entry (sym c.is_synced.ensures ∙ c.if-is_synced.false) c.load.ensures.book c.load.ensures.lives c.load.ensures.refresh c.load.ensures.hashers
 
 pub returns-then-is_synced-clause-ended : goal.returns-then-is_synced-clause-ended
 returns-then-is_synced-clause-ended c =

@@ -27,8 +27,8 @@ invariant_of-result c =
 pub returns-clause-ledger : goal.returns-clause-ledger
 returns-clause-ledger c =
     let t = c.in_ok-table.ensures in
-    ap (λ (b : Book). let l : Ledger = record { book = b; lives = c.in_ok-table.table.lives; hashers = c.in_ok-table.table.hashers } in l) (empty-is c.args.id c.args.zero c.args.one c.args.limit c.args.alone c.in_ok-table.table c.new-2.result t.zero t.one t.entries t.owned c.new-2.ensures)
-    ∙ ap (λ (u : Table). let l : Ledger = record { book = empty_book c.args.id c.args.zero c.args.one c.args.limit c.args.alone; lives = u.lives; hashers = u.hashers } in l) t.empty
+    ap (λ (b : Book). let l : Ledger = record { book = b; lives = c.in_ok-table.table.lives; inward_refresh = c.args.inward_refresh; hashers = c.in_ok-table.table.hashers } in l) (empty-is c.args.id c.args.zero c.args.one c.args.limit c.args.alone c.in_ok-table.table c.new-2.result t.zero t.one t.entries t.owned c.new-2.ensures)
+    ∙ ap (λ (u : Table). let l : Ledger = record { book = empty_book c.args.id c.args.zero c.args.one c.args.limit c.args.alone; lives = u.lives; inward_refresh = c.args.inward_refresh; hashers = u.hashers } in l) t.empty
 
 pub returns-clause-hashers : goal.returns-clause-hashers
 returns-clause-hashers c = c.in_ok-table.ensures.hashers

@@ -1,0 +1,44 @@
+"""The worked rows, whose output comes from outside: whether this reading of the rules has the same, as far as it goes."""
+
+import pathlib
+import tomllib
+
+import lines
+import settings
+from world import World
+
+
+def parted(said):
+    """What the program prints before the rows, and of them."""
+    place = said.index("\n== ") + 1
+    return said[:place], said[place:]
+
+
+def is_read(path):
+    """Whether this reading has all that the settings want: no ICMP of the boxes' own, and no pairs made alone."""
+    with open(path, "rb") as file:
+        text = tomllib.load(file)
+    return "icmp" not in text and not text["ports"].get("alone")
+
+
+def owed(folder, name, path):
+    """What a row prints."""
+    world = World(settings.read(path))
+    for event in lines.read((folder / f"{name}.script").read_text()):
+        world.apply(event)
+    world.end()
+    return "".join(line + "\n" for line in world.lines) + f"status 0\naudit passed {world.count}\n"
+
+
+def agree(folder, said):
+    """Whether each row that this reading can read is as it has it; tells of those that aren't."""
+    wrong = []
+    for row in said.split("== ")[1:]:
+        head, _, text = row.partition("\n")
+        name, by = head.split(" ")
+        path = pathlib.Path(folder) / f"{by}.toml"
+        if is_read(path) and owed(pathlib.Path(folder), name, path) != text:
+            wrong.append(name)
+    for name in wrong:
+        print(f"the worked row {name} isn't as the second reading has it")
+    return not wrong

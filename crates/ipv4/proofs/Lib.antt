@@ -1,0 +1,3 @@
+mod Grammar
+mod Routes
+pub mod Offered

@@ -1,0 +1,292 @@
+"""What a stranger or a single host can do to a pair: with each guard and without it.
+
+Where a guard is a setting, both are tried by one program. Where it is none, what there was before it is shown by a
+program of a release before, where one is named.
+"""
+
+import argparse
+import socket
+import subprocess
+import time
+from typing import NamedTuple
+
+import guards_sim
+from cards import card
+from download import follow
+from flows import PORT
+from packets import ARP, Advert, Station, arp_reply, arp_request, ip_bytes, is_arp
+from pair import FOLDER, HOSTS, PYTHON, ROUTER, SERVER
+from rates import LOAD_PORT, serve_load
+from scene import Probe, scene, settings_with, show
+from wires import mac_of
+
+# So long the world is looked at behind an attack that lasts.
+PATIENCE = 20
+# Whoever isn't answered for so many seconds is silent; what is asked again at once is answered within so many.
+SILENT, HEALED = 0.5, 1.6
+ATTACKER = bytes.fromhex("020000000066")
+# A network with room for more hosts than a box keeps neighbours, and how fast they speak, for how long.
+WIDE_INSIDE = ("prefix = 24\nvrid = 11", "prefix = 16\nvrid = 11")
+SENDERS, FLOOD_RATE, FLOOD_SECONDS = 60_000, 20_000, 4
+# Questions a second of the hosts meanwhile. A box that forgot them asks for them more often than for each once.
+ASKED = 500
+# One host's new flows, and then those of each other host, while the other box stands still for so many seconds.
+FIRST, OTHERS, STILL = 100, 6, 1.0
+PEER_ONLY = ("[gateway_0]", "[vrrp]\npeer_only = true\n\n[gateway_0]")
+OUTWARD_ALONE = ("one = [40000, 59999]", "one = [40000, 59999]\ninward_refresh = false")
+
+
+class Way(NamedTuple):
+    """One way to run an attack: by which program, with which changes of the settings, and whether the guard is there."""
+
+    name: str
+    program: str
+    changes: tuple
+    is_guarded: bool
+
+
+class Line(NamedTuple):
+    """A row of the table."""
+
+    attack: str
+    way: str
+    owed: str
+    seen: str
+    holds: bool
+
+
+def by_setting(options, change, *always):
+    """The guard is a setting: without it, and with it."""
+    return [Way("setting off", options.program, always, False),
+            Way("setting on", options.program, (change, *always), True)]
+
+
+def by_program(options, *always):
+    """The guard is no setting: the program before it, where there is one, and today's."""
+    before = [Way("before", options.older, always, False)] if options.older else []
+    return [*before, Way("today", options.program, always, True)]
+
+
+def with_program(options, program):
+    return argparse.Namespace(**{**vars(options), "program": program})
+
+
+def in_scene(options, way, attack):
+    """What an attack on a fresh pair comes to."""
+    with settings_with(*way.changes) as file:
+        with scene(with_program(options, way.program), options.capture, bool(options.capture), file) as current:
+            found = attack(current)
+            current.tell_drops()
+            return found
+
+
+class Silence:
+    """A UDP flow that asks each 20 ms, and for how long it wasn't answered behind an attack."""
+
+    def __init__(self, current):
+        self.current = current
+        self.probe = Probe(current)
+        follow(current, self.probe, lambda: self.probe.flow.answered > 10, 10)
+
+    def behind(self, attack):
+        """The longest time without an answer, of PATIENCE seconds; these are over early where it was answered again."""
+        self.probe.gap, self.probe.last = 0.0, time.monotonic()
+        attack()
+        follow(self.current, self.probe, lambda: self.probe.gap > SILENT, PATIENCE)
+        follow(self.current, self.probe, lambda: False, 2 * HEALED)
+        return max(self.probe.gap, time.monotonic() - self.probe.last)
+
+
+def card_of(current, space):
+    with space.entered():
+        sock = card("eth0")
+    current.stack.callback(sock.close)
+    return sock
+
+
+def forged_router(current):
+    """One ARP reply to box 0 that says that the router has another MAC."""
+    own = current.networks.settings["gateway_0"]
+    asked = bytes(22) + mac_of(own["outside_mac"]) + ip_bytes(own["outside_ip"])
+    frame = arp_reply(Station("outside", ROUTER, ATTACKER), asked)
+    sock = card_of(current, current.networks.router)
+    return Silence(current).behind(lambda: sock.send(frame))
+
+
+def told_silence(seconds):
+    return f"no answer for {seconds:.1f} s" if seconds > SILENT else "answered all the time"
+
+
+def router(options):
+    """A forged ARP reply for the router, of which the hosts' network knows nothing."""
+    for way in by_program(options):
+        seconds = in_scene(options, way, forged_router)
+        owed = f"answered again within {HEALED} s" if way.is_guarded else f"silent for {PATIENCE} s and more"
+        holds = seconds < HEALED if way.is_guarded else seconds > PATIENCE - SILENT
+        yield Line("forged ARP for the router", way.name, owed, told_silence(seconds), holds)
+
+
+def forged_advertisement(current):
+    """One advertisement of the highest priority and the longest interval, from a host inside."""
+    inside = current.networks.settings["inside"]
+    frame = Advert(inside["vrid"], 255, "192.168.1.66", inside["virtual"], interval=4095).frame()
+    sock = card_of(current, current.networks.host)
+    silence = Silence(current)
+    return silence.behind(lambda: sock.send(frame)), sum(
+        count for box in current.boxes for name, count in box.dropped().items() if name == "inside dropped 11 BadAdvert")
+
+
+def advert(options):
+    """The side is silent until the down interval that was advertised is over."""
+    for way in by_setting(options, PEER_ONLY):
+        seconds, dropped = in_scene(options, way, forged_advertisement)
+        owed = "dropped by both boxes" if way.is_guarded else f"silent for {PATIENCE} s and more"
+        holds = seconds < SILENT and dropped == 2 if way.is_guarded else seconds > PATIENCE - SILENT
+        seen = f"{told_silence(seconds)}, dropped {dropped} times"
+        yield Line("forged advertisement", way.name, owed, seen, holds)
+
+
+def speakers():
+    """ARP packets of many stations inside, each of which asks for itself, over and over."""
+    while True:
+        for number in range(SENDERS):
+            address = f"192.168.{2 + number // 250}.{1 + number % 250}"
+            mac = b"\x02\0\1" + number.to_bytes(3, "big")
+            yield arp_request(Station("inside", address, mac), address)
+
+
+class Requests:
+    """How often box 0 asks for the hosts, which it has to once it has forgotten them."""
+
+    def __init__(self, current):
+        self.own = mac_of(current.networks.settings["gateway_0"]["inside_mac"])
+        self.hosts = {ip_bytes(host) for host in HOSTS}
+        self.count = 0
+        with current.networks.host.entered():
+            self.sock = socket.socket(socket.AF_PACKET, socket.SOCK_RAW, 0)
+            self.sock.bind(("eth0", ARP))
+        self.sock.setblocking(False)
+        current.stack.callback(self.sock.close)
+        current.loop.watch(self.sock, self.look)
+
+    def look(self):
+        """Takes frames that are there, and not more than leave time for others."""
+        try:
+            for _ in range(64):
+                frame = self.sock.recv(2048)
+                self.count += frame[6:12] == self.own and is_arp(frame, 1) and frame[38:42] in self.hosts
+        except BlockingIOError:
+            pass
+
+
+def flooded(current):
+    """Which share of a load is answered while everybody inside speaks, and how often its hosts are asked for."""
+    serve_load(current)
+    requests = Requests(current)
+    words = ("ask", SERVER, str(LOAD_PORT), str(ASKED), str(FLOOD_SECONDS))
+    child = current.networks.host.start(*PYTHON, str(FOLDER / "load.py"), *words, stdout=subprocess.PIPE, text=True)
+    sock, frames, sent = card_of(current, current.networks.host), speakers(), 0
+    begun = time.monotonic()
+    while child.poll() is None:
+        current.loop.turn(0.001)
+        while child.poll() is None and sent < (time.monotonic() - begun) * FLOOD_RATE:
+            try:
+                sock.send(next(frames))
+                sent += 1
+            except BlockingIOError:
+                break
+    current.loop.until(lambda: False, 0.2)
+    asked, answered, _ = map(int, child.stdout.read().split())
+    return answered / asked, requests.count, sent / (time.monotonic() - begun)
+
+
+def flood(options):
+    for way in by_program(options, WIDE_INSIDE):
+        share, count, rate = in_scene(options, way, flooded)
+        owed = "hosts in use are known all the time" if way.is_guarded else "they are forgotten, and asked for"
+        holds = count <= len(HOSTS) if way.is_guarded else count > len(HOSTS)
+        seen = f"{count} requests, {share:.1%} answered, at {rate:,.0f} a second"
+        yield Line("ARP packets of all stations", way.name, owed, seen, holds)
+
+
+def greedy_host(current):
+    """The other box stands still; one host opens many flows, and then the others some: how many of theirs are answered,
+    none of which asks twice."""
+    probe = Probe(current)
+    follow(current, probe, lambda: probe.flow.answered > 0, 10)
+    current.boxes[1].halt()
+    socks = []
+    with current.networks.host.entered():
+        for host, count in ((HOSTS[0], FIRST), *((other, OTHERS) for other in HOSTS[1:])):
+            for _ in range(count):
+                sock = socket.socket(socket.AF_INET, socket.SOCK_DGRAM)
+                current.stack.callback(sock.close)
+                sock.setblocking(False)
+                sock.bind((host, 0))
+                sock.sendto(b"flow 1 1\n", (SERVER, PORT))
+                socks.append((host, sock))
+    current.loop.until(lambda: False, STILL)
+    current.boxes[1].go_on()
+    answered = {host: 0 for host in HOSTS}
+
+    def is_over():
+        for host, sock in socks:
+            try:
+                sock.recv(2048)
+                answered[host] += 1
+            except OSError:
+                pass
+        return sum(answered.values()) == len(socks)
+
+    current.loop.until(is_over, 3)
+    return answered[HOSTS[0]], sum(answered[host] for host in HOSTS[1:])
+
+
+def places(options):
+    owed_others = OTHERS * len(HOSTS[1:])
+    for way in by_program(options):
+        own, others = in_scene(options, way, greedy_host)
+        owed = f"the others' {owed_others} flows are answered" if way.is_guarded else "none of the others' is answered"
+        holds = others == owed_others if way.is_guarded else others == 0
+        yield Line("one host opens 100 flows", way.name, owed, f"{others} of {owed_others}, {own} of its own", holds)
+
+
+def by_sim(options, ways, attack):
+    """What an attack comes to in `natpair sim`, of which a way's changes are the settings."""
+    for way in ways:
+        with settings_with(*way.changes) as file:
+            for name, owed, seen, holds in attack(way.program, file, way.is_guarded):
+                yield Line(name, way.name, owed, seen, holds)
+
+
+def routes(options):
+    yield from by_sim(options, by_program(options), guards_sim.routes)
+
+
+def neighbours(options):
+    yield from by_sim(options, by_program(options, WIDE_INSIDE), guards_sim.neighbours)
+
+
+def pairs(options):
+    """What comes inward keeps a pair of UDP or of a ping where the setting is left out; of TCP it kept one before."""
+    yield from by_sim(options, by_setting(options, OUTWARD_ALONE), guards_sim.pairs)
+    yield from by_sim(options, by_program(options), guards_sim.connections)
+
+
+def ports(options):
+    few = ("zero = [20000, 39999]", "zero = [20000, 20009]")
+    yield from by_sim(options, by_setting(options, OUTWARD_ALONE, few), guards_sim.datagrams_refused)
+    yield from by_sim(options, by_program(options, few), guards_sim.segments_refused)
+
+
+CONDITIONS = {"router": router, "advert": advert, "flood": flood, "places": places, "routes": routes,
+              "neighbours": neighbours, "pairs": pairs, "ports": ports}
+
+
+def guards(options):
+    lines = [line for name in options.conditions or CONDITIONS for line in CONDITIONS[name](options)]
+    show("guards", ["attack", "", "owed", "seen", ""],
+         [(*line[:4], "so" if line.holds else "NOT SO") for line in lines], left=True)
+    wrong = sum(not line.holds for line in lines)
+    print(f"{len(lines)} lines, {wrong} of them not so", flush=True)
+    return wrong == 0
