@@ -109,7 +109,7 @@ Turns w i h note told outcome told2 w2 =
 
 -- a note of gateway `i` at a time
 abbrev pub noting : GatewayId → ℕ → NoteKind → Note
-noting i moment what = record { by = i; at = moment; what = what }
+noting i moment what = record { by = i; at = moment; what = what; counts = true }
 
 -- what an event that isn't refused does to the world and the output
 abbrev pub Does : World → WorldEvent → Output → Outcome → Output → World → Type 0

@@ -451,6 +451,7 @@ impl<'a> World<'a> {
             by: id,
             at: self.half(id).moment(),
             what: NoteKind::Crashed,
+            counts: true,
         };
         note_both(&mut self.trace, out, &note)?;
         match id {
@@ -476,6 +477,7 @@ impl<'a> World<'a> {
             by: id,
             at: 0,
             what: NoteKind::Booted(number),
+            counts: true,
         };
         match note_both(&mut self.trace, out, &note) {
             Ok(()) => {}

@@ -196,7 +196,7 @@ fn begin_unsynced(
         one,
         settings.ports.host_limit,
         settings.alone,
-        settings.ports.inward_refresh,
+        settings.inward_refresh,
         hashers,
     )?;
     Ok(joined(settings, id, parts, core))
@@ -226,7 +226,7 @@ fn begin_founded(
         one,
         settings.ports.host_limit,
         settings.alone,
-        settings.ports.inward_refresh,
+        settings.inward_refresh,
         hashers,
     )?;
     let mut forwarder = joined(settings, GatewayId::Zero, parts, core);
