@@ -1,6 +1,7 @@
 //! The part of a gateway that handles packets, and what it shows.
-ghost use Rattle.std.specs.Prelude.{◌≡◌, ◌≢◌, IfErr, IfOk};
+ghost use Rattle.std.specs.Prelude.{◌≡◌, ◌≢◌, IfErr, IfOk, IfSome, Ok};
 ghost use Rattle.packet_rules.specs.Asked.{IsWhole};
+ghost use Rattle.packet_rules.specs.declared.readings.Reading.TheVariants.{Packet as PacketReading};
 ghost use Rattle.packet_rules.specs.declared.reasons.Reason.TheVariants.{TooLong, TtlOver};
 ghost use Rattle.packet_rules.specs.Steps.{Carries};
 ghost use Rattle.spec_step.specs.GivingWay.{turn_of};
@@ -11,6 +12,7 @@ ghost use Rattle.forwarder.specs.Forwarder.{shown_of};
 
 use bind_core::Core;
 use interfaces::Interface;
+use ipv4::Packet;
 use link::Link;
 use nat_types::Side;
 use packet_rules::{Networks, Reading, Reason};
@@ -110,5 +112,16 @@ impl Forwarder {
     {
         never_too_long();
         self.station(side).read_whole(side, self.is_up(), bytes)
+    }
+
+    /// Reads a whole frame of a side as [`read_whole`](Self::read_whole) does, where it carries a UDP
+    /// or TCP packet that no step refuses. None says nothing of the frame.
+    #[inline(always)]
+    pub fn read_transport(&self, side: Side, bytes: &[u8]) -> Option<Packet>
+        ensures reading { IfSome result (λ p.
+            reading_on (shown_of self.now) side bytes.now ≡ Ok (PacketReading p)) }
+        ensures carries { IfSome result (λ p. Carries side bytes.now (PacketReading p)) }
+    {
+        self.station(side).read_transport(side, self.is_up(), bytes)
     }
 }

@@ -1,5 +1,5 @@
 -- The events of a world: which are refused, and what the others do.
-use Rattle.std.specs.Prelude.{◌≡◌, ℕ, ◌-◌, ◌==◌, ◌&&◌, ◌||◌, Bool, not, nat_lt, Option, Some, None, List, [], ◌∷◌, ◌++◌, drop, length, slice_get, is_some, if◌then◌else◌}
+use Rattle.std.specs.Prelude.{◌≡◌, ℕ, ◌-◌, ◌==◌, ◌&&◌, ◌||◌, Bool, not, nat_lt, true, Option, Some, None, List, [], ◌∷◌, ◌++◌, drop, length, slice_get, is_some, if◌then◌else◌}
 use Rattle.nat_types.specs.Same.{other}
 use Rattle.nat_types.specs.declared.gateways.GatewayId.{GatewayId}
 use Rattle.nat_types.specs.declared.notes.NoteKind.{NoteKind}

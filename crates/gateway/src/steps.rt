@@ -6,6 +6,8 @@ ghost use Rattle.link.specs.declared.datagrams.TheConstants.{RECORDS_IN_A_DATAGR
 ghost use Rattle.link.specs.Link.{is_restart, may_restart, taking};
 ghost use Rattle.link.specs.Reading.{header_at, reading};
 ghost use Rattle.vrrp_states.specs.Table.{IsMoment};
+ghost use Rattle.packet_rules.specs.Steps.{Carries};
+ghost use Rattle.packet_rules.specs.declared.readings.Reading.TheVariants.{Packet as PacketReading};
 ghost use Rattle.spec_step.specs.declared.events.Event.TheVariants.{Stop as StopEvent};
 ghost use Rattle.spec_step.specs.declared.events.Event.TheVariants.{Tick as TickEvent};
 ghost use Rattle.spec_step.specs.declared.events.Outcome.TheVariants.{Done};
@@ -37,14 +39,46 @@ use crate::ticks::{is_apart_at, take_stop, take_tick};
 use crate::turns::plug;
 use crate::words::take_word;
 use forwarder::Forwarder;
+use ipv4::Packet;
 use nat_types::Side;
 use output::OutputBuffer;
-use packet_rules::Reason;
+use packet_rules::{Reading, Reason};
 use spec_step::{Event, Outcome, parts_stand, steps_go, steps_keep, steps_settle, steps_stay};
 use std::alloc::Global;
 
+/// Handles a frame with a UDP or TCP packet that no step of the reading refuses: the frames that
+/// matter for speed.
 #[inline(always)]
-fn frame_came(
+fn packet_came(
+    alloc: Global,
+    forwarder: &mut Forwarder,
+    page: &mut OutputBuffer,
+    side: Side,
+    bytes: &[u8],
+    packet: Packet,
+) -> Result<Outcome, NoMemory>
+    requires reading { reading_on (shown_of forwarder.old) side bytes.now
+        ≡ Ok (PacketReading packet) }
+    requires carries { Carries side bytes.now (PacketReading packet) }
+    requires short { length bytes.now ≤ 65549 }
+    requires moment { IsMoment forwarder.old.moment }
+    ensures outcome { IfOk result (λ o. o ≡ verdict (shown_of forwarder.old) side bytes.now) }
+    ensures does { OnOk result (FrameDoes (scene_on forwarder.old page.old) side bytes.now
+        (reading_on (shown_of forwarder.old) side bytes.now) (scene_on forwarder.new page.new)) }
+    ensures datagrams { OnOk result (1 ≤ page.new.room.datagrams) }
+    ensures err { OnErr result (scene_on forwarder.new page.new
+        ≡ scene_on forwarder.old page.old) }
+    ensures lacks { OnErr result (LacksForFrame side bytes.now
+        (reading_on (shown_of forwarder.old) side bytes.now) forwarder.old page.old) }
+{
+    let reading = Reading::Packet(packet);
+    make_ready_for(forwarder, page, &reading, bytes.len())?;
+    take_reading(alloc, forwarder, page, side, bytes, reading)
+}
+
+/// Handles any other frame.
+#[cold]
+fn other_came(
     alloc: Global,
     forwarder: &mut Forwarder,
     page: &mut OutputBuffer,
@@ -76,6 +110,32 @@ fn frame_came(
             make_ready(forwarder, page, END_ROOM, 0)?;
             Ok(Outcome::Dropped(reason))
         }
+    }
+}
+
+/// Handles a frame that came in.
+#[inline(always)]
+fn frame_came(
+    alloc: Global,
+    forwarder: &mut Forwarder,
+    page: &mut OutputBuffer,
+    side: Side,
+    bytes: &[u8],
+) -> Result<Outcome, NoMemory>
+    requires short { length bytes.now ≤ 65549 }
+    requires moment { IsMoment forwarder.old.moment }
+    ensures outcome { IfOk result (λ o. o ≡ verdict (shown_of forwarder.old) side bytes.now) }
+    ensures does { OnOk result (FrameDoes (scene_on forwarder.old page.old) side bytes.now
+        (reading_on (shown_of forwarder.old) side bytes.now) (scene_on forwarder.new page.new)) }
+    ensures datagrams { OnOk result (1 ≤ page.new.room.datagrams) }
+    ensures err { OnErr result (scene_on forwarder.new page.new
+        ≡ scene_on forwarder.old page.old) }
+    ensures lacks { OnErr result (LacksForFrame side bytes.now
+        (reading_on (shown_of forwarder.old) side bytes.now) forwarder.old page.old) }
+{
+    match forwarder.read_transport(side, bytes) {
+        Some(packet) => packet_came(alloc, forwarder, page, side, bytes, packet),
+        None => other_came(alloc, forwarder, page, side, bytes),
     }
 }
 

@@ -1,5 +1,5 @@
 //! An interface with its state.
-ghost use Rattle.std.specs.Prelude.{◌≡◌, true, ℕ, ◌≤◌, ◌+◌, ◌++◌, ◌&&◌, IfOk, IfErr, IfSome, OnErr, length, vec_len, vec_capacity};
+ghost use Rattle.std.specs.Prelude.{◌≡◌, true, ℕ, ◌≤◌, ◌+◌, ◌++◌, ◌&&◌, IfOk, IfErr, IfSome, Ok, OnErr, length, vec_len, vec_capacity};
 ghost use Rattle.arp.specs.Neighbours.{mac_at, asks_at, has_entry, sent_at};
 ghost use Rattle.arp.specs.declared.packets.TheConstants.{ARP_FRAME};
 ghost use Rattle.vrrp_packet.specs.declared.TheConstants.{ADVERT_FRAME};
@@ -9,6 +9,7 @@ ghost use Rattle.packet_rules.specs.Arping.{is_learnable, answer_to};
 ghost use Rattle.packet_rules.specs.Adverts.{advert_frame};
 ghost use Rattle.packet_rules.specs.Arping.{gratuitous_frame};
 ghost use Rattle.packet_rules.specs.Asked.{IsWhole};
+ghost use Rattle.packet_rules.specs.declared.readings.Reading.TheVariants.{Packet as PacketReading};
 ghost use Rattle.packet_rules.specs.declared.reasons.Reason.TheVariants.{TtlOver};
 ghost use Rattle.packet_rules.specs.Steps.{reading_of, Carries};
 ghost use Rattle.interfaces.specs.Cables.{is_in, is_whole, plugged};
@@ -20,6 +21,7 @@ ghost use Rattle.memory.specs.Memory.{WasRefused};
 use crate::{Cable, Tally};
 use addresses::{Ip, Mac};
 use arp::{ArpPacket, Cache, Neighbour};
+use ipv4::Packet;
 use nat_types::{GatewayId, Side};
 use packet_rules::{Network, Networks, Reading, Reason};
 use settings::Settings;
@@ -293,6 +295,18 @@ impl Interface {
         ensures over { IfErr result (λ reason. reason ≡ TtlOver → IsWhole bytes.now) }
     {
         packet_rules::read_whole(side, &self.network, self.is_active(), up, bytes)
+    }
+
+    /// Reads a frame at hand here as [`read_whole`](Self::read_whole) does, where it carries a UDP or TCP packet that no
+    /// step refuses. None says nothing of the frame.
+    #[inline(always)]
+    pub fn read_transport(&self, side: Side, up: bool, bytes: &[u8]) -> Option<Packet>
+        ensures reading { IfSome result (λ p.
+            reading_of side self.now.network (is_active self.now) up bytes.now
+            ≡ Ok (PacketReading p)) }
+        ensures carries { IfSome result (λ p. Carries side bytes.now (PacketReading p)) }
+    {
+        packet_rules::read_transport(side, &self.network, self.is_active(), up, bytes)
     }
 
     /// Returns the hardware address with which an ARP packet is answered here, or None where the packet is no request

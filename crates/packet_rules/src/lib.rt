@@ -8,6 +8,7 @@ mod arping;
 mod asking;
 mod complaints;
 mod errors;
+mod fast_path;
 mod flows;
 mod laws;
 mod networks;
@@ -24,6 +25,7 @@ pub use arping::{answer_to, append_answer, append_request, is_for_us, is_learnt}
 pub use asking::append_echo_reply;
 pub use complaints::{COMPLAINT_FRAME, Complaint, append_complaint, complaint_of, exit_for};
 pub use errors::{append_passed, endpoint_inside, error_direction, key_inside};
+pub use fast_path::read_transport;
 pub use flows::{source_endpoint, target_key};
 pub use laws::{advert_law, frames_law, limits_law, peer_alone, readings_law};
 pub use networks::{Direction, Network, Networks, Peer, direction_taken, next_hop_outside};

@@ -52,7 +52,7 @@ fn reason_for_icmp(fault: IcmpFault) -> Reason
 
 #[tactic(auto, unfolding(crate::specs::Steps::size_refusal))]
 #[inline(always)]
-fn view_frame(bytes: &[u8]) -> Result<EthView<'_>, Reason>
+pub(crate) fn view_frame(bytes: &[u8]) -> Result<EthView<'_>, Reason>
     ensures refusal { result_err result ≡ size_refusal bytes.now }
     ensures short { OnOk result (length bytes.now ≤ LONGEST_WHOLE) }
     ensures bytes { IfOk result (λ v. v.bytes.now ≡ bytes.now) }
@@ -68,7 +68,11 @@ fn view_frame(bytes: &[u8]) -> Result<EthView<'_>, Reason>
 
 #[tactic(auto, unfolding(crate::specs::Steps::destination_refusal))]
 #[inline(always)]
-fn test_destination(network: &Network, active: bool, frame: &EthView<'_>) -> Result<(), Reason>
+pub(crate) fn test_destination(
+    network: &Network,
+    active: bool,
+    frame: &EthView<'_>,
+) -> Result<(), Reason>
     ensures { result_err result
         ≡ destination_refusal network.now active (frame_of frame.now.bytes.now) }
 {
@@ -94,7 +98,7 @@ fn read_arp(body: &[u8]) -> Result<Reading, Reason>
 
 #[tactic(auto, unfolding(crate::specs::Steps::header_refusal))]
 #[inline(always)]
-fn view_packet(bytes: &[u8]) -> Result<Ipv4View<'_>, Reason>
+pub(crate) fn view_packet(bytes: &[u8]) -> Result<Ipv4View<'_>, Reason>
     ensures refusal { result_err result ≡ header_refusal bytes.now }
     ensures bytes { IfOk result (λ v. v.bytes.now ≡ bytes.now) }
     ensures ipv4 { OnOk result (IsIpv4 bytes.now) }
@@ -108,7 +112,7 @@ fn view_packet(bytes: &[u8]) -> Result<Ipv4View<'_>, Reason>
 /// Whether a packet is for VRRP: of its protocol, to its group address (RFC 9568, sections 5.1.1.2 and 5.1.1.4).
 #[tactic(auto, unfolding(crate::specs::Steps::is_vrrp))]
 #[inline(always)]
-fn is_for_vrrp(packet: &Ipv4View<'_>) -> bool
+pub(crate) fn is_for_vrrp(packet: &Ipv4View<'_>) -> bool
     ensures { result ≡ is_vrrp packet.now.bytes.now }
 {
     packet.protocol() == vrrp_packet::PROTOCOL && packet.destination() == vrrp_packet::GROUP
