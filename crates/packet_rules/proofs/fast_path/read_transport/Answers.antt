@@ -1,5 +1,5 @@
 use Rattle.std.proofs.Common.{◌≡◌, Option, Some, None, IfSome, Ok, refl}
-use Rattle.ipv4.specs.declared.flows.Packet.{Packet}
+use Rattle.ipv4.specs.declared.packets.Packet.{Packet}
 use Rattle.packet_rules.specs.declared.readings.Reading.TheVariants.{Packet as PacketReading}
 use Rattle.packet_rules.specs.Steps.{Carries}
 use Rattle.packet_rules.proofs.fast_path.read_transport.Goals as goal
