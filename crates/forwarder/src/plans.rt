@@ -1,9 +1,13 @@
 //! The plan of a packet: what is to happen to it, found before anything changes.
-ghost use Rattle.std.specs.Prelude.{◌≡◌, false};
+ghost use Rattle.std.specs.Prelude.{◌≡◌, Err, Ok, false, if◌then◌else◌};
+ghost use Rattle.waiting.specs.declared.waits.WaitsFor.TheVariants.{Pair as PairOf};
+ghost use Rattle.waiting.specs.Packets.{has_place};
 ghost use Rattle.spec_binding.specs.Rows.{new_pair};
 ghost use Rattle.packet_rules.specs.Flows.{source_of};
 ghost use Rattle.packet_rules.specs.Networks.{direction_of};
+ghost use Rattle.packet_rules.specs.declared.reasons.Reason.TheVariants.{CannotWait};
 ghost use Rattle.packet_rules.specs.Steps.{and_then};
+ghost use Rattle.spec_step.specs.declared.plans.Plan.TheVariants.{Wait as WaitFor};
 ghost use Rattle.spec_step.specs.Verdict.{fits_at, if_fits, look_for, plan_from, plan_of, plan_via};
 ghost use Rattle.spec_step.specs.Verdict.{pair_at, plan_on, target_pair};
 ghost use Rattle.forwarder.specs.Forwarder.{shown_of};
@@ -13,7 +17,7 @@ use crate::Forwarder;
 use addresses::{Ip, Port};
 use bindings::Entry;
 use ipv4::{Flow, Packet, Size};
-use nat_types::{EntryState, Key, Pair, Side};
+use nat_types::{Endpoint, EntryState, Key, Pair, Side};
 use packet_rules::{
     Direction, Reason, Translation, direction_taken, mtu_at, source_endpoint, target_key,
 };
@@ -125,16 +129,6 @@ impl Forwarder {
         }
     }
 
-    /// Returns the plan of a packet that is too long for the side at which it leaves.
-    #[cold]
-    fn plan_long(&self, flow: Flow, way: Direction) -> Result<Plan, Reason>
-        ensures { result
-            ≡ and_then (plan_on (shown_of self.now) flow way) (if_fits false) }
-    {
-        let plan = self.plan_on(flow, way)?;
-        if_fits(false, plan)
-    }
-
     #[inline(always)]
     fn plan_on(&self, flow: Flow, way: Direction) -> Result<Plan, Reason>
         ensures { result ≡ plan_on (shown_of self.now) flow way }
@@ -169,6 +163,19 @@ impl Forwarder {
         pair_of(self.core.table().pair_of_port(target_key(flow)))
     }
 
+    /// Returns the plan of a packet that has to wait for the pair of its endpoint.
+    #[cold]
+    fn plan_wait(&self, endpoint: Endpoint) -> Result<Plan, Reason>
+        ensures { result ≡ (if has_place (shown_of self.now).kept (PairOf endpoint)
+            then Ok (WaitFor endpoint) else Err CannotWait) }
+    {
+        if self.kept.has_place(WaitsFor::Pair(endpoint)) {
+            Ok(Plan::Wait(endpoint))
+        } else {
+            Err(Reason::CannotWait)
+        }
+    }
+
     /// Returns the plan of a packet from the inside, by what its endpoint would be given.
     #[inline(always)]
     fn plan_from(&self, flow: Flow, other: Option<Pair>, given: Want) -> Result<Plan, Reason>
@@ -179,14 +186,7 @@ impl Forwarder {
                 flow.destination,
                 leaving(own_pair(flow, port), other),
             ),
-            Want::Wait => {
-                let endpoint = source_endpoint(flow);
-                if self.kept.has_place(WaitsFor::Pair(endpoint)) {
-                    Ok(Plan::Wait(endpoint))
-                } else {
-                    Err(Reason::CannotWait)
-                }
-            }
+            Want::Wait => self.plan_wait(source_endpoint(flow)),
             Want::NoPort => Err(Reason::NoPort),
             Want::NotNow => Err(Reason::CannotWait),
             Want::HostLimit => Err(Reason::HostLimit),
