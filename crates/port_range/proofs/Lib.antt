@@ -1,6 +1,10 @@
 mod Bits
 mod Choice
+mod Counting
+mod Drawing
 mod Listed
+mod Picking
+mod Ranging
 mod Searching
 mod Summing
 mod Writing

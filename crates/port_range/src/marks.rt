@@ -7,8 +7,12 @@ ghost use Rattle.port_range.specs.Searches.{IsFirstFrom};
 ghost use Rattle.port_range.specs.Words.{is_set, has_bit, agrees};
 ghost use Rattle.port_range.specs.Memory.{LacksMarks};
 ghost use Rattle.port_range.specs.Marks.{has_both, other_parity, mask_of, open_word, IsSummary, IsLowestOf};
+ghost use Rattle.port_range.specs.Drawn.{drawn_in, drawn_like};
 
-use crate::words::{fill_between, has_bit, lowest_bit, next_bit, put_bit, set_between, zeros};
+use crate::words::{
+    drawn_bit, ends_of, fill_between, has_bit, lowest_bit, next_bit, nth_number, put_bit,
+    set_between, zeros,
+};
 use addresses::{Parity, Port};
 use std::alloc::{AllocError, Global};
 use std::marker::Model;
@@ -115,6 +119,51 @@ fn lowest_open(summary: &[u64], free: &[u64], owned: &[u64], parity: Parity) -> 
             let port = index * 64 + word.trailing_zeros() as usize;
             (Some(Port(port as u16)), looked + 2)
         }
+    }
+}
+
+/// Returns the port of a parity that is drawn in a block by `y`, or None where the block has no port
+/// of it that is free and owned.
+fn drawn_in(free: &[u64], owned: &[u64], parity: Parity, y: u32, block: usize) -> Option<Port>
+    requires free { length free.now ≡ 1024 }
+    requires owned { length owned.now ≡ 1024 }
+    requires block { block < 1024 }
+    ensures { result ≡ drawn_in (has_both free.now owned.now) (has_bit owned.now) parity y block }
+{
+    let mine = owned[block] & mask_of(parity);
+    match drawn_bit(mine, free[block] & mine, y) {
+        Some(bit) => Some(Port((block * 64 + bit) as u16)),
+        None => None,
+    }
+}
+
+/// Returns the port of a parity that is drawn by `x` and `y`, or None where no port of it is free
+/// and owned, and how many words the draw looked at.
+fn drawn_open(
+    summary: &[u64],
+    free: &[u64],
+    owned: &[u64],
+    parity: Parity,
+    x: u32,
+    y: u32,
+) -> (Option<Port>, u32)
+    requires free { length free.now ≡ 1024 }
+    requires owned { length owned.now ≡ 1024 }
+    requires summary { IsSummary parity free.now owned.now summary.now }
+    ensures chosen { result.0 ≡ drawn_like (has_both free.now owned.now) (has_bit owned.now)
+        parity x y }
+    ensures looked_some { IfSome result.0 (λ port. result.1 ≡ 19) }
+    ensures looked_none { IfNone result.0 (result.1 ≡ 16) }
+{
+    let looked = summary.len() as u32;
+    let ends = ends_of(summary);
+    let count = ends[SUMMARY_WORDS - 1];
+    if count == 0 {
+        return (None, looked);
+    }
+    match nth_number(summary, &ends, x % count) {
+        Some(block) => (drawn_in(free, owned, parity, y, block), looked + 3),
+        None => (None, looked),
     }
 }
 
@@ -282,5 +331,19 @@ impl Marks {
             Parity::Odd => &self.odd,
         };
         lowest_open(summary, &self.free, &self.owned, parity)
+    }
+    /// Returns the port of a parity that is drawn by `x` and `y`, or None where no port of it is
+    /// free and owned, and how many words the draw looked at.
+    pub(crate) fn drawn(&self, parity: Parity, x: u32, y: u32) -> (Option<Port>, u32)
+        ensures chosen { result.0 ≡ drawn_like (has_both self.now.free self.now.owned)
+            (has_bit self.now.owned) parity x y }
+        ensures looked_some { IfSome result.0 (λ port. result.1 ≡ 19) }
+        ensures looked_none { IfNone result.0 (result.1 ≡ 16) }
+    {
+        let summary = match parity {
+            Parity::Even => &self.even,
+            Parity::Odd => &self.odd,
+        };
+        drawn_open(summary, &self.free, &self.owned, parity, x, y)
     }
 }
