@@ -4,16 +4,13 @@ use Rattle.std.proofs.lemmas.Nat.{ones_cat}
 use Rattle.std.proofs.lemmas.Nat.Bits.{bit_at_lowest, bit_at-suc}
 use Rattle.std.proofs.Math.Nat.{pow-succ'}
 use Rattle.port_range.specs.Words.{is_set}
+use Rattle.port_range.specs.Counts.{one_if}
 use Rattle.port_range.specs.Marks.{ports_where}
 use Rattle.port_range.proofs.Choice.{fails_from}
 
 -- how many of so many numbers from a start pass a test
 abbrev pub count_of : (ℕ → Bool) → ℕ → ℕ → ℕ
 count_of test start count = length (ports_where test start count)
-
-abbrev pub one_if : Bool → ℕ
-one_if true = 1
-one_if false = 0
 
 length-more : (b : Bool) (x : ℕ) (xs : List ℕ) → length (cond b (x ∷ xs) xs) ≡ one_if b + length xs
 length-more true x xs = omega arith

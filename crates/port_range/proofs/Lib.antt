@@ -2,6 +2,7 @@ mod Bits
 mod Choice
 mod Counting
 mod Drawing
+mod Keeping
 mod Listed
 mod Picking
 mod Ranging

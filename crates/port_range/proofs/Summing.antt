@@ -15,6 +15,7 @@ use Rattle.port_range.specs.Words.{is_set, has_bit, IsLowestBit, AreOthers}
 use Rattle.port_range.specs.Marks.{has_both, mask_of, open_word, IsSummary, AreMarks, IsLowestOf}
 use Rattle.port_range.proofs.Bits.{is_set-zero, is_set-and, has_bit-in, has_bit-of, has_bit-past}
 use Rattle.port_range.proofs.Choice.{parity-eq, parity-true}
+use Rattle.port_range.proofs.Keeping.{open-none}
 
 -- ---- the bits of a word that are of a parity
 
@@ -202,10 +203,11 @@ summary-zero parity many some few is = record {
   each = λ n low. zero-bits few n ∙ sym (ap (λ (w : ℕ). nat_lt 0 (bit_and (bit_and w (get_or (replicate some 0) n 0)) (mask_of parity))) (zero-at many n));
 }
 
-pub marks-zero : AreMarks (replicate 1024 0) (replicate 1024 0) (replicate 16 0) (replicate 16 0)
+pub marks-zero : AreMarks (replicate 1024 0) (replicate 1024 0) (replicate 16 0) (replicate 16 0) 0
 marks-zero = record {
   free_size = length-replicate {A = ℕ} 1024 0;
   owned_size = length-replicate {A = ℕ} 1024 0;
   summed_even = summary-zero Even 1024 1024 16 refl;
   summed_odd = summary-zero Odd 1024 1024 16 refl;
+  counted = sym (open-none (replicate 1024 0) (replicate 1024 0) (zero-bits 1024));
 }

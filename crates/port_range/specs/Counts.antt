@@ -8,6 +8,11 @@ use Rattle.port_range.specs.Words.{has_bit}
 abbrev pub count_below : (ℕ → Bool) → ℕ → ℕ
 count_below test end = length (ports_where test 0 end)
 
+-- 1 where it holds, else 0
+abbrev pub one_if : Bool → ℕ
+one_if true = 1
+one_if false = 0
+
 -- the place passes, and so many numbers below it do
 pub record IsNth (test : ℕ → Bool) (number place : ℕ) : Type 0 where
   pub passes : test place ≡ true

@@ -1,8 +1,8 @@
 //! The ports of a range: which are free, which are owned, and which one an endpoint gets.
 #![tactic(auto)]
 
-ghost use Rattle.std.specs.Prelude.{◌≡◌, ℕ, [], true, false, OnOk, IfOk, IfErr, Err, IfSome, IfNone, ◌+◌, ◌*◌, ◌<◌, ◌≤◌, ◌==◌, ◌&&◌, ◌||◌, not, if◌then◌else◌};
-ghost use Rattle.port_range.specs.Ports.{is_free, is_owned, is_available, is_within, is_bad, IsReason, IsRange, IsChosen, chosen_port};
+ghost use Rattle.std.specs.Prelude.{◌≡◌, ℕ, [], true, false, OnOk, IfOk, IfErr, Err, IfSome, IfNone, ◌+◌, ◌*◌, ◌<◌, ◌≤◌, ◌==◌, ◌&&◌, ◌||◌, not, length, if◌then◌else◌};
+ghost use Rattle.port_range.specs.Ports.{is_free, is_owned, is_available, is_within, is_bad, IsReason, IsRange, IsChosen, chosen_port, open_ports};
 ghost use Rattle.port_range.specs.Searches.{IsFirstFrom};
 ghost use Rattle.port_range.specs.Words.{is_set};
 ghost use Rattle.port_range.specs.Marks.{words_looked_at};
@@ -184,6 +184,13 @@ impl Range {
                 (other, looked + more)
             }
         }
+    }
+
+    /// Returns how many ports are free and owned. The count is kept, so no word is looked at.
+    pub fn free_count(&self) -> u32
+        ensures { result ≡ length (open_ports self.now) }
+    {
+        self.marks.open_count()
     }
 
     /// Whether a port lies in the range.
