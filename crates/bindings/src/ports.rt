@@ -1,9 +1,9 @@
 //! The free and owned ports of a table, for each protocol.
-ghost use Rattle.std.specs.Prelude.{◌≡◌, ℕ, [], true, false, IfOk, OnErr, IfSome, IfNone, if◌then◌else◌, ◌&&◌, ◌||◌, ◌==◌, ◌+◌, ◌*◌, ◌<◌, ◌≤◌};
+ghost use Rattle.std.specs.Prelude.{◌≡◌, ℕ, [], length, true, false, IfOk, OnErr, IfSome, IfNone, if◌then◌else◌, ◌&&◌, ◌||◌, ◌==◌, ◌+◌, ◌*◌, ◌<◌, ◌≤◌};
 ghost use Rattle.addresses.specs.declared.transport.Protocol.{Protocol as Transport};
 ghost use Rattle.nat_types.specs.declared.pairs.Key.{Key as OutsidePort};
 ghost use Rattle.nat_types.specs.Same.{same_key};
-ghost use Rattle.port_range.specs.Ports.{is_bad, is_within, is_free, is_owned, IsRange, chosen_port};
+ghost use Rattle.port_range.specs.Ports.{is_bad, is_within, is_free, is_owned, IsRange, chosen_port, open_ports};
 ghost use Rattle.port_range.specs.Drawn.{drawn_port};
 ghost use Rattle.port_range.specs.Memory.{LacksMarks};
 ghost use Rattle.port_range.specs.Searches.{IsLastBelow};
@@ -290,5 +290,16 @@ impl Ports {
         let range = self.range(protocol);
         range.recall();
         range.drawn(parity, x, y)
+    }
+
+    pub(crate) fn free_count(&self, protocol: Protocol) -> u32
+        ensures count { result ≡ length (open_ports (range_of self.now protocol)) }
+        ensures range { IsRange (range_of self.now protocol) }
+        ensures first { IsRange self.now.tcp }
+    {
+        let range = self.range(protocol);
+        range.recall();
+        self.tcp.recall();
+        range.free_count()
     }
 }

@@ -14,7 +14,7 @@ ghost use Rattle.bindings.specs.Revivals.{revived_entries, revived_slot, lives_o
 ghost use Rattle.bindings.specs.Table.{empty_table};
 ghost use Rattle.bindings.specs.Runs.{own_in, without_port, all_ports, first_run, port_at};
 ghost use Rattle.bindings.specs.Lives.{KeepsOthers, is_among, may_go, rests_at, is_unused_at, use_counts_at};
-ghost use Rattle.bindings.specs.Ports.{AreBounds, in_either, key_count, is_open_in, is_vacant, is_spare, chosen_port, drawn_port, ports_in};
+ghost use Rattle.bindings.specs.Ports.{AreBounds, in_either, key_count, is_open_in, is_vacant, is_spare, chosen_port, drawn_port, open_ports, ports_in};
 ghost use Rattle.bindings.specs.Table.{IsTable, IsPast, owns, alone_keys_of, idle_keys_of, is_alone_at, is_marked_at, with_entry_state, without_entry};
 ghost use Rattle.bindings.specs.Dues.{watched_keys};
 ghost use Rattle.bindings.specs.Lives.{lives_with};
@@ -415,6 +415,14 @@ impl Table {
             → is_open_in self.now.entries self.now.owned protocol port ≡ false) }
     {
         self.ports.drawn(protocol, parity, x, y)
+    }
+
+    /// Returns how many owned ports are free for the protocol, those of both parities together. The count is kept, so no
+    /// port is looked at.
+    pub fn free_count(&self, protocol: Protocol) -> u32
+        ensures { result ≡ length (open_ports self.now.entries self.now.owned protocol) }
+    {
+        self.ports.free_count(protocol)
     }
 
     /// Whether the gateway owns a port or, while a table is loaded, is to own it.
