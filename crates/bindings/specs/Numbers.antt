@@ -2,6 +2,7 @@
 -- key can't tell one endpoint's port by those of others.
 use Rattle.std.specs.Prelude.{ℕ, List, [], ◌∷◌, ◌++◌, take, drop}
 use Rattle.std.specs.Int.{w16, w32, to_be_bytes, from_be_bytes}
+use Rattle.addresses.specs.declared.transport.Protocol.TheVariants.{Udp}
 use Rattle.addresses.specs.Transport.{protocol_number}
 use Rattle.nat_types.specs.declared.pairs.Endpoint.{Endpoint}
 use Rattle.sha2.specs.Sha256.{sha256}
@@ -21,3 +22,7 @@ number_at bytes place = from_be_bytes w32 (take 4 (drop place bytes))
 -- the first and the second four bytes of the hash
 abbrev pub numbers_of : List ℕ → Endpoint → ℕ × ℕ
 numbers_of key x = (number_at (hash_of key x) 0, number_at (hash_of key x) 4)
+
+-- an endpoint for examples: 192.168.1.10:5000 over UDP
+abbrev pub example : Endpoint
+example = record { address = record { 0 = 0xC0A8010A }; port = record { 0 = 5000 }; protocol = Udp }

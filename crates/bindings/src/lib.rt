@@ -16,6 +16,6 @@ mod watches;
 
 pub use draws::numbers;
 pub use entries::{Entry, PortBounds, TableFault};
-pub use laws::{room_law, uses_law};
+pub use laws::{numbers_law, room_law, uses_law};
 pub use slots::Hashers;
 pub use table::Table;
