@@ -1,6 +1,6 @@
--- The two numbers by which an endpoint's port is drawn. They are a hash behind a secret key (RFC 6056, section 3.3.3), so that whoever lacks the
--- key can't tell one endpoint's port by those of others.
-use Rattle.std.specs.Prelude.{ℕ, List, [], ◌∷◌, ◌++◌, take, drop}
+-- The two numbers by which an endpoint's port is drawn. They are of a hash behind a secret key (RFC 6056, section 3.3.3),
+-- so that whoever lacks the key can't tell one endpoint's port by those of others.
+use Rattle.std.specs.Prelude.{ℕ, List, ◌∷◌, ◌++◌, take, drop}
 use Rattle.std.specs.Int.{w16, w32, to_be_bytes, from_be_bytes}
 use Rattle.addresses.specs.declared.transport.Protocol.TheVariants.{Udp}
 use Rattle.addresses.specs.Transport.{protocol_number}

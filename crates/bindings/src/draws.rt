@@ -30,8 +30,8 @@ fn number_at(bytes: &[u8; 32], place: usize) -> u32
     ])
 }
 
-/// Returns the two numbers by which the port of an endpoint is drawn: the first and the second four bytes of the SHA-256
-/// over the gateway's secret key and the endpoint's protocol, inside address and inside port (RFC 6056, section 3.3.3).
+/// Returns the two numbers by which an endpoint's port is drawn: the first and the second four bytes of the SHA-256 over
+/// the gateway's secret key and the endpoint's protocol, inside address and inside port (RFC 6056, section 3.3.3).
 pub fn numbers(key: &[u8; 32], endpoint: Endpoint) -> (u32, u32)
     ensures { result ≡ numbers_of key.now endpoint }
 {

@@ -402,11 +402,11 @@ impl Table {
     }
 
     /// Returns the port that is drawn by two numbers, those of `numbers`, or None where no owned port is free for the
-    /// protocol. It has that parity where any such port does. Taken is the block with the number `x` modulo their count
-    /// among the blocks, of 64 ports each, that have an owned port of the parity that is free for the protocol, and in it
-    /// the place with the number `y` modulo their count among its owned ports of the parity. The port is the first of
-    /// them from the place on that is free for the protocol, or else from the block's beginning (RFC 6056, section
-    /// 3.3.3, within a block). Where no block has one, it is drawn of the other parity.
+    /// protocol. Taken is the block with the number `x` modulo their count among the blocks, of 64 ports each, that have
+    /// an owned port of the parity that is free for the protocol, and in it the place with the number `y` modulo their
+    /// count among its owned ports of the parity. The port is the first of these from the place on that is free for the
+    /// protocol, or else from the block's beginning (RFC 6056, section 3.3.3, within a block). Where no block has one, it
+    /// is drawn of the other parity.
     pub fn drawn(&self, protocol: Protocol, parity: Parity, x: u32, y: u32) -> Option<Port>
         ensures chosen { result ≡ drawn_port self.now.entries self.now.owned protocol parity x y }
         ensures like { IfSome result (IsLike (is_open_in self.now.entries self.now.owned protocol)
@@ -417,8 +417,8 @@ impl Table {
         self.ports.drawn(protocol, parity, x, y)
     }
 
-    /// Returns how many owned ports are free for the protocol, those of both parities together. The count is kept, so no
-    /// port is looked at.
+    /// Returns how many owned ports are free for the protocol, of both parities together. The count is kept, so no port
+    /// is looked at.
     pub fn free_count(&self, protocol: Protocol) -> u32
         ensures { result ≡ length (open_ports self.now.entries self.now.owned protocol) }
     {
