@@ -3,7 +3,7 @@ ghost use Rattle.std.specs.Prelude.{◌≡◌, ◌+◌, ◌<◌, ◌≤◌, ◌+
 ghost use Rattle.nat_types.specs.declared.records.Record.{Record as Rec};
 ghost use Rattle.spec_binding.specs.Machine.{Stands, Works};
 ghost use Rattle.spec_binding.specs.Books.{is_apart as is_apart_at};
-ghost use Rattle.spec_binding.specs.Rows.{none_row, new_wish, is_at_limit as is_at_limit_in, wish_of};
+ghost use Rattle.spec_binding.specs.Rows.{wanting_row, new_wish, is_at_limit as is_at_limit_in, wish_of};
 ghost use Rattle.spec_binding.specs.Rows.{noted_by, answered, is_full, unknown_wish};
 ghost use Rattle.bind_core.specs.Changes.{LivesOn};
 ghost use Rattle.bind_core.specs.Cores.{book_of, ledger_of};
@@ -22,7 +22,7 @@ use spec_binding::{
 
 impl Core {
     fn no_port(&self, full: bool) -> Transition
-        ensures { result ≡ none_row (book_of self.now) full }
+        ensures { result ≡ wanting_row (book_of self.now) full }
     {
         if !is_lone(self.stage) && !self.wants && !full {
             row(Change::Want, Some(Record::Want), None)

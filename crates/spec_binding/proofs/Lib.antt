@@ -20,4 +20,5 @@ mod Accounting
 mod Staying
 mod Settling
 mod Serving
+mod Ahead
 pub mod Offered

@@ -1,5 +1,7 @@
 -- The lemmas that proofs of other crates may cite.
 
+-- Ports that are asked for ahead.
+pub use Rattle.spec_binding.proofs.Ahead.{ahead-fits, ahead-keeps, ahead-stays, ahead-entries, ahead-accounts}
 -- A list reversed and joined, in the order of a trace.
 pub use Rattle.spec_binding.proofs.Accounting.{reversed-join}
 -- The records that a datagram gives come in their turn.
@@ -30,7 +32,7 @@ pub use Rattle.spec_binding.proofs.Slots.{was-there}
 pub use Rattle.spec_binding.proofs.Staying.{turned-place}
 -- A wish for a port, an idle pair or one that is marked or told at a tick, and a packet that is translated, as acts of
 -- the machine.
-pub use Rattle.spec_binding.proofs.Wishing.{chosen-says, at-key, wish-works, idle-works, carry-works, alone-works}
+pub use Rattle.spec_binding.proofs.Wishing.{ahead-silent, ahead-works, chosen-says, port-says, at-key, wish-works, idle-works, carry-works, alone-works}
 -- A record that is taken is a part of a step.
 pub use Rattle.spec_binding.proofs.Working.{record-works}
 -- where no pair of a rank has an endpoint, no entry is one
