@@ -85,12 +85,12 @@ known-mute p state.Alone = refl
 known-mute p state.Held = refl
 
 none-mute : (b : Book) → (wanting_row b true).answer ≡ None
-none-mute b = at (is_lone b.stage) b.wants
+none-mute b = at (is_paired b.stage) b.wants
   where
-    at : (lone wants : Bool) → (let r : Transition = cond (not lone && (not wants && false)) (row change.Want (Some rec.Want) None) quiet in r).answer ≡ None
-    at true wants = refl
-    at false true = refl
-    at false false = refl
+    at : (paired wants : Bool) → (let r : Transition = cond (paired && (not wants && false)) (row change.Want (Some rec.Want) None) quiet in r).answer ≡ None
+    at false wants = refl
+    at true true = refl
+    at true false = refl
 
 paired-mute : (apart : Bool) (p : Pair) → (paired_wish apart true p).row.answer ≡ None
 paired-mute true p = refl

@@ -109,7 +109,7 @@ impl Core {
     fn is_at_limit(&self, address: Ip) -> bool
         ensures { result ≡ is_at_limit_in (book_of self.now) address }
     {
-        match self.limit {
+        match self.rules.limit {
             None => false,
             Some(limit) => u32::from(limit) <= self.table.pairs_of(address),
         }

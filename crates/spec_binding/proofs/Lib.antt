@@ -21,4 +21,5 @@ mod Staying
 mod Settling
 mod Serving
 mod Ahead
+mod Choosing
 pub mod Offered

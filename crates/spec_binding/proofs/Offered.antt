@@ -2,6 +2,8 @@
 
 -- Ports that are asked for ahead.
 pub use Rattle.spec_binding.proofs.Ahead.{ahead-fits, ahead-keeps, ahead-stays, ahead-entries, ahead-accounts, works-behind}
+-- Where no port is drawn, no port may be given out.
+pub use Rattle.spec_binding.proofs.Choosing.{drawn-busy}
 -- A list reversed and joined, in the order of a trace.
 pub use Rattle.spec_binding.proofs.Accounting.{reversed-join}
 -- The records that a datagram gives come in their turn.

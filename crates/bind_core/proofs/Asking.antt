@@ -1,0 +1,172 @@
+-- The peer is asked for ports, and a port is looked for.
+use Rattle.std.proofs.Common.{◌≡◌, ℕ, ◌+◌, ◌<◌, ◌≤◌, Bool, true, false, cond, not, ◌&&◌, ◌||◌, is_some, Option, Some, None, List, drop, get_or, length, map, refl, sym, ap, subst, ◌∙◌, arith}
+use Rattle.std.specs.List.{list_any}
+use Rattle.std.specs.Option.{IfSome, IfNone}
+use Rattle.std.proofs.lemmas.List.{at_drop_all, at_drop_more}
+use Rattle.std.proofs.lemmas.Bool.{and_parts, ltb-false}
+use Rattle.addresses.specs.declared.transport.Port.{Port}
+use Rattle.addresses.specs.Transport.{parity_of}
+use Rattle.nat_types.specs.declared.pairs.Endpoint.{Endpoint}
+use Rattle.nat_types.specs.declared.records.Record.TheVariants as rec
+use Rattle.bindings.specs.Ports.{chosen_port, is_open_in}
+use Rattle.bindings.specs.Table.{Table}
+use Rattle.port_range.specs.Ports.{IsChosen}
+use Rattle.link.specs.Grammar.{IsWellFormedRecord}
+use Rattle.link.specs.Link.{Link, free_places}
+use Rattle.spec_binding.specs.declared.setups.Choice.{Choice}
+use Rattle.spec_binding.specs.declared.setups.Choice.TheVariants.{Lowest, Drawn}
+use Rattle.spec_binding.specs.declared.setups.Stage.TheVariants.{Paired}
+use Rattle.spec_binding.specs.declared.changes.Change.{Change}
+use Rattle.spec_binding.specs.declared.changes.Change.TheVariants as change
+use Rattle.spec_binding.specs.declared.changes.Transition.{Transition}
+use Rattle.spec_binding.specs.Books.{Book, IsBook, is_paired, is_synced}
+use Rattle.spec_binding.specs.Ledgers.{Ledger, ledger_after}
+use Rattle.spec_binding.specs.Rows.{after, ahead_row, answered, behind, changed, is_cause, is_full, is_short_after, may_want, port_by, quiet, row, wanting_row}
+use Rattle.spec_binding.proofs.Offered.{change-keeps, drawn-busy, paired-is, port-says}
+use Rattle.bind_core.specs.Changes.{adds, wants_after}
+use Rattle.bind_core.specs.Cores.{Core, book_of, core_after, core_behind, ledger_of}
+use Rattle.bind_core.proofs.Performing.{book-after, ledger-then, ready-kept, ready-then}
+
+-- ---- whether a port is free
+
+-- a lowest free port is there exactly where one is chosen, by any choice
+pub has-port : (b : Book) (e : Endpoint) (choice : Choice) (o : Option Port) → IsBook b → o ≡ chosen_port b.entries b.owned b.zero b.one e.protocol (parity_of e.port.0)
+    → IfSome o (IsChosen (is_open_in b.entries b.owned e.protocol) (parity_of e.port.0)) → IfNone o ((port : ℕ) → is_open_in b.entries b.owned e.protocol port ≡ false)
+    → is_some o ≡ is_some (port_by choice b e)
+has-port b e Lowest o is at some none = ap is_some at
+has-port b e (Drawn key) o is at some none = by o some none (port_by (Drawn key) b e) refl
+  where
+    test : ℕ → Bool
+    test = is_open_in b.entries b.owned e.protocol
+
+    by : (o : Option Port) → IfSome o (IsChosen test (parity_of e.port.0)) → IfNone o ((port : ℕ) → test port ≡ false) → (p : Option Port) → port_by (Drawn key) b e ≡ p → is_some o ≡ is_some p
+    by None some none None is_ = refl
+    by None some none (Some q) is_ = let yes = port-says b e (Drawn key) q is_ in let no = none q.0 in absurd (cc)
+    by (Some p) some none None is_ = let yes = some.available in let no = drawn-busy b e key is is_ p.0 in absurd (cc)
+    by (Some p) some none (Some q) is_ = refl
+
+-- ---- the row that asks for ports
+
+either-want : (P : Transition → Type 0) (b : Book) (full : Bool) → (is_paired b.stage ≡ true → full ≡ false → P (row change.Want (Some rec.Want) None)) → P quiet → P (wanting_row b full)
+either-want P b full asks none = at (may_want b full) refl
+  where
+    at : (t : Bool) → may_want b full ≡ t → P (let r : Transition = cond t (row change.Want (Some rec.Want) None) quiet in r)
+    at true may =
+        let parts = and_parts (is_paired b.stage) (not b.wants && not full) may in
+        asks parts.0 (off full (and_parts (not b.wants) (not full) parts.1).1)
+      where
+        off : (t : Bool) → not t ≡ true → t ≡ false
+        off true h = absurd (cc)
+        off false h = refl
+    at false may = none
+
+-- a book that asks for ports stays a book
+pub wanting-book : (b : Book) (full : Bool) → IsBook b → IsBook (record b { wants = wants_after (wanting_row b full).change b.wants })
+wanting-book b full is =
+    either-want (λ r. IsBook (record b { wants = wants_after r.change b.wants })) b full
+    (λ paired clear. let stage : b.stage ≡ Paired = paired-is b.stage paired in change-keeps b change.Want is (ap is_synced stage) stage)
+    is
+
+pub wanting-formed : (b : Book) (full : Bool) → IfSome (wanting_row b full).answer IsWellFormedRecord
+wanting-formed b full = either-want (λ r. IfSome r.answer IsWellFormedRecord) b full (λ paired clear. tt) tt
+
+-- what is pushed has a place on the link
+pub wanting-places : (b : Book) (l : Link) → is_some (wanting_row b (is_full l)).answer ≡ true → 0 < free_places l
+wanting-places b l =
+    either-want (λ r. is_some r.answer ≡ true → 0 < free_places l) b (is_full l)
+    (λ paired clear answers. let room = ltb-false (free_places l) 65 clear in omega (arith, room))
+    (λ answers. absurd (cc))
+
+-- a core that asks for ports is the one that the row makes
+asked-core : (now : ℕ) (c : Core) (b : Book) (full : Bool) → record c { wants = wants_after (wanting_row b full).change c.wants } ≡ core_after now c (wanting_row b full)
+asked-core now c b full = either-want (λ r. record c { wants = wants_after r.change c.wants } ≡ core_after now c r) b full (λ paired clear. refl) refl
+
+ahead-asks : (b : Book) (full : Bool) (ch : Change) → (is_cause b ch && is_short_after (changed ch b) ch) ≡ true → ahead_row b full ch ≡ wanting_row (changed ch b) full
+ahead-asks b full ch is = ap (λ (t : Bool). let r : Transition = cond t (wanting_row (changed ch b) full) quiet in r) is
+
+ahead-rests : (b : Book) (full : Bool) (ch : Change) → (is_cause b ch && is_short_after (changed ch b) ch) ≡ false → ahead_row b full ch ≡ quiet
+ahead-rests b full ch is = ap (λ (t : Bool). let r : Transition = cond t (wanting_row (changed ch b) full) quiet in r) is
+
+module _ (now : ℕ) (c c2 : Core) (e e2 : Link) (r : Transition) (made : c2 ≡ core_after now c r) (link : e2 ≡ answered e r.answer) where
+  book : book_of c2 ≡ after (book_of c) r
+  book = ap book_of made ∙ book-after now c r
+
+  tested : (t : Bool) → (is_cause (book_of c) r.change && is_short_after (book_of c2) r.change) ≡ t → (is_cause (book_of c) r.change && is_short_after (after (book_of c) r) r.change) ≡ t
+  tested t h = sym (ap (λ (b : Book). is_cause (book_of c) r.change && is_short_after b r.change) book) ∙ h
+
+  asks : (is_cause (book_of c) r.change && is_short_after (book_of c2) r.change) ≡ true → wanting_row (book_of c2) (is_full e2) ≡ behind (book_of c) e r
+  asks h =
+      ap (λ (b : Book). wanting_row b (is_full e2)) book
+      ∙ ap (λ (l : Link). wanting_row (after (book_of c) r) (is_full l)) link
+      ∙ sym (ahead-asks (book_of c) (is_full (answered e r.answer)) r.change (tested true h))
+
+  rests : (is_cause (book_of c) r.change && is_short_after (book_of c2) r.change) ≡ false → behind (book_of c) e r ≡ quiet
+  rests h = ahead-rests (book_of c) (is_full (answered e r.answer)) r.change (tested false h)
+
+  -- ports are asked for behind a row
+  pub asked-behind : (is_cause (book_of c) r.change && is_short_after (book_of c2) r.change) ≡ true → (c3 : Core) → c3 ≡ record c2 { wants = wants_after (wanting_row (book_of c2) (is_full e2)).change c2.wants } → c3 ≡ core_behind now c e r
+  asked-behind h c3 is =
+      is
+      ∙ asked-core now c2 (book_of c2) (is_full e2)
+      ∙ ap (λ (x : Transition). core_after now c2 x) (asks h)
+      ∙ ap (λ (k : Core). core_after now k (behind (book_of c) e r)) made
+
+  pub asked-link : (is_cause (book_of c) r.change && is_short_after (book_of c2) r.change) ≡ true → (e3 : Link) → e3 ≡ answered e2 (wanting_row (book_of c2) (is_full e2)).answer → e3 ≡ answered (answered e r.answer) (behind (book_of c) e r).answer
+  asked-link h e3 is =
+      is
+      ∙ ap (λ (x : Transition). answered e2 x.answer) (asks h)
+      ∙ ap (λ (l : Link). answered l (behind (book_of c) e r).answer) link
+
+  -- none are asked for behind it
+  pub rested-behind : (is_cause (book_of c) r.change && is_short_after (book_of c2) r.change) ≡ false → c2 ≡ core_behind now c e r
+  rested-behind h = made ∙ sym (ap (λ (x : Transition). core_after now (core_after now c r) x) (rests h))
+
+  pub rested-link : (is_cause (book_of c) r.change && is_short_after (book_of c2) r.change) ≡ false → e2 ≡ answered (answered e r.answer) (behind (book_of c) e r).answer
+  rested-link h = link ∙ sym (ap (λ (x : Transition). answered (answered e r.answer) x.answer) (rests h))
+
+-- ---- the core behind a row
+
+pub ledger-behind : (now : ℕ) (c c2 : Core) (e : Link) (r : Transition) → c2 ≡ core_behind now c e r → ledger_of c2 ≡ ledger_after now (behind (book_of c) e r).change (ledger_after now r.change (ledger_of c))
+ledger-behind now c c2 e r made =
+    ledger-then now (core_after now c r) c2 (behind (book_of c) e r) (behind (book_of c) e r) made refl
+    ∙ ap (ledger_after now (behind (book_of c) e r).change) (ledger-then now c (core_after now c r) r r refl refl)
+
+ahead-adds : (b : Book) (full : Bool) (ch : Change) → adds (ahead_row b full ch).change ≡ false
+ahead-adds b full ch = at (is_cause b ch && is_short_after (changed ch b) ch)
+  where
+    at : (t : Bool) → adds (let r : Transition = cond t (wanting_row (changed ch b) full) quiet in r).change ≡ false
+    at true = either-want (λ r. adds r.change ≡ false) (changed ch b) full (λ paired clear. refl) refl
+    at false = refl
+
+-- the table is ready for at most one pair less
+pub ready-behind : (now : ℕ) (c c2 : Core) (e : Link) (r : Transition) → c2 ≡ core_behind now c e r → c.table.ready ≤ c2.table.ready + 1
+ready-behind now c c2 e r made =
+    let same = ready-kept now (core_after now c r) c2 (behind (book_of c) e r) (ahead-adds (book_of c) (is_full (answered e r.answer)) r.change) made in
+    let near = ready-then now c (core_after now c r) r refl in
+    omega (arith, same, near)
+
+-- ---- a granted port that becomes owned
+
+any-next : (test : ℕ → Bool) (ports items : List Port) (i : ℕ) (d : Port) (t whole : Bool) → items ≡ ports → i < length items → test (get_or items i d).0 ≡ t
+    → whole ≡ list_any test (map (λ (p : Port). p.0) (drop i ports)) → whole ≡ (t || list_any test (map (λ (p : Port). p.0) (drop (i + 1) ports)))
+any-next test ports items i d t whole same h is was =
+    was
+    ∙ ap (λ (ps : List Port). list_any test (map (λ (p : Port). p.0) (drop i ps))) (sym same)
+    ∙ at_drop_more (λ (ps : List Port). list_any test (map (λ (p : Port). p.0) ps)) items i d h
+    ∙ ap (λ (b : Bool). b || list_any test (map (λ (p : Port). p.0) (drop (i + 1) items))) is
+    ∙ ap (λ (ps : List Port). t || list_any test (map (λ (p : Port). p.0) (drop (i + 1) ps))) same
+
+pub any-on : (test : ℕ → Bool) (ports items : List Port) (i : ℕ) (d : Port) (whole : Bool) → items ≡ ports → i < length items → test (get_or items i d).0 ≡ false
+    → whole ≡ list_any test (map (λ (p : Port). p.0) (drop i ports)) → whole ≡ list_any test (map (λ (p : Port). p.0) (drop (i + 1) ports))
+any-on test ports items i d whole same h is was = any-next test ports items i d false whole same h is was
+
+pub any-here : (test : ℕ → Bool) (ports items : List Port) (i : ℕ) (d : Port) (whole : Bool) → items ≡ ports → i < length items → test (get_or items i d).0 ≡ true
+    → whole ≡ list_any test (map (λ (p : Port). p.0) (drop i ports)) → whole ≡ true
+any-here test ports items i d whole same h is was = any-next test ports items i d true whole same h is was
+
+pub any-over : (test : ℕ → Bool) (ports items : List Port) (i : ℕ) (whole : Bool) → items ≡ ports → length items ≤ i
+    → whole ≡ list_any test (map (λ (p : Port). p.0) (drop i ports)) → whole ≡ false
+any-over test ports items i whole same h was =
+    was
+    ∙ ap (λ (ps : List Port). list_any test (map (λ (p : Port). p.0) (drop i ps))) (sym same)
+    ∙ at_drop_all (λ (ps : List Port). list_any test (map (λ (p : Port). p.0) ps)) items i h
