@@ -7,7 +7,11 @@ use Rattle.std.proofs.lemmas.Bool.{and_parts, ltb-false}
 use Rattle.addresses.specs.declared.transport.Port.{Port}
 use Rattle.addresses.specs.Transport.{parity_of}
 use Rattle.nat_types.specs.declared.pairs.Endpoint.{Endpoint}
+use Rattle.nat_types.specs.declared.notes.NoteKind.TheVariants as happens
+use Rattle.nat_types.specs.declared.pairs.EntryState.TheVariants as state
+use Rattle.nat_types.specs.declared.pairs.Pair.{Pair}
 use Rattle.nat_types.specs.declared.records.Record.TheVariants as rec
+use Rattle.bindings.specs.Entries.{entry_in}
 use Rattle.bindings.specs.Ports.{chosen_port, is_open_in}
 use Rattle.bindings.specs.Table.{Table}
 use Rattle.port_range.specs.Ports.{IsChosen}
@@ -19,11 +23,14 @@ use Rattle.spec_binding.specs.declared.setups.Stage.TheVariants.{Paired}
 use Rattle.spec_binding.specs.declared.changes.Change.{Change}
 use Rattle.spec_binding.specs.declared.changes.Change.TheVariants as change
 use Rattle.spec_binding.specs.declared.changes.Transition.{Transition}
-use Rattle.spec_binding.specs.Books.{Book, IsBook, is_paired, is_synced}
+use Rattle.spec_binding.specs.declared.changes.PortRequest.{PortRequest}
+use Rattle.spec_binding.specs.declared.changes.Want.TheVariants as want
+use Rattle.spec_binding.specs.Books.{Book, IsBook, is_lone, is_paired, is_synced}
 use Rattle.spec_binding.specs.Ledgers.{Ledger, ledger_after}
-use Rattle.spec_binding.specs.Rows.{after, ahead_row, answered, behind, changed, is_cause, is_full, is_short_after, may_want, port_by, quiet, row, wanting_row}
+use Rattle.spec_binding.specs.Rows.{after, ahead_row, answered, behind, changed, is_at_limit, is_cause, is_full, is_short_after, may_want, new_pair, new_wish, paired_wish, port_by, port_for, quiet, row, unknown_wish, wanting_row, wish}
 use Rattle.spec_binding.proofs.Offered.{change-keeps, drawn-busy, paired-is, port-says}
 use Rattle.bind_core.specs.Changes.{adds, wants_after}
+use Rattle.bind_core.specs.Looks.{asked_row}
 use Rattle.bind_core.specs.Cores.{Core, book_of, core_after, core_behind, ledger_of}
 use Rattle.bind_core.proofs.Performing.{book-after, ledger-then, ready-kept, ready-then}
 
@@ -60,69 +67,54 @@ either-want P b full asks none = at (may_want b full) refl
         off false h = refl
     at false may = none
 
+either-asked : (P : Transition → Type 0) (t : Bool) (b : Book) (full : Bool) (ch : Change) → (is_paired b.stage ≡ true → full ≡ false → P (row change.Want (Some rec.Want) None)) → P quiet → P (asked_row t b full ch)
+either-asked P t b full ch asks none = at (t && is_short_after b ch)
+  where
+    at : (s : Bool) → P (let r : Transition = cond s (wanting_row b full) quiet in r)
+    at true = either-want P b full asks none
+    at false = none
+
 -- a book that asks for ports stays a book
-pub wanting-book : (b : Book) (full : Bool) → IsBook b → IsBook (record b { wants = wants_after (wanting_row b full).change b.wants })
-wanting-book b full is =
-    either-want (λ r. IsBook (record b { wants = wants_after r.change b.wants })) b full
+pub asked-book : (t : Bool) (b : Book) (full : Bool) (ch : Change) → IsBook b → IsBook (record b { wants = wants_after (asked_row t b full ch).change b.wants })
+asked-book t b full ch is =
+    either-asked (λ r. IsBook (record b { wants = wants_after r.change b.wants })) t b full ch
     (λ paired clear. let stage : b.stage ≡ Paired = paired-is b.stage paired in change-keeps b change.Want is (ap is_synced stage) stage)
     is
 
-pub wanting-formed : (b : Book) (full : Bool) → IfSome (wanting_row b full).answer IsWellFormedRecord
-wanting-formed b full = either-want (λ r. IfSome r.answer IsWellFormedRecord) b full (λ paired clear. tt) tt
+pub asked-formed : (t : Bool) (b : Book) (full : Bool) (ch : Change) → IfSome (asked_row t b full ch).answer IsWellFormedRecord
+asked-formed t b full ch = either-asked (λ r. IfSome r.answer IsWellFormedRecord) t b full ch (λ paired clear. tt) tt
 
 -- what is pushed has a place on the link
-pub wanting-places : (b : Book) (l : Link) → is_some (wanting_row b (is_full l)).answer ≡ true → 0 < free_places l
-wanting-places b l =
-    either-want (λ r. is_some r.answer ≡ true → 0 < free_places l) b (is_full l)
+pub asked-places : (t : Bool) (b : Book) (l : Link) (ch : Change) → is_some (asked_row t b (is_full l) ch).answer ≡ true → 0 < free_places l
+asked-places t b l ch =
+    either-asked (λ r. is_some r.answer ≡ true → 0 < free_places l) t b (is_full l) ch
     (λ paired clear answers. let room = ltb-false (free_places l) 65 clear in omega (arith, room))
     (λ answers. absurd (cc))
 
 -- a core that asks for ports is the one that the row makes
-asked-core : (now : ℕ) (c : Core) (b : Book) (full : Bool) → record c { wants = wants_after (wanting_row b full).change c.wants } ≡ core_after now c (wanting_row b full)
-asked-core now c b full = either-want (λ r. record c { wants = wants_after r.change c.wants } ≡ core_after now c r) b full (λ paired clear. refl) refl
+asked-core : (now : ℕ) (c : Core) (t : Bool) (b : Book) (full : Bool) (ch : Change) → record c { wants = wants_after (asked_row t b full ch).change c.wants } ≡ core_after now c (asked_row t b full ch)
+asked-core now c t b full ch = either-asked (λ r. record c { wants = wants_after r.change c.wants } ≡ core_after now c r) t b full ch (λ paired clear. refl) refl
 
-ahead-asks : (b : Book) (full : Bool) (ch : Change) → (is_cause b ch && is_short_after (changed ch b) ch) ≡ true → ahead_row b full ch ≡ wanting_row (changed ch b) full
-ahead-asks b full ch is = ap (λ (t : Bool). let r : Transition = cond t (wanting_row (changed ch b) full) quiet in r) is
+module _ (now : ℕ) (c c2 : Core) (e e2 : Link) (r : Transition) (t : Bool) (made : c2 ≡ core_after now c r) (link : e2 ≡ answered e r.answer) (cause : t ≡ is_cause (book_of c) r.change) where
+  asks : asked_row t (book_of c2) (is_full e2) r.change ≡ behind (book_of c) e r
+  asks =
+      ap (λ (b : Book). asked_row t b (is_full e2) r.change) (ap book_of made ∙ book-after now c r)
+      ∙ ap (λ (l : Link). asked_row t (after (book_of c) r) (is_full l) r.change) link
+      ∙ ap (λ (s : Bool). asked_row s (after (book_of c) r) (is_full (answered e r.answer)) r.change) cause
 
-ahead-rests : (b : Book) (full : Bool) (ch : Change) → (is_cause b ch && is_short_after (changed ch b) ch) ≡ false → ahead_row b full ch ≡ quiet
-ahead-rests b full ch is = ap (λ (t : Bool). let r : Transition = cond t (wanting_row (changed ch b) full) quiet in r) is
-
-module _ (now : ℕ) (c c2 : Core) (e e2 : Link) (r : Transition) (made : c2 ≡ core_after now c r) (link : e2 ≡ answered e r.answer) where
-  book : book_of c2 ≡ after (book_of c) r
-  book = ap book_of made ∙ book-after now c r
-
-  tested : (t : Bool) → (is_cause (book_of c) r.change && is_short_after (book_of c2) r.change) ≡ t → (is_cause (book_of c) r.change && is_short_after (after (book_of c) r) r.change) ≡ t
-  tested t h = sym (ap (λ (b : Book). is_cause (book_of c) r.change && is_short_after b r.change) book) ∙ h
-
-  asks : (is_cause (book_of c) r.change && is_short_after (book_of c2) r.change) ≡ true → wanting_row (book_of c2) (is_full e2) ≡ behind (book_of c) e r
-  asks h =
-      ap (λ (b : Book). wanting_row b (is_full e2)) book
-      ∙ ap (λ (l : Link). wanting_row (after (book_of c) r) (is_full l)) link
-      ∙ sym (ahead-asks (book_of c) (is_full (answered e r.answer)) r.change (tested true h))
-
-  rests : (is_cause (book_of c) r.change && is_short_after (book_of c2) r.change) ≡ false → behind (book_of c) e r ≡ quiet
-  rests h = ahead-rests (book_of c) (is_full (answered e r.answer)) r.change (tested false h)
-
-  -- ports are asked for behind a row
-  pub asked-behind : (is_cause (book_of c) r.change && is_short_after (book_of c2) r.change) ≡ true → (c3 : Core) → c3 ≡ record c2 { wants = wants_after (wanting_row (book_of c2) (is_full e2)).change c2.wants } → c3 ≡ core_behind now c e r
-  asked-behind h c3 is =
+  -- ports are asked for behind a row, or aren't
+  pub asked-behind : (c3 : Core) → c3 ≡ record c2 { wants = wants_after (asked_row t (book_of c2) (is_full e2) r.change).change c2.wants } → c3 ≡ core_behind now c e r
+  asked-behind c3 is =
       is
-      ∙ asked-core now c2 (book_of c2) (is_full e2)
-      ∙ ap (λ (x : Transition). core_after now c2 x) (asks h)
+      ∙ asked-core now c2 t (book_of c2) (is_full e2) r.change
+      ∙ ap (λ (x : Transition). core_after now c2 x) asks
       ∙ ap (λ (k : Core). core_after now k (behind (book_of c) e r)) made
 
-  pub asked-link : (is_cause (book_of c) r.change && is_short_after (book_of c2) r.change) ≡ true → (e3 : Link) → e3 ≡ answered e2 (wanting_row (book_of c2) (is_full e2)).answer → e3 ≡ answered (answered e r.answer) (behind (book_of c) e r).answer
-  asked-link h e3 is =
+  pub asked-link : (e3 : Link) → e3 ≡ answered e2 (asked_row t (book_of c2) (is_full e2) r.change).answer → e3 ≡ answered (answered e r.answer) (behind (book_of c) e r).answer
+  asked-link e3 is =
       is
-      ∙ ap (λ (x : Transition). answered e2 x.answer) (asks h)
+      ∙ ap (λ (x : Transition). answered e2 x.answer) asks
       ∙ ap (λ (l : Link). answered l (behind (book_of c) e r).answer) link
-
-  -- none are asked for behind it
-  pub rested-behind : (is_cause (book_of c) r.change && is_short_after (book_of c2) r.change) ≡ false → c2 ≡ core_behind now c e r
-  rested-behind h = made ∙ sym (ap (λ (x : Transition). core_after now (core_after now c r) x) (rests h))
-
-  pub rested-link : (is_cause (book_of c) r.change && is_short_after (book_of c2) r.change) ≡ false → e2 ≡ answered (answered e r.answer) (behind (book_of c) e r).answer
-  rested-link h = link ∙ sym (ap (λ (x : Transition). answered (answered e r.answer) x.answer) (rests h))
 
 -- ---- the core behind a row
 
@@ -170,3 +162,23 @@ any-over test ports items i whole same h was =
     was
     ∙ ap (λ (ps : List Port). list_any test (map (λ (p : Port). p.0) (drop i ps))) (sym same)
     ∙ at_drop_all (λ (ps : List Port). list_any test (map (λ (p : Port). p.0) ps)) items i h
+
+-- ---- a port that was looked at
+
+-- a wish that is answered by a port is that of the port
+looked-new : (b : Book) (apart full : Bool) (e : Endpoint) (port : Port) (o : Option Port) → (new_wish b apart full e o).answer ≡ want.Port port → new_wish b apart full e o ≡ new_wish b apart full e (Some port)
+looked-new b apart full e port None h = absurd (cc)
+looked-new b apart full e port (Some q) h = ap (λ (p : Port). new_wish b apart full e (Some p)) (at (is_lone b.stage) apart full h)
+  where
+    at : (lone apart full : Bool) → (let w : PortRequest = cond lone (wish (want.Port q) (row (change.Add (entry_in state.Live (new_pair e q))) None (Some (happens.Retaken (new_pair e q))))) (paired_wish apart full (new_pair e q)) in w).answer ≡ want.Port port → q ≡ port
+    at true apart full h = cc
+    at false true full h = cc
+    at false false true h = absurd (cc)
+    at false false false h = absurd (cc)
+
+pub looked-is : (b : Book) (apart full : Bool) (e : Endpoint) (port : Port) → (unknown_wish b apart full e).answer ≡ want.Port port → unknown_wish b apart full e ≡ new_wish b apart full e (Some port)
+looked-is b apart full e port h = at (is_at_limit b e.address) h
+  where
+    at : (t : Bool) → (let w : PortRequest = cond t (wish want.HostLimit quiet) (new_wish b apart full e (port_for b e)) in w).answer ≡ want.Port port → (let w : PortRequest = cond t (wish want.HostLimit quiet) (new_wish b apart full e (port_for b e)) in w) ≡ new_wish b apart full e (Some port)
+    at true h = absurd (cc)
+    at false h = looked-new b apart full e port (port_for b e) h

@@ -2,6 +2,7 @@
 ghost use Rattle.std.specs.Prelude.{◌≡◌};
 ghost use Rattle.bind_core.specs.Changes.{wants_after};
 ghost use Rattle.bind_core.specs.Cores.{book_of};
+ghost use Rattle.bind_core.specs.Looks.{asked_row};
 ghost use Rattle.spec_binding.specs.Rows.{answered, is_full, wanting_row};
 ghost use Rattle.spec_binding.specs.Rows.{is_cause as is_cause_in, is_short as is_short_in};
 ghost use Rattle.spec_binding.specs.Rows.{is_short_after as is_short_after_in};
@@ -26,14 +27,27 @@ impl Core {
         }
     }
 
-    /// Asks the peer for ports, where it may be asked.
-    pub(crate) fn ask_for_ports(&mut self, link: &mut Link)
-        ensures core { let row = wanting_row (book_of self.old) (is_full link.old)
+    /// Returns what is asked for behind a change that was made, where the change is a cause to ask for
+    /// ports ahead.
+    fn asked(&self, is_cause: bool, full: bool, change: Change) -> Transition
+        ensures { result ≡ asked_row is_cause (book_of self.now) full change }
+    {
+        if is_cause && self.is_short_after(change) {
+            self.wanting(full)
+        } else {
+            quiet()
+        }
+    }
+
+    /// Asks the peer for ports behind a change that was made, where the change is a cause to ask for
+    /// ports ahead, the gateway is short after it, and the peer may be asked.
+    pub(crate) fn ask_ahead(&mut self, link: &mut Link, is_cause: bool, change: Change)
+        ensures core { let row = asked_row is_cause (book_of self.old) (is_full link.old) change
             in self.new ≡ record self.old { wants = wants_after row.change self.old.wants } }
-        ensures link { let row = wanting_row (book_of self.old) (is_full link.old)
+        ensures link { let row = asked_row is_cause (book_of self.old) (is_full link.old) change
             in link.new ≡ answered link.old row.answer }
     {
-        let row = self.wanting(is_link_full(link));
+        let row = self.asked(is_cause, is_link_full(link), change);
         push_answer(link, row.answer);
         self.wants = is_wanting(row.change, self.wants);
     }
@@ -58,7 +72,7 @@ impl Core {
     }
 
     /// Whether the gateway is short after a change: of a pair in its protocol, else in some protocol.
-    pub(crate) fn is_short_after(&self, change: Change) -> bool
+    fn is_short_after(&self, change: Change) -> bool
         ensures { result ≡ is_short_after_in (book_of self.now) change }
     {
         match change {

@@ -19,7 +19,7 @@ ghost use Rattle.bind_core.specs.Memory.{LacksCore};
 ghost use Rattle.slots.specs.Memory.{LacksEndpoints};
 ghost use Rattle.memory.specs.Memory.{WasRefused};
 
-use crate::deeds::{Bounds, change_table, count_keys, is_wanting, own_range, recall_port, tell};
+use crate::deeds::{Bounds, change_table, count_keys, is_wanting, note, own_range, push_answer, recall_port};
 use crate::rows::{is_lone, is_paired, is_synced};
 use addresses::Port;
 use bindings::{Hashers, Table};
@@ -140,6 +140,26 @@ impl Core {
 
     // ---- what a row does
 
+    /// Changes the core by a row, and pushes its answer.
+    fn change_by(&mut self, link: &mut Link, now: u64, row: Transition)
+        requires fits { Fits (book_of self.old) row.change }
+        requires kept { IsBook (after (book_of self.old) row) }
+        requires formed { IfSome row.answer IsWellFormedRecord }
+        requires ready { adds row.change ≡ true → 0 < self.old.table.ready }
+        requires steady { is_promised (book_of self.old) ≡ true → IsSteady (book_of self.old)
+            row.change }
+        requires places { IsTrue (is_some row.answer) → 0 < free_places link.old }
+        ensures core { self.new ≡ core_after now self.old row }
+        ensures link { link.new ≡ answered link.old row.answer }
+        ensures pasts { LivesOn now row.change self.old.table self.new.table }
+    {
+        steady_batch_law();
+        change_table(&mut self.table, self.bounds, row.change, now);
+        self.wants = is_wanting(row.change, self.wants);
+        push_answer(link, row.answer);
+    }
+
+    /// Carries a row out.
     pub(crate) fn perform(
         &mut self,
         link: &mut Link,
@@ -162,10 +182,8 @@ impl Core {
         ensures len { vec_len notes.new ≤ vec_len notes.old + 1 }
         ensures capacity { vec_capacity notes.new ≡ vec_capacity notes.old }
     {
-        steady_batch_law();
-        change_table(&mut self.table, self.bounds, row.change, now);
-        self.wants = is_wanting(row.change, self.wants);
-        tell(link, notes, self.id, now, row);
+        self.change_by(link, now, row);
+        note(notes, self.id, now, true, row.what);
     }
 
     /// Carries a row out, and behind it asks the peer for ports, where the row's change is a cause to
@@ -194,10 +212,9 @@ impl Core {
         ensures capacity { vec_capacity notes.new ≡ vec_capacity notes.old }
     {
         let is_cause = self.is_cause(row.change);
-        self.perform(link, notes, now, row);
-        if is_cause && self.is_short_after(row.change) {
-            self.ask_for_ports(link);
-        }
+        self.change_by(link, now, row);
+        self.ask_ahead(link, is_cause, row.change);
+        note(notes, self.id, now, true, row.what);
     }
 
     // ---- beginnings

@@ -65,7 +65,6 @@ impl Core {
     fn has_port(&self, endpoint: Endpoint) -> bool
         ensures { result ≡ is_some (port_for (book_of self.now) endpoint) }
     {
-        self.recall();
         self.table
             .free_like(endpoint.protocol, endpoint.port.parity())
             .is_some()

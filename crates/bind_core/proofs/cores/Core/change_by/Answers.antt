@@ -7,7 +7,7 @@ use Rattle.bind_core.specs.Changes.{IsSteady, LivesOn, adds}
 use Rattle.bind_core.specs.Cores.{Core, book_of, core_after}
 use Rattle.bind_core.specs.View.{core_of}
 use Rattle.bind_core.proofs.Performing.{made-after, kept-after, still-between, coming-after, fits-table}
-use Rattle.bind_core.proofs.cores.Core.perform.Goals as goal
+use Rattle.bind_core.proofs.cores.Core.change_by.Goals as goal
 
 pub change_table-requires-clause-fits : goal.change_table-requires-clause-fits
 change_table-requires-clause-fits c = fits-table (core_of c.self.inside) c.args.row.change (subst (λ (k : Core). Fits (book_of k) c.args.row.change) (sym c.self.view_is) c.requires.fits)
@@ -41,6 +41,3 @@ returns-clause-core c =
 
 pub returns-clause-pasts : goal.returns-clause-pasts
 returns-clause-pasts c = subst (λ (k : Core). LivesOn c.args.now c.args.row.change k.table c.change_table.new.table) c.self.view_is c.change_table.ensures.lives
-
-pub returns-clause-notes : goal.returns-clause-notes
-returns-clause-notes c = c.tell.ensures.items ∙ ap (λ (k : Core). c.args.notes.now.items ++ noted_by k.id c.args.now c.args.row.what) c.self.view_is
