@@ -10,6 +10,7 @@ use Rattle.nat_types.specs.declared.pairs.Endpoint.{Endpoint}
 use Rattle.nat_types.specs.declared.notes.NoteKind.TheVariants as happens
 use Rattle.nat_types.specs.declared.pairs.EntryState.TheVariants as state
 use Rattle.nat_types.specs.declared.pairs.Pair.{Pair}
+use Rattle.nat_types.specs.declared.records.Record.{Record}
 use Rattle.nat_types.specs.declared.records.Record.TheVariants as rec
 use Rattle.bindings.specs.Entries.{entry_in}
 use Rattle.bindings.specs.Ports.{chosen_port, is_open_in}
@@ -26,13 +27,13 @@ use Rattle.spec_binding.specs.declared.changes.Transition.{Transition}
 use Rattle.spec_binding.specs.declared.changes.PortRequest.{PortRequest}
 use Rattle.spec_binding.specs.declared.changes.Want.TheVariants as want
 use Rattle.spec_binding.specs.Books.{Book, IsBook, is_lone, is_paired, is_synced}
-use Rattle.spec_binding.specs.Ledgers.{Ledger, ledger_after}
-use Rattle.spec_binding.specs.Rows.{after, ahead_row, answered, behind, changed, is_at_limit, is_cause, is_full, is_short_after, may_want, new_pair, new_wish, paired_wish, port_by, port_for, quiet, row, unknown_wish, wanting_row, wish}
+use Rattle.spec_binding.specs.Ledgers.{Ledger, ledger_after, rests_for, taken_ledger}
+use Rattle.spec_binding.specs.Rows.{after, ahead_row, answered, behind, changed, is_at_limit, is_cause, is_full, is_short_after, may_want, new_pair, new_wish, paired_wish, port_by, port_for, quiet, row, row_of, taken_behind, unknown_wish, wanting_row, wish}
 use Rattle.spec_binding.proofs.Offered.{change-keeps, drawn-busy, paired-is, port-says}
 use Rattle.bind_core.specs.Changes.{adds, wants_after}
 use Rattle.bind_core.specs.Looks.{asked_row}
 use Rattle.bind_core.specs.Cores.{Core, book_of, core_after, core_behind, ledger_of}
-use Rattle.bind_core.proofs.Performing.{book-after, ledger-then, ready-kept, ready-then}
+use Rattle.bind_core.proofs.Performing.{book-after, ledger-then, ready-kept, ready-then, taken-ledger}
 
 -- ---- whether a port is free
 
@@ -182,3 +183,21 @@ looked-is b apart full e port h = at (is_at_limit b e.address) h
     at : (t : Bool) → (let w : PortRequest = cond t (wish want.HostLimit quiet) (new_wish b apart full e (port_for b e)) in w).answer ≡ want.Port port → (let w : PortRequest = cond t (wish want.HostLimit quiet) (new_wish b apart full e (port_for b e)) in w) ≡ new_wish b apart full e (Some port)
     at true h = absurd (cc)
     at false h = looked-new b apart full e port (port_for b e) h
+
+-- ---- behind a record
+
+pub taken-behind : (b : Book) (e : Link) (rests : Bool) (r : Record) → is_synced b.stage ≡ true → taken_behind b e rests r ≡ behind b e (row_of b rests r)
+taken-behind b e rests r h = ap (λ (t : Bool). let x : Transition = cond t (behind b e (row_of b rests r)) quiet in x) h
+
+pub loaded-behind : (b : Book) (e : Link) (rests : Bool) (r : Record) → is_synced b.stage ≡ false → taken_behind b e rests r ≡ quiet
+loaded-behind b e rests r h = ap (λ (t : Bool). let x : Transition = cond t (behind b e (row_of b rests r)) quiet in x) h
+
+pub taken-ledger-behind : (now : ℕ) (c c2 : Core) (e : Link) (r : Record) → is_synced c.stage ≡ true → c2 ≡ core_behind now c e (row_of (book_of c) (rests_for now (ledger_of c) r) r)
+    → ledger_of c2 ≡ ledger_after now (taken_behind (book_of c) e (rests_for now (ledger_of c) r) r).change (taken_ledger now (ledger_of c) r)
+taken-ledger-behind now c c2 e r h made =
+    let b = book_of c in
+    let rests = rests_for now (ledger_of c) r in
+    let row = row_of b rests r in
+    ledger-behind now c c2 e row made
+    ∙ ap (λ (x : Ledger). ledger_after now (behind b e row).change x) (sym (ledger-then now c (core_after now c row) row row refl refl) ∙ taken-ledger now c (core_after now c row) r h refl)
+    ∙ sym (ap (λ (x : Transition). ledger_after now x.change (taken_ledger now (ledger_of c) r)) (taken-behind b e rests r h))

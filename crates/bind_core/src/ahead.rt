@@ -1,5 +1,7 @@
 //! Ports that the peer is asked for: where no port is free, and ahead of that.
-ghost use Rattle.std.specs.Prelude.{◌≡◌};
+ghost use Rattle.std.specs.Prelude.{◌≡◌, ◌<◌, IfSome, IsTrue, is_some};
+ghost use Rattle.link.specs.Grammar.{IsWellFormedRecord};
+ghost use Rattle.link.specs.Link.{free_places};
 ghost use Rattle.bind_core.specs.Changes.{wants_after};
 ghost use Rattle.bind_core.specs.Cores.{book_of};
 ghost use Rattle.bind_core.specs.Looks.{asked_row};
@@ -41,7 +43,7 @@ impl Core {
 
     /// Asks the peer for ports behind a change that was made, where the change is a cause to ask for
     /// ports ahead, the gateway is short after it, and the peer may be asked.
-    pub(crate) fn ask_ahead(&mut self, link: &mut Link, is_cause: bool, change: Change)
+    fn ask_ahead(&mut self, link: &mut Link, is_cause: bool, change: Change)
         ensures core { let row = asked_row is_cause (book_of self.old) (is_full link.old) change
             in self.new ≡ record self.old { wants = wants_after row.change self.old.wants } }
         ensures link { let row = asked_row is_cause (book_of self.old) (is_full link.old) change
@@ -49,7 +51,28 @@ impl Core {
     {
         let row = self.asked(is_cause, is_link_full(link), change);
         push_answer(link, row.answer);
-        self.wants = is_wanting(row.change, self.wants);
+        self.wants = is_wanting(&row.change, self.wants);
+    }
+
+    /// Pushes the answer of a row, whose change was made, and asks for ports behind it.
+    pub(crate) fn answer(
+        &mut self,
+        link: &mut Link,
+        is_cause: bool,
+        change: Change,
+        answer: Option<Record>,
+    )
+        requires places { IsTrue (is_some answer) → 0 < free_places link.old }
+        requires formed { IfSome answer IsWellFormedRecord }
+        ensures core { let full = is_full (answered link.old answer) in
+            let more = asked_row is_cause (book_of self.old) full change
+            in self.new ≡ record self.old { wants = wants_after more.change self.old.wants } }
+        ensures link { let full = is_full (answered link.old answer) in
+            let more = asked_row is_cause (book_of self.old) full change
+            in link.new ≡ answered (answered link.old answer) more.answer }
+    {
+        push_answer(link, answer);
+        self.ask_ahead(link, is_cause, change);
     }
 
     /// Whether a change is a cause to ask for ports ahead: a pair is made, or a granted port becomes

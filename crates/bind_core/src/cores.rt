@@ -1,7 +1,7 @@
 //! The core of a gateway: its table, its stage, and what a promised batch and a loading have
 //! reached.
 ghost use Rattle.std.specs.Prelude.{◌≡◌, ◌+◌, ◌*◌, ◌<◌, ◌≤◌, ◌++◌, [], true, IsTrue, IsOk, IfOk};
-ghost use Rattle.std.specs.Prelude.{IfSome, is_some, length, vec_len, vec_capacity, false, OnOk, OnErr};
+ghost use Rattle.std.specs.Prelude.{IfSome, None, is_some, length, vec_len, vec_capacity, false, OnOk, OnErr};
 ghost use Rattle.link.specs.Grammar.{IsWellFormedRecord};
 ghost use Rattle.link.specs.Link.{free_places};
 ghost use Rattle.spec_binding.specs.Books.{IsBook, is_synced as is_synced_at, is_apart as is_apart_at};
@@ -9,7 +9,7 @@ ghost use Rattle.spec_binding.specs.Books.{is_lone as is_lone_at, is_promised, e
 ghost use Rattle.spec_binding.specs.Books.{founded_book};
 ghost use Rattle.spec_binding.specs.Ledgers.{bare_ledger};
 ghost use Rattle.spec_binding.specs.WellFormed.{Fits};
-ghost use Rattle.spec_binding.specs.Rows.{noted_by, after, answered, behind};
+ghost use Rattle.spec_binding.specs.Rows.{noted_by, after, answered, behind, changed, row as row_with};
 ghost use Rattle.bind_core.specs.Changes.{adds, IsSteady, LivesOn};
 ghost use Rattle.bindings.specs.Ports.{AreBounds, key_count};
 ghost use Rattle.nat_types.specs.declared.gateways.GatewayId.TheVariants.{Zero};
@@ -19,7 +19,7 @@ ghost use Rattle.bind_core.specs.Memory.{LacksCore};
 ghost use Rattle.slots.specs.Memory.{LacksEndpoints};
 ghost use Rattle.memory.specs.Memory.{WasRefused};
 
-use crate::deeds::{Bounds, change_table, count_keys, is_wanting, note, own_range, push_answer, recall_port};
+use crate::deeds::{Bounds, change_table, count_keys, is_wanting, note, own_range, recall_port, tell};
 use crate::rows::{is_lone, is_paired, is_synced};
 use addresses::Port;
 use bindings::{Hashers, Table};
@@ -27,7 +27,7 @@ use link::Link;
 use memory::with_room;
 use nat_types::{Endpoint, GatewayId, Key, Note};
 use resync::{Cursor, Loading, steady_batch_law};
-use spec_binding::{Rules, Stage, Transition, books_begin};
+use spec_binding::{Change, Rules, Stage, Transition, books_begin};
 use std::alloc::{AllocError, Global};
 use std::marker::Model;
 
@@ -140,23 +140,19 @@ impl Core {
 
     // ---- what a row does
 
-    /// Changes the core by a row, and pushes its answer.
-    fn change_by(&mut self, link: &mut Link, now: u64, row: Transition)
-        requires fits { Fits (book_of self.old) row.change }
-        requires kept { IsBook (after (book_of self.old) row) }
-        requires formed { IfSome row.answer IsWellFormedRecord }
-        requires ready { adds row.change ≡ true → 0 < self.old.table.ready }
+    /// Makes a change of the core.
+    fn change_by(&mut self, now: u64, change: Change)
+        requires fits { Fits (book_of self.old) change }
+        requires kept { IsBook (changed change (book_of self.old)) }
+        requires ready { adds change ≡ true → 0 < self.old.table.ready }
         requires steady { is_promised (book_of self.old) ≡ true → IsSteady (book_of self.old)
-            row.change }
-        requires places { IsTrue (is_some row.answer) → 0 < free_places link.old }
-        ensures core { self.new ≡ core_after now self.old row }
-        ensures link { link.new ≡ answered link.old row.answer }
-        ensures pasts { LivesOn now row.change self.old.table self.new.table }
+            change }
+        ensures core { self.new ≡ core_after now self.old (row_with change None None) }
+        ensures pasts { LivesOn now change self.old.table self.new.table }
     {
         steady_batch_law();
-        change_table(&mut self.table, self.bounds, row.change, now);
-        self.wants = is_wanting(row.change, self.wants);
-        push_answer(link, row.answer);
+        self.wants = is_wanting(&change, self.wants);
+        change_table(&mut self.table, self.bounds, change, now);
     }
 
     /// Carries a row out.
@@ -182,8 +178,8 @@ impl Core {
         ensures len { vec_len notes.new ≤ vec_len notes.old + 1 }
         ensures capacity { vec_capacity notes.new ≡ vec_capacity notes.old }
     {
-        self.change_by(link, now, row);
-        note(notes, self.id, now, true, row.what);
+        self.change_by(now, row.change);
+        tell(link, notes, self.id, now, row);
     }
 
     /// Carries a row out, and behind it asks the peer for ports, where the row's change is a cause to
@@ -212,8 +208,8 @@ impl Core {
         ensures capacity { vec_capacity notes.new ≡ vec_capacity notes.old }
     {
         let is_cause = self.is_cause(row.change);
-        self.change_by(link, now, row);
-        self.ask_ahead(link, is_cause, row.change);
+        self.change_by(now, row.change);
+        self.answer(link, is_cause, row.change, row.answer);
         note(notes, self.id, now, true, row.what);
     }
 

@@ -270,8 +270,8 @@ pub(crate) fn change_table(table: &mut Table, bounds: Bounds, change: Change, no
 }
 
 /// Whether a Want is open after a change.
-pub(crate) fn is_wanting(change: Change, wants: bool) -> bool
-    ensures { result ≡ wants_after change wants }
+pub(crate) fn is_wanting(change: &Change, wants: bool) -> bool
+    ensures { result ≡ wants_after change.now wants }
 {
     match change {
         Change::Want => true,
