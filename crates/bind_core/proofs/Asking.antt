@@ -201,3 +201,9 @@ taken-ledger-behind now c c2 e r h made =
     ledger-behind now c c2 e row made
     ∙ ap (λ (x : Ledger). ledger_after now (behind b e row).change x) (sym (ledger-then now c (core_after now c row) row row refl refl) ∙ taken-ledger now c (core_after now c row) r h refl)
     ∙ sym (ap (λ (x : Transition). ledger_after now x.change (taken_ledger now (ledger_of c) r)) (taken-behind b e rests r h))
+
+-- ---- a wish of a port that was looked at
+
+pub looked-wish : (b : Book) (apart full : Bool) (e : Endpoint) (o : Option Port) → is_some o ≡ true → IfSome o (λ port. (unknown_wish b apart full e).answer ≡ want.Port port) → new_wish b apart full e o ≡ unknown_wish b apart full e
+looked-wish b apart full e None h given = absurd (cc)
+looked-wish b apart full e (Some port) h given = sym (looked-is b apart full e port given)
