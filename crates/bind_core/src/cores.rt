@@ -19,7 +19,9 @@ ghost use Rattle.bind_core.specs.Memory.{LacksCore};
 ghost use Rattle.slots.specs.Memory.{LacksEndpoints};
 ghost use Rattle.memory.specs.Memory.{WasRefused};
 
-use crate::deeds::{Bounds, change_table, count_keys, is_wanting, note, own_range, recall_port, tell};
+use crate::deeds::{
+    Bounds, change_table, count_keys, is_wanting, note, own_range, recall_port, tell,
+};
 use crate::rows::{is_lone, is_paired, is_synced};
 use addresses::Port;
 use bindings::{Hashers, Table};

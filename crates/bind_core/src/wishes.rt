@@ -19,9 +19,7 @@ use addresses::{Ip, Port};
 use bindings::numbers;
 use link::Link;
 use nat_types::{Endpoint, EntryState, Key, Note, NoteKind, Pair};
-use spec_binding::{
-    Choice, PortRequest, Want, answers_fit, books_keep, rows_fit, wish_works,
-};
+use spec_binding::{Choice, PortRequest, Want, answers_fit, books_keep, rows_fit, wish_works};
 
 /// Returns the answer to a packet of an endpoint whose pair would be made at once, on this port or on
 /// none.

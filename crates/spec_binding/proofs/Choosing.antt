@@ -1,5 +1,5 @@
 -- Where no port is chosen for an endpoint.
-use Rattle.std.proofs.Common.{◌≡◌, ℕ, false, Option, None, List}
+use Rattle.std.proofs.Common.{◌≡◌, ℕ, false, None, List}
 use Rattle.std.proofs.lemmas.Bool.{and_parts}
 use Rattle.addresses.specs.Transport.{parity_of}
 use Rattle.nat_types.specs.declared.pairs.Endpoint.{Endpoint}
