@@ -1,5 +1,5 @@
 -- The peer is asked for ports, and a port is looked for.
-use Rattle.std.proofs.Common.{◌≡◌, ℕ, ◌+◌, ◌<◌, ◌≤◌, Bool, true, false, cond, not, ◌&&◌, ◌||◌, is_some, Option, Some, None, List, drop, get_or, length, map, refl, sym, ap, subst, ◌∙◌, arith}
+use Rattle.std.proofs.Common.{◌≡◌, ℕ, ◌+◌, ◌<◌, ◌≤◌, Bool, true, false, cond, not, ◌&&◌, ◌||◌, is_some, Option, Some, None, List, drop, get_or, length, map, refl, sym, ap, ◌∙◌, arith}
 use Rattle.std.specs.List.{list_any}
 use Rattle.std.specs.Option.{IfSome, IfNone}
 use Rattle.std.proofs.lemmas.List.{at_drop_all, at_drop_more}
@@ -9,12 +9,10 @@ use Rattle.addresses.specs.Transport.{parity_of}
 use Rattle.nat_types.specs.declared.pairs.Endpoint.{Endpoint}
 use Rattle.nat_types.specs.declared.notes.NoteKind.TheVariants as happens
 use Rattle.nat_types.specs.declared.pairs.EntryState.TheVariants as state
-use Rattle.nat_types.specs.declared.pairs.Pair.{Pair}
 use Rattle.nat_types.specs.declared.records.Record.{Record}
 use Rattle.nat_types.specs.declared.records.Record.TheVariants as rec
 use Rattle.bindings.specs.Entries.{entry_in}
 use Rattle.bindings.specs.Ports.{chosen_port, is_open_in}
-use Rattle.bindings.specs.Table.{Table}
 use Rattle.port_range.specs.Ports.{IsChosen}
 use Rattle.link.specs.Grammar.{IsWellFormedRecord}
 use Rattle.link.specs.Link.{Link, free_places}

@@ -54,7 +54,7 @@ use Rattle.std.proofs.Common.{true, false, cond, [], ◌∷◌, ◌++◌, map, t
 use Rattle.bind_core.specs.Changes.{table_book, table_after, wants_after, ready_after, adds, IsBetween, IsSteady}
 use Rattle.bind_core.specs.declared.deeds.Bounds.{Bounds}
 use Rattle.spec_binding.specs.Ledgers.{Ledger, lone_ledger, ledger_after, lives_after, lives_loaded, rests_for, restarted_ledger, taken_ledger}
-use Rattle.bind_core.specs.Cores.{Core, book_of, core_after, core_behind, ledger_of, is_whole, revived_with, rules_of, what_loaded}
+use Rattle.bind_core.specs.Cores.{Core, book_of, core_after, ledger_of, is_whole, revived_with, rules_of, what_loaded}
 use Rattle.bind_core.specs.View.{core_of}
 use Rattle.bind_core.specs.declared.cores.Core.TheInside.{Inside}
 use Rattle.bind_core.proofs.Porting.{gained-rest}

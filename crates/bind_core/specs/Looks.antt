@@ -1,5 +1,5 @@
 -- The answers to a packet of an endpoint without a pair, where nothing is made yet, and what is asked for behind a row.
-use Rattle.std.specs.Prelude.{◌&&◌, Bool, true, false, Option, Some, None, not, if◌then◌else◌}
+use Rattle.std.specs.Prelude.{◌&&◌, Bool, Option, Some, None, not, if◌then◌else◌}
 use Rattle.addresses.specs.declared.transport.Port.{Port}
 use Rattle.spec_binding.specs.declared.changes.Change.{Change}
 use Rattle.spec_binding.specs.declared.changes.Transition.{Transition}

@@ -1,7 +1,7 @@
 use Rattle.std.proofs.Common.{sym, ◌∙◌}
 use Rattle.spec_binding.specs.Rows.{is_gained}
 use Rattle.bind_core.specs.Changes.{table_book}
-use Rattle.bind_core.proofs.Asking.{any-here, any-on, any-over}
+use Rattle.bind_core.proofs.Asking.{any-here, any-on}
 use Rattle.bind_core.proofs.deeds.gains_any.Goals as goal
 
 pub loop-port-preserved : goal.loop-port-preserved

@@ -1,7 +1,6 @@
-use Rattle.std.proofs.Common.{◌++◌, refl, sym, ap, subst, ◌∙◌}
+use Rattle.std.proofs.Common.{refl, sym, ap, subst}
 use Rattle.bindings.specs.Table.{Table}
-use Rattle.link.specs.Link.{Link}
-use Rattle.spec_binding.specs.Rows.{answered, noted_by}
+use Rattle.spec_binding.specs.Rows.{answered}
 use Rattle.bind_core.specs.Changes.{LivesOn}
 use Rattle.bind_core.specs.Cores.{Core}
 use Rattle.bind_core.proofs.Asking.{asked-behind, asked-link}
