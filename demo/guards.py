@@ -35,6 +35,9 @@ FIRST, OTHERS, STILL = 100, 6, 1.0
 PEER_ONLY = ("[gateway_0]", "[vrrp]\npeer_only = true\n\n[gateway_0]")
 OUTWARD_ALONE = ("one = [40000, 59999]", "one = [40000, 59999]\ninward_refresh = false")
 
+LISTED = ("outside_port = 7022", 'outside_port = 7022\n\n[[neighbour]]\nside = "outside"\nip = "192.0.2.254"\n'
+          'mac = "02-00-00-00-00-FE"')
+
 
 class Way(NamedTuple):
     """One way to run an attack: by which program, with which changes of the settings, and whether the guard is there."""
@@ -267,6 +270,18 @@ def neighbours(options):
     yield from by_sim(options, by_program(options, WIDE_INSIDE), guards_sim.neighbours)
 
 
+def moved(options):
+    yield from by_sim(options, by_program(options), guards_sim.moved)
+
+
+def host(options):
+    yield from by_sim(options, by_program(options), guards_sim.forged_host)
+
+
+def listed(options):
+    yield from by_sim(options, by_setting(options, LISTED), guards_sim.listed)
+
+
 def pairs(options):
     """What comes inward keeps a pair of UDP or of a ping where the setting is left out; of TCP it kept one before."""
     yield from by_sim(options, by_setting(options, OUTWARD_ALONE), guards_sim.pairs)
@@ -280,7 +295,7 @@ def ports(options):
 
 
 CONDITIONS = {"router": router, "advert": advert, "flood": flood, "places": places, "routes": routes,
-              "neighbours": neighbours, "pairs": pairs, "ports": ports}
+              "neighbours": neighbours, "moved": moved, "host": host, "listed": listed, "pairs": pairs, "ports": ports}
 
 
 def guards(options):
