@@ -212,33 +212,40 @@ def flood(options):
         yield Line("ARP packets of all stations", way.name, owed, seen, holds)
 
 
-def greedy_host(current):
-    """The other box stands still; one host opens many flows, and then the others some: how many of theirs are answered,
-    none of which asks twice."""
-    probe = Probe(current)
-    follow(current, probe, lambda: probe.flow.answered > 0, 10)
-    current.boxes[1].halt()
-    socks = []
+def ask_from(current, host):
+    """A socket of a host that has asked the server once."""
     with current.networks.host.entered():
-        for host, count in ((HOSTS[0], FIRST), *((other, OTHERS) for other in HOSTS[1:])):
-            for _ in range(count):
-                sock = socket.socket(socket.AF_INET, socket.SOCK_DGRAM)
-                current.stack.callback(sock.close)
-                sock.setblocking(False)
-                sock.bind((host, 0))
-                sock.sendto(b"flow 1 1\n", (SERVER, PORT))
-                socks.append((host, sock))
+        sock = socket.socket(socket.AF_INET, socket.SOCK_DGRAM)
+    current.stack.callback(sock.close)
+    sock.setblocking(False)
+    sock.bind((host, 0))
+    sock.sendto(b"flow 1 1\n", (SERVER, PORT))
+    return sock
+
+
+def is_answered(sock):
+    try:
+        return bool(sock.recv(2048))
+    except OSError:
+        return False
+
+
+def greedy_host(current):
+    """Each host is answered once, so that box 0 knows its MAC. Then the other box stands still; one host opens many flows,
+    and then the others some: how many of theirs are answered, none of which asks twice."""
+    for host in HOSTS:
+        first = ask_from(current, host)
+        current.loop.until(lambda sock=first: is_answered(sock), 10)
+    current.boxes[1].halt()
+    flows = [(host, FIRST if host == HOSTS[0] else OTHERS) for host in HOSTS]
+    socks = [(host, ask_from(current, host)) for host, count in flows for _ in range(count)]
     current.loop.until(lambda: False, STILL)
     current.boxes[1].go_on()
     answered = {host: 0 for host in HOSTS}
 
     def is_over():
         for host, sock in socks:
-            try:
-                sock.recv(2048)
-                answered[host] += 1
-            except OSError:
-                pass
+            answered[host] += is_answered(sock)
         return sum(answered.values()) == len(socks)
 
     current.loop.until(is_over, 3)
