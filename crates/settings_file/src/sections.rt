@@ -33,8 +33,8 @@ pub(crate) struct PortValues {
 }
 
 /// Returns the port ranges of gateway 0 and of gateway 1, the limit of each inside host, where there is one, after how
-/// many centiseconds without an answer a gateway makes pairs alone, whether packets inward keep their pairs, how a port is
-/// chosen, and how many are asked for ahead.
+/// many centiseconds without an answer a gateway makes pairs alone, whether packets inward keep their pairs, how a port
+/// is chosen, and how many are asked for ahead.
 #[tactic(auto, unfolding(crate::specs::Rows::bad_ports))]
 pub(crate) fn ports(document: &Table) -> Result<PortValues, Key>
     ensures zero { IfOk result (λ r. IsRange (table_view document.now) Zero r.zero) }
