@@ -104,8 +104,8 @@ def expect_launcher(options, before=False):
     """The scene has to be of a link that the launcher opens, and of the launcher before where it begins with that."""
     if (options.sides, options.link) != ("descriptor", "descriptor"):
         raise SystemExit(f"demo: {options.scene} is of a link that the launcher opens, without --sides and --link")
-    if before != bool(options.before):
-        raise SystemExit(f"demo: {options.scene} wants {'a' if before else 'no'} launcher --before")
+    if before and not options.before:
+        raise SystemExit(f"demo: {options.scene} wants a launcher --before")
 
 
 def over(options, link_over):

@@ -35,6 +35,9 @@ FIRST, OTHERS, STILL = 100, 6, 1.0
 PEER_ONLY = ("[gateway_0]", "[vrrp]\npeer_only = true\n\n[gateway_0]")
 OUTWARD_ALONE = ("one = [40000, 59999]", "one = [40000, 59999]\ninward_refresh = false")
 
+LISTED = ("outside_port = 7022", 'outside_port = 7022\n\n[[neighbour]]\nside = "outside"\nip = "192.0.2.254"\n'
+          'mac = "02-00-00-00-00-FE"')
+
 
 class Way(NamedTuple):
     """One way to run an attack: by which program, with which changes of the settings, and whether the guard is there."""
@@ -127,7 +130,8 @@ def router(options):
 
 
 def forged_advertisement(current):
-    """One advertisement of the highest priority and the longest interval, from a host inside."""
+    """One advertisement of the highest priority and the longest interval, from a host inside. It comes from the virtual
+    router's MAC, as each does: the switch sends what is for that MAC to the host until the Active box advertises again."""
     inside = current.networks.settings["inside"]
     frame = Advert(inside["vrid"], 255, "192.168.1.66", inside["virtual"], interval=4095).frame()
     sock = card_of(current, current.networks.host)
@@ -140,8 +144,8 @@ def advert(options):
     """The side is silent until the down interval that was advertised is over."""
     for way in by_setting(options, PEER_ONLY):
         seconds, dropped = in_scene(options, way, forged_advertisement)
-        owed = "dropped by both boxes" if way.is_guarded else f"silent for {PATIENCE} s and more"
-        holds = seconds < SILENT and dropped == 2 if way.is_guarded else seconds > PATIENCE - SILENT
+        owed = f"dropped by both, answered again in {HEALED} s" if way.is_guarded else f"silent for {PATIENCE} s and more"
+        holds = seconds < HEALED and dropped == 2 if way.is_guarded else seconds > PATIENCE - SILENT
         seen = f"{told_silence(seconds)}, dropped {dropped} times"
         yield Line("forged advertisement", way.name, owed, seen, holds)
 
@@ -209,33 +213,40 @@ def flood(options):
         yield Line("ARP packets of all stations", way.name, owed, seen, holds)
 
 
-def greedy_host(current):
-    """The other box stands still; one host opens many flows, and then the others some: how many of theirs are answered,
-    none of which asks twice."""
-    probe = Probe(current)
-    follow(current, probe, lambda: probe.flow.answered > 0, 10)
-    current.boxes[1].halt()
-    socks = []
+def ask_from(current, host):
+    """A socket of a host that has asked the server once."""
     with current.networks.host.entered():
-        for host, count in ((HOSTS[0], FIRST), *((other, OTHERS) for other in HOSTS[1:])):
-            for _ in range(count):
-                sock = socket.socket(socket.AF_INET, socket.SOCK_DGRAM)
-                current.stack.callback(sock.close)
-                sock.setblocking(False)
-                sock.bind((host, 0))
-                sock.sendto(b"flow 1 1\n", (SERVER, PORT))
-                socks.append((host, sock))
+        sock = socket.socket(socket.AF_INET, socket.SOCK_DGRAM)
+    current.stack.callback(sock.close)
+    sock.setblocking(False)
+    sock.bind((host, 0))
+    sock.sendto(b"flow 1 1\n", (SERVER, PORT))
+    return sock
+
+
+def is_answered(sock):
+    try:
+        return bool(sock.recv(2048))
+    except OSError:
+        return False
+
+
+def greedy_host(current):
+    """Each host is answered once, so that box 0 knows its MAC. Then the other box stands still; one host opens many flows,
+    and then the others some: how many of theirs are answered, none of which asks twice."""
+    for host in HOSTS:
+        first = ask_from(current, host)
+        current.loop.until(lambda sock=first: is_answered(sock), 10)
+    current.boxes[1].halt()
+    flows = [(host, FIRST if host == HOSTS[0] else OTHERS) for host in HOSTS]
+    socks = [(host, ask_from(current, host)) for host, count in flows for _ in range(count)]
     current.loop.until(lambda: False, STILL)
     current.boxes[1].go_on()
     answered = {host: 0 for host in HOSTS}
 
     def is_over():
         for host, sock in socks:
-            try:
-                sock.recv(2048)
-                answered[host] += 1
-            except OSError:
-                pass
+            answered[host] += is_answered(sock)
         return sum(answered.values()) == len(socks)
 
     current.loop.until(is_over, 3)
@@ -267,6 +278,18 @@ def neighbours(options):
     yield from by_sim(options, by_program(options, WIDE_INSIDE), guards_sim.neighbours)
 
 
+def moved(options):
+    yield from by_sim(options, by_program(options), guards_sim.moved)
+
+
+def host(options):
+    yield from by_sim(options, by_program(options), guards_sim.forged_host)
+
+
+def listed(options):
+    yield from by_sim(options, by_setting(options, LISTED), guards_sim.listed)
+
+
 def pairs(options):
     """What comes inward keeps a pair of UDP or of a ping where the setting is left out; of TCP it kept one before."""
     yield from by_sim(options, by_setting(options, OUTWARD_ALONE), guards_sim.pairs)
@@ -280,7 +303,7 @@ def ports(options):
 
 
 CONDITIONS = {"router": router, "advert": advert, "flood": flood, "places": places, "routes": routes,
-              "neighbours": neighbours, "pairs": pairs, "ports": ports}
+              "neighbours": neighbours, "moved": moved, "host": host, "listed": listed, "pairs": pairs, "ports": ports}
 
 
 def guards(options):

@@ -8,6 +8,7 @@
 - Each link leads to a file or a heading (packaging/links_check).
 - In `CRATE/src/FILE` the file is there; in `NAME` of `CRATE` the crate's sources have the name; of `Type::name` some
   crate has the function. In `section.key` the settings have the key.
+- In docs/RFC.md `NAME` behind "run" or "runs" is a run of `cases_program` or `cases_hostile`.
 
 It reads text, and is no parser.
 """
@@ -25,7 +26,7 @@ from sources import crates_of, sources_of
 
 TOP = pathlib.Path(__file__).resolve().parent.parent
 SIZES = {
-    "README.md": 10, "CHANGELOG.md": 9, "CONTRIBUTING.md": 10, "crates/README.md": 9,
+    "README.md": 10, "CHANGELOG.md": 11, "CONTRIBUTING.md": 10, "crates/README.md": 9,
     "docs/ARCHITECTURE.md": 14, "docs/CONTRACTS.md": 6, "docs/DECISIONS.md": 22, "docs/DEMO.md": 12, "docs/FENCING.md": 8,
     "docs/GLOSSARY.md": 6, "docs/INSTALL.md": 22, "docs/OPERATING.md": 23, "docs/PROTOCOL.md": 16, "docs/REFERENCE.md": 39,
     "docs/RFC.md": 34, "docs/SIZING.md": 10, "docs/THEOREM.md": 18, "docs/WRONG_BODIES.md": 18,
@@ -35,6 +36,9 @@ README_LINES = 60
 PLACE = re.compile(r"`(?:crates/)?(\w+)/((?:src|specs|proofs)/[\w/.]*)`")
 NAME_OF = re.compile(r"((?:`\w+`(?:, | and )?)+) of `(\w+)`")
 CALL = re.compile(r"`([A-Z]\w+)::(\w+)`")
+RUNS = re.compile(r"\bruns? ((?:`[\w-]+`(?:, | and )?)+)")
+# The verbs of `cases_program` that run a script's file.
+VERBS = ("script", "with", "alone", "pieces", "fault")
 KEY = re.compile(r"`(?:ports|inside|outside|icmp|fragments|vrrp|gateway_[01I]|neighbour)\.(\w+)`")
 
 
@@ -87,6 +91,25 @@ def names_in(page, top, words, everywhere):
             yield f"{where}: settings have no key {key}"
 
 
+def runs_of(top):
+    """The runs that `cases_program` and `cases_hostile` list, whose scripts are there."""
+    for crate in ("cases_program", "cases_hostile"):
+        data = top / "crates" / crate / "data"
+        lines = [line.split() for line in (data / "rows.list").read_text(encoding="utf-8").splitlines()]
+        rows = [words for words in lines if len(words) == 2 and words[0] != "#"]
+        names = [words[0] for words in rows] if crate == "cases_hostile" else [name for verb, name in rows if verb in VERBS]
+        yield from (name for name in names if (data / f"{name}.script").exists())
+
+
+def unknown_runs(top):
+    """The runs that docs/RFC.md names and nobody lists."""
+    runs = set(runs_of(top))
+    for names in RUNS.findall((top / "docs/RFC.md").read_text(encoding="utf-8")):
+        for name in re.findall(r"`([\w-]+)`", names):
+            if name not in runs:
+                yield f"docs/RFC.md: {name} is no run"
+
+
 def faults(top):
     words = words_of(top, crates_of(top))
     everywhere = set().union(*words.values())
@@ -95,7 +118,7 @@ def faults(top):
     pages = [*sorted(top.glob("*.md")), *sorted((top / "docs").glob("*.md")), *sorted((top / "crates").rglob("README.md"))]
     for page in pages:
         found += names_in(page, top, words, everywhere)
-    return found
+    return [*found, *unknown_runs(top)]
 
 
 PLANTED = {
@@ -105,6 +128,7 @@ PLANTED = {
     "place": ("docs/PROTOCOL.md", "`sums/src/nowhere.rt`", "docs/PROTOCOL.md: sums/src/nowhere.rt isn't there"),
     "name": ("docs/PROTOCOL.md", "`nobody` of `sums`", "docs/PROTOCOL.md: sums has no nobody"),
     "call": ("docs/PROTOCOL.md", "`Gateway::nothing_so_named`", "docs/PROTOCOL.md: nothing is Gateway::nothing_so_named"),
+    "run": ("docs/RFC.md", "runs `ping-gateway`, `ping-nobody`", "docs/RFC.md: ping-nobody is no run"),
     "key": ("docs/PROTOCOL.md", "`inside.no_key`", "docs/PROTOCOL.md: settings have no key no_key"),
 }
 
