@@ -55,6 +55,8 @@ mod Telling
 mod Translating
 mod Truths
 mod Turning
+mod Marking
+mod Refreshing
 mod Plain
 mod Unmoved
 mod Unused

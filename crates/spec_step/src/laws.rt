@@ -1,6 +1,6 @@
 //! The laws of a step of a gateway. Each law is the contract of a function that does nothing.
 
-ghost use Rattle.std.specs.Prelude.{◌≡◌, ◌≢◌, ◌↔◌, Ok, ◌≤◌, ◌<◌, ◌+◌, ◌^◌, ◌∷◌, ◌++◌, ℕ, true, false, [], Bool, List, length, reverse, Err, None, Some};
+ghost use Rattle.std.specs.Prelude.{◌≡◌, ◌≢◌, ◌↔◌, Ok, ◌≤◌, ◌<◌, ◌+◌, ◌^◌, ◌∷◌, ◌++◌, ◌||◌, ℕ, true, false, [], not, Bool, List, length, reverse, Err, None, Some};
 ghost use Rattle.std.specs.Borrow.{Bor};
 ghost use Rattle.std.specs.List.{AllByRecursion};
 ghost use Rattle.nat_types.specs.declared.gateways.GatewayId.{GatewayId};
@@ -13,6 +13,10 @@ ghost use Rattle.nat_types.specs.declared.pairs.Key.{Key};
 ghost use Rattle.nat_types.specs.declared.records.Record.{Record};
 ghost use Rattle.nat_types.specs.Same.{same};
 ghost use Rattle.addresses.specs.declared.ethernet.Mac.{Mac};
+ghost use Rattle.addresses.specs.declared.transport.Protocol.TheVariants.{Tcp};
+ghost use Rattle.addresses.specs.declared.transport.TcpFlags.{TcpFlags};
+ghost use Rattle.activity.specs.Kept.{has_session};
+ghost use Rattle.activity.specs.Lives.{Activity};
 ghost use Rattle.arp.specs.declared.packets.ArpPacket.{ArpPacket};
 ghost use Rattle.arp.specs.Neighbours.{fixed_mac, mac_at};
 ghost use Rattle.settings.specs.declared.whole.Settings.{Settings};
@@ -34,14 +38,16 @@ ghost use Rattle.packet_rules.specs.declared.readings.Reading.TheVariants.{Arp};
 ghost use Rattle.packet_rules.specs.declared.reasons.Reason.{Reason};
 ghost use Rattle.packet_rules.specs.declared.reasons.Reason.TheVariants.{Fragment, HostLimit, NoPort, SourceRoute, TooLong};
 ghost use Rattle.packet_rules.specs.declared.translations.Translation.{Translation};
+ghost use Rattle.packet_rules.specs.declared.translations.Translation.TheVariants as goes;
 ghost use Rattle.packet_rules.specs.Networks.{direction_of, mtu_of};
 ghost use Rattle.packet_rules.specs.Own.{complaint_of, exit_for};
 ghost use Rattle.packet_rules.specs.Steps.{reading_of};
 ghost use Rattle.spec_trace.specs.Past.{Idle};
-ghost use Rattle.spec_pair.specs.Talk.{note};
+ghost use Rattle.spec_pair.specs.Talk.{note, use_note};
 ghost use Rattle.waiting.specs.Packets.{HeldPacket, hop_count, host_count};
 ghost use Rattle.bindings.specs.declared.entries.Entry.{Entry};
 ghost use Rattle.bindings.specs.Entries.{is_alone, is_marked, slot_of};
+ghost use Rattle.bindings.specs.Lives.{life_in};
 ghost use Rattle.spec_binding.specs.declared.setups.Stage.TheVariants.{Paired};
 ghost use Rattle.spec_binding.specs.Books.{IsBook, is_lone, is_synced};
 ghost use Rattle.spec_binding.specs.Ledgers.{go_on_all, release_all};
@@ -60,7 +66,7 @@ ghost use Rattle.spec_step.specs.LettingGo.{CanAskForAll, HasRested, IsLetGo, No
 ghost use Rattle.spec_step.specs.LettingGo.{ReleasesAlone};
 ghost use Rattle.spec_step.specs.Others.{AreOthers};
 ghost use Rattle.spec_step.specs.OwnAnswers.{AreWithin, SaysJust, ShowsNothing, all_own_of, own_of};
-ghost use Rattle.spec_step.specs.Parts.{all_idle_done, all_sought_done, all_taken, echo_taken, error_taken, flow_taken, is_taught, size_in, refused, retaken_by};
+ghost use Rattle.spec_step.specs.Parts.{all_idle_done, all_sought_done, all_taken, carried_all, echo_taken, error_taken, flow_taken, is_taught, remote, size_in, refused, retaken_by};
 ghost use Rattle.spec_step.specs.PassedOn.{ChangesLittle, HidesAllInside, LeavesPairs, TellsAll};
 ghost use Rattle.spec_step.specs.Rests.{AccountsOn, Rests, most_notes};
 ghost use Rattle.spec_step.specs.Settled.{AreIdle, HaveBegun, IsSettled};
@@ -74,7 +80,9 @@ ghost use Rattle.spec_step.specs.TakingOver.{IsAdvertFrom, router_on};
 ghost use Rattle.vrrp_states.specs.declared.State.TheVariants.{Backup, Initialize};
 ghost use Rattle.vrrp_states.specs.Table.{Follows, active_down_interval};
 ghost use Rattle.spec_step.specs.Truly.{IsSetUp, Tells, hand_of};
+ghost use Rattle.spec_step.specs.Uses.{IsCarrier, RestAlike};
 
+use activity::stranger_keeps_nothing as kept_of_stranger;
 use interfaces::{limits_law, tallies_law};
 use packet_rules::{
     frames_law, own_frames_law, peer_alone as read_from_peer, readings_law, shows_nothing_inside,
@@ -304,6 +312,65 @@ pub fn true_owner_heals()
     tallies_law();
 }
 
+/// What makes a use count, as the notes of a packet that is carried say it. Outward a use counts. Inward
+/// a use of UDP or ICMP counts where the setting `inward_refresh` is true, and a segment of TCP where its
+/// pair has a session with the segment's sender, whatever the setting is. A segment outward with RST
+/// counts where its pair has a session with the remote end, or carried nothing yet. A hairpin is both:
+/// outward for its sender's pair, inward for the other, and each has the outside address as remote end.
+pub fn uses_are_marked()
+    ensures outward { (s : GatewayAndOutput) (flow : Flow) (flags : TcpFlags) (p : Pair)
+        (life : Activity) → IsCarrier s.shown p life
+        → (p.key.protocol ≡ Tcp → flags.rst ≡ false)
+        → (carried_all s flow flags (goes.Outward p)).told.notes
+        ≡ s.told.notes ++ use_note (id_of s.shown) s.shown.moment p true ∷ [] }
+    ensures reset { (s : GatewayAndOutput) (flow : Flow) (flags : TcpFlags) (p : Pair)
+        (life : Activity) → IsCarrier s.shown p life → p.key.protocol ≡ Tcp → flags.rst ≡ true
+        → (carried_all s flow flags (goes.Outward p)).told.notes
+        ≡ s.told.notes ++ use_note (id_of s.shown) s.shown.moment p
+        (has_session (remote flow.destination flow.destination_port) life.sessions
+        || not life.has_carried) ∷ [] }
+    ensures inward { (s : GatewayAndOutput) (flow : Flow) (flags : TcpFlags) (p : Pair)
+        (life : Activity) → IsCarrier s.shown p life → p.key.protocol ≢ Tcp
+        → (carried_all s flow flags (goes.Inward p)).told.notes ≡ s.told.notes
+        ++ use_note (id_of s.shown) s.shown.moment p s.shown.ledger.inward_refresh ∷ [] }
+    ensures segment { (s : GatewayAndOutput) (flow : Flow) (flags : TcpFlags) (p : Pair)
+        (life : Activity) → IsCarrier s.shown p life → p.key.protocol ≡ Tcp
+        → (carried_all s flow flags (goes.Inward p)).told.notes
+        ≡ s.told.notes ++ use_note (id_of s.shown) s.shown.moment p
+        (has_session (remote flow.source flow.source_port) life.sessions) ∷ [] }
+    ensures hairpin { (s : GatewayAndOutput) (flow : Flow) (flags : TcpFlags) (own other : Pair)
+        (one two : Activity) → IsCarrier s.shown own one → IsCarrier s.shown other two
+        → (own.key.protocol ≡ Tcp → flags.rst ≡ false) → other.key.protocol ≢ Tcp
+        → (carried_all s flow flags (goes.Hairpin own other)).told.notes
+        ≡ s.told.notes ++ use_note (id_of s.shown) s.shown.moment own true
+        ∷ use_note (id_of s.shown) s.shown.moment other s.shown.ledger.inward_refresh ∷ [] }
+    ensures hairpin_segment { (s : GatewayAndOutput) (flow : Flow) (flags : TcpFlags)
+        (own other : Pair) (one two : Activity) → IsCarrier s.shown own one
+        → IsCarrier s.shown other two → own.key ≢ other.key
+        → (own.key.protocol ≡ Tcp → flags.rst ≡ false) → other.key.protocol ≡ Tcp
+        → (let here = s.shown.networks.outside.interface.virtual_ip in
+        (carried_all s flow flags (goes.Hairpin own other)).told.notes
+        ≡ s.told.notes ++ use_note (id_of s.shown) s.shown.moment own true
+        ∷ use_note (id_of s.shown) s.shown.moment other
+        (has_session (remote here own.key.port) two.sessions) ∷ []) }
+{}
+
+/// A stranger keeps nothing. Where `inward_refresh` is false, a packet of UDP or ICMP that is carried
+/// inward, and a segment of TCP from an end with which its pair has no session, change at no time which
+/// pairs are idle.
+pub fn stranger_keeps_nothing()
+    ensures datagram { (s : GatewayAndOutput) (flow : Flow) (flags : TcpFlags) (p : Pair)
+        → s.shown.ledger.inward_refresh ≡ false → p.key.protocol ≢ Tcp
+        → RestAlike s.shown.ledger (carried_all s flow flags (goes.Inward p)).shown.ledger }
+    ensures segment { (s : GatewayAndOutput) (flow : Flow) (flags : TcpFlags) (p : Pair)
+        (life : Activity) → s.shown.ledger.inward_refresh ≡ false → p.key.protocol ≡ Tcp
+        → life_in s.shown.ledger.book.entries s.shown.ledger.lives p.key ≡ Some life
+        → has_session (remote flow.source flow.source_port) life.sessions ≡ false
+        → RestAlike s.shown.ledger (carried_all s flow flags (goes.Inward p)).shown.ledger }
+{
+    kept_of_stranger();
+}
+
 /// What a step requires of a gateway holds already before the datagram at the step's end, for a
 /// list of all records that were pushed or promised by then.
 pub fn parts_stand()
@@ -352,7 +419,8 @@ pub fn beginnings_account()
 {}
 
 /// What a step requires of a gateway holds of a gateway as it begins, and of the founded one, where
-/// nothing was pushed. And the link of each has places for a whole table.
+/// nothing was pushed. The link of each has places for a whole table. And whether what comes inward
+/// renews a pair is what the settings say.
 pub fn beginnings()
     ensures begun { (settings : Settings) (id : GatewayId) (boot : ℕ) → HasRanges settings
         → IsStanding (begun settings id boot) [] }
@@ -364,6 +432,10 @@ pub fn beginnings()
     ensures founded_room { (settings : Settings) (boot : ℕ)
         → (founded settings boot).link.capacity
         ≡ link_places (bounds_of settings.ports.zero) (bounds_of settings.ports.one) }
+    ensures refresh { (settings : Settings) (id : GatewayId) (boot : ℕ)
+        → (begun settings id boot).ledger.inward_refresh ≡ settings.inward_refresh }
+    ensures founded_refresh { (settings : Settings) (boot : ℕ)
+        → (founded settings boot).ledger.inward_refresh ≡ settings.inward_refresh }
 {}
 
 /// What holds of a gateway between steps holds after each step again: its routers have begun where
@@ -562,8 +634,8 @@ pub fn steps_feed()
     readings_law();
 }
 
-/// A step leaves the networks and the gateway's id as they are, and what was sent before stays in
-/// front of what it sends.
+/// A step leaves the networks, the gateway's id and whether what comes inward renews a pair as they are,
+/// and what was sent before stays in front of what it sends.
 pub fn steps_stay()
     ensures networks { (s : GatewayAndOutput) (event : Event) (s2 : GatewayAndOutput)
         → IsStepOn s event s2
@@ -577,6 +649,9 @@ pub fn steps_stay()
         → IsStepOn s event s2
         → HasBytes event → IsBook s.shown.ledger.book → KeepsBytes s.shown → IsSetUp s.shown
         → (sent : List Sent) × (s2.told.frames ≡ s.told.frames ++ sent) }
+    ensures refresh { (s : GatewayAndOutput) (event : Event) (s2 : GatewayAndOutput)
+        → IsStepOn s event s2
+        → s2.shown.ledger.inward_refresh ≡ s.shown.ledger.inward_refresh }
 {
     readings_law();
     frames_law();
