@@ -248,7 +248,7 @@ module _ (r : Bool) where
       at false = all-sought-has false s (sought_keys false s.shown.ledger.book.entries) is
 
   turn-has : (s : GatewayAndOutput) (turn : Turn) (s2 : GatewayAndOutput) → TakesTurn s turn s2 → Has r s → Has r s2
-  turn-has s Leaves s2 takes is = subst (λ (x : GatewayAndOutput). Has r x) (sym takes.1.1) (both-has s table.Stop takes.0 takes.1.0 is)
+  turn-has s Leaves s2 takes is = subst (λ (x : GatewayAndOutput). Has r x) (sym takes.2) (both-has s table.Stop takes.0 takes.1 is)
   turn-has s Returns s2 takes is = subst (λ (x : GatewayAndOutput). Has r x) (sym takes) (back (is_up s.shown))
     where
       back : (b : Bool) → (let g : Shown = record s.shown { away = false } in let x : Shown = cond b (routers_started g) g in x.ledger.inward_refresh) ≡ r
@@ -277,10 +277,12 @@ module _ (r : Bool) where
   does-has s (Frame side bytes) s2 does is = frame-has s side bytes.now (reading_on s.shown side bytes.now) s2 does is
   does-has s (Comes bytes) s2 does is = subst (λ (x : GatewayAndOutput). Has r x) (sym does) (read-has s (reading bytes.now) is)
   does-has s (Tick now) s2 does is =
-      let turned = does.0 in let middle = does.1.1.1.0 in
-      let rest = does.1 in
-      is
-  does-has s Stop s2 does is = subst (λ (x : GatewayAndOutput). Has r x) (sym does.1.1) (both-has s table.Stop does.0 does.1.0 is)
+      let turned : Has r does.0 = turn-has (ticked s now) (turn_of (ticked s now).shown) does.0 does.2 is in
+      let middle : Has r does.1 = both-has does.0 table.Tick does.1 does.3 turned in
+      let old = old_dropped does.1 in
+      subst (λ (x : GatewayAndOutput). Has r x) (sym does.4)
+      (alone-has (idle_taken old) (all-idle-has old (idle_keys_in (is_lone old.shown.ledger.book.stage) old.shown.moment old.shown.ledger.book.entries old.shown.ledger.lives) middle))
+  does-has s Stop s2 does is = subst (λ (x : GatewayAndOutput). Has r x) (sym does.2) (both-has s table.Stop does.0 does.1 is)
   does-has s (PeerOff n) s2 does is = subst (λ (x : GatewayAndOutput). Has r x) (sym does) (word-has s n (word_refusal s.shown n) is)
   does-has s (SideIs side up) s2 does is = subst (λ (x : GatewayAndOutput). Has r x) (sym does) (plug-has s side up is)
 
