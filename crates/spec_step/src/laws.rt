@@ -5,13 +5,14 @@ ghost use Rattle.std.specs.Borrow.{Bor};
 ghost use Rattle.std.specs.List.{AllByRecursion};
 ghost use Rattle.nat_types.specs.declared.gateways.GatewayId.{GatewayId};
 ghost use Rattle.nat_types.specs.declared.gateways.Side.{Side};
+ghost use Rattle.nat_types.specs.declared.gateways.Side.TheVariants.{Inside, Outside};
 ghost use Rattle.nat_types.specs.declared.notes.NoteKind.TheVariants.{Booted, Crashed};
 ghost use Rattle.nat_types.specs.declared.pairs.Endpoint.{Endpoint};
 ghost use Rattle.nat_types.specs.declared.notes.Note.{Note};
 ghost use Rattle.nat_types.specs.declared.pairs.Pair.{Pair};
 ghost use Rattle.nat_types.specs.declared.pairs.Key.{Key};
 ghost use Rattle.nat_types.specs.declared.records.Record.{Record};
-ghost use Rattle.nat_types.specs.Same.{same};
+ghost use Rattle.nat_types.specs.Same.{other, same};
 ghost use Rattle.addresses.specs.declared.ethernet.Mac.{Mac};
 ghost use Rattle.addresses.specs.declared.transport.Protocol.TheVariants.{Tcp};
 ghost use Rattle.addresses.specs.declared.transport.TcpFlags.{TcpFlags};
@@ -19,10 +20,11 @@ ghost use Rattle.activity.specs.Kept.{has_session};
 ghost use Rattle.activity.specs.Lives.{Activity};
 ghost use Rattle.arp.specs.declared.packets.ArpPacket.{ArpPacket};
 ghost use Rattle.arp.specs.Neighbours.{fixed_mac, mac_at};
+ghost use Rattle.settings.specs.Parts.{gateway_of};
 ghost use Rattle.settings.specs.declared.whole.Settings.{Settings};
 ghost use Rattle.frames.specs.Frame.{frame_of};
 ghost use Rattle.icmp.specs.declared.packets.ErrorFlow.{ErrorFlow};
-ghost use Rattle.interfaces.specs.Stations.{is_active};
+ghost use Rattle.interfaces.specs.Stations.{is_active, new_station};
 ghost use Rattle.link.specs.Hearing.{peer_serves};
 ghost use Rattle.link.specs.Link.{wanted};
 ghost use Rattle.output.specs.Output.{Sent};
@@ -77,7 +79,7 @@ ghost use Rattle.spec_step.specs.Shown.{with_notes};
 ghost use Rattle.spec_step.specs.Steps.{Does, IsStepOn};
 ghost use Rattle.spec_step.specs.TakingOver.{AreSilentSteps, HearsAdvert, IsBehind, IsSilentStep};
 ghost use Rattle.spec_step.specs.TakingOver.{IsAdvertFrom, router_on};
-ghost use Rattle.vrrp_states.specs.declared.State.TheVariants.{Backup, Initialize};
+ghost use Rattle.vrrp_states.specs.declared.State.TheVariants.{Backup};
 ghost use Rattle.vrrp_states.specs.Table.{Follows, active_down_interval};
 ghost use Rattle.spec_step.specs.Truly.{IsSetUp, Tells, hand_of};
 ghost use Rattle.spec_step.specs.Uses.{IsCarrier, RestAlike};
@@ -514,16 +516,25 @@ pub fn takes_over()
         → is_active (station_on new side) ≡ true }
 {}
 
-/// Where the other gateway's advertisements alone count on a side, a frame that comes in there changes
-/// a router that has begun only where it is an advertisement with that gateway's address and interval,
-/// and its priority or 0.
+/// Where the other gateway's advertisements alone count on a side, a frame changes the router of that side
+/// only where it comes in there and is an advertisement with that gateway's address and interval, and its
+/// priority or 0. The setting `peer_only` says whether they alone count.
 pub fn peer_alone()
-    ensures { (s : GatewayAndOutput) (side : Side) (bytes : Bor (List ℕ)) (s2 : GatewayAndOutput)
-        (peer : Peer) → IsStepOn s (Frame side bytes) s2
+    ensures frame { (s : GatewayAndOutput) (side at : Side) (bytes : Bor (List ℕ))
+        (s2 : GatewayAndOutput) (peer : Peer) → IsStepOn s (Frame at bytes) s2
         → (station_on s.shown side).network.peer ≡ Some peer
-        → (router_on s.shown side).state ≢ Initialize
         → router_on s2.shown side ≢ router_on s.shown side
-        → IsAdvertFrom peer (reading_on s.shown side bytes.now) }
+        → (at ≡ side) × IsAdvertFrom peer (reading_on s.shown at bytes.now) }
+    ensures inside { (settings : Settings) (id : GatewayId) → settings.vrrp.peer_only ≡ true
+        → (let there = gateway_of settings (other id) in
+        (new_station settings id Inside).network.peer
+        ≡ Some (record { ip = there.inside_ip; priority = there.priority; interval = there.interval })) }
+    ensures outside { (settings : Settings) (id : GatewayId) → settings.vrrp.peer_only ≡ true
+        → (let there = gateway_of settings (other id) in
+        (new_station settings id Outside).network.peer
+        ≡ Some (record { ip = there.outside_ip; priority = there.priority; interval = there.interval })) }
+    ensures any { (settings : Settings) (id : GatewayId) (side : Side)
+        → settings.vrrp.peer_only ≡ false → (new_station settings id side).network.peer ≡ None }
 {
     read_from_peer();
 }
