@@ -1,6 +1,6 @@
 //! The laws of a step of a gateway. Each law is the contract of a function that does nothing.
 
-ghost use Rattle.std.specs.Prelude.{◌≡◌, ◌≢◌, ◌↔◌, Ok, ◌≤◌, ◌<◌, ◌+◌, ◌^◌, ◌∷◌, ◌++◌, ◌||◌, ℕ, true, false, [], not, Bool, List, length, reverse, Err, None, Some};
+ghost use Rattle.std.specs.Prelude.{◌≡◌, ◌≢◌, ◌↔◌, Ok, ◌≤◌, ◌<◌, ◌+◌, ◌^◌, ◌∷◌, ◌++◌, ◌||◌, ℕ, true, false, [], not, Bool, List, length, reverse, Err, None, Some, if◌then◌else◌};
 ghost use Rattle.std.specs.Borrow.{Bor};
 ghost use Rattle.std.specs.List.{AllByRecursion};
 ghost use Rattle.nat_types.specs.declared.gateways.GatewayId.{GatewayId};
@@ -19,7 +19,7 @@ ghost use Rattle.addresses.specs.declared.transport.TcpFlags.{TcpFlags};
 ghost use Rattle.activity.specs.Kept.{has_session};
 ghost use Rattle.activity.specs.Lives.{Activity};
 ghost use Rattle.arp.specs.declared.packets.ArpPacket.{ArpPacket};
-ghost use Rattle.arp.specs.Neighbours.{fixed_mac, mac_at};
+ghost use Rattle.arp.specs.Neighbours.{asks_at, fixed_mac, has_entry, mac_at};
 ghost use Rattle.settings.specs.Parts.{gateway_of};
 ghost use Rattle.settings.specs.declared.whole.Settings.{Settings};
 ghost use Rattle.frames.specs.Frame.{frame_of};
@@ -41,6 +41,8 @@ ghost use Rattle.packet_rules.specs.declared.reasons.Reason.{Reason};
 ghost use Rattle.packet_rules.specs.declared.reasons.Reason.TheVariants.{Fragment, HostLimit, NoPort, SourceRoute, TooLong};
 ghost use Rattle.packet_rules.specs.declared.translations.Translation.{Translation};
 ghost use Rattle.packet_rules.specs.declared.translations.Translation.TheVariants as goes;
+ghost use Rattle.packet_rules.specs.Arping.{is_learnable};
+ghost use Rattle.packet_rules.specs.Frames.{sent_frame};
 ghost use Rattle.packet_rules.specs.Networks.{direction_of, mtu_of};
 ghost use Rattle.packet_rules.specs.Own.{complaint_of, exit_for};
 ghost use Rattle.packet_rules.specs.Steps.{reading_of};
@@ -59,7 +61,7 @@ ghost use Rattle.spec_step.specs.declared.events.Event.TheVariants.{Frame, Tick}
 ghost use Rattle.spec_step.specs.declared.events.Outcome.TheVariants as outcome;
 ghost use Rattle.spec_step.specs.declared.plans.Plan.TheVariants.{Send as SendBy, Wait as WaitForPair};
 ghost use Rattle.spec_step.specs.Apart.{IsUnmoved, WaitsForNobody};
-ghost use Rattle.spec_step.specs.Verdict.{error_plan, plan_of, reading_on, verdict};
+ghost use Rattle.spec_step.specs.Verdict.{error_plan, exit_by, hop_by, plan_of, reading_on, verdict};
 ghost use Rattle.spec_step.specs.Founding.{HasRanges, begun, bounds_of, founded, link_places};
 ghost use Rattle.spec_step.specs.GoingOn.{GoesByOwn, HasAllPairs, HasNoPort, MayBegin, MayGoOn, MayPassOn};
 ghost use Rattle.spec_step.specs.Machine.{AreBytes, Goes, HasBytes, HasPushed, IsLoneRightly, IsStanding, KeepsBytes};
@@ -68,7 +70,7 @@ ghost use Rattle.spec_step.specs.LettingGo.{CanAskForAll, HasRested, IsLetGo, No
 ghost use Rattle.spec_step.specs.LettingGo.{ReleasesAlone};
 ghost use Rattle.spec_step.specs.Others.{AreOthers};
 ghost use Rattle.spec_step.specs.OwnAnswers.{AreWithin, SaysJust, ShowsNothing, all_own_of, own_of};
-ghost use Rattle.spec_step.specs.Parts.{all_idle_done, all_sought_done, all_taken, carried_all, echo_taken, error_taken, flow_taken, is_taught, remote, size_in, refused, retaken_by};
+ghost use Rattle.spec_step.specs.Parts.{all_idle_done, all_sought_done, all_taken, carried_all, echo_taken, error_taken, flow_taken, is_taught, remote, request_by, size_in, refused, retaken_by};
 ghost use Rattle.spec_step.specs.PassedOn.{ChangesLittle, HidesAllInside, LeavesPairs, TellsAll};
 ghost use Rattle.spec_step.specs.Rests.{AccountsOn, Rests, most_notes};
 ghost use Rattle.spec_step.specs.Settled.{AreIdle, HaveBegun, IsSettled};
@@ -296,17 +298,32 @@ pub fn other_frames()
     tallies_law();
 }
 
-/// The true owner of an address mends what a forged ARP packet did. After a frame with an ARP packet
-/// by which its sender is learnt or renewed, and no neighbour of that address is fixed, packets to the
-/// sender go to the hardware address of that packet.
+/// The true owner of an address mends what a forged ARP packet did. Behind a packet that is sent to a
+/// neighbour the request for that neighbour goes out at once, where one is due: its hardware address
+/// changed, or it was learnt or renewed long ago, and it wasn't learnt or asked for lately. And after a
+/// frame with an ARP packet by which its sender is learnt or renewed, packets to the sender go to the
+/// hardware address of that packet, where no neighbour of its address is fixed. A sender that has an
+/// entry is renewed by each packet that a sender may be learnt from.
 pub fn true_owner_heals()
-    ensures { (s : GatewayAndOutput) (side : Side) (bytes : Bor (List ℕ)) (s2 : GatewayAndOutput)
-        (p : ArpPacket) → IsStepOn s (Frame side bytes) s2
+    ensures asked { (s : GatewayAndOutput) (side : Side) (bytes : List ℕ) (flow : Flow)
+        (by : Translation) (next : Mac)
+        → plan_of s.shown side flow (size_in bytes) ≡ Ok (SendBy by next)
+        → (let g = s.shown in let exit = exit_by by in let hop = hop_by g by flow in
+        (flow_taken s side bytes flow).told.frames ≡ s.told.frames
+        ++ record { side = exit; bytes = sent_frame g.networks by next bytes }
+        ∷ (if asks_at hop.0 g.moment (station_on g exit).neighbours
+        then record { side = exit; bytes = request_by g exit hop } ∷ [] else [])) }
+    ensures taught { (s : GatewayAndOutput) (side : Side) (bytes : Bor (List ℕ))
+        (s2 : GatewayAndOutput) (p : ArpPacket) → IsStepOn s (Frame side bytes) s2
         → IsBook s.shown.ledger.book → KeepsBytes s.shown → IsSetUp s.shown
         → reading_on s.shown side bytes.now ≡ Ok (Arp p) → is_taught s.shown side p ≡ true
         → fixed_mac p.sender_ip.0 (station_on s.shown side).neighbours.fixed ≡ None
         → mac_at p.sender_ip.0 s2.shown.moment (station_on s2.shown side).neighbours
         ≡ Some p.sender_mac }
+    ensures renewed { (g : Shown) (side : Side) (p : ArpPacket)
+        → is_learnable (station_on g side).network p ≡ true
+        → has_entry p.sender_ip.0 (station_on g side).neighbours.learnt ≡ true
+        → is_taught g side p ≡ true }
 {
     readings_law();
     frames_law();
