@@ -17,6 +17,7 @@ mod FrameKinds
 mod Freeing
 mod Giving
 mod GoingOn
+mod HavingPlace
 mod Healing
 mod Hearing
 mod Hiding

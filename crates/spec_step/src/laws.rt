@@ -42,6 +42,7 @@ ghost use Rattle.packet_rules.specs.declared.reasons.Reason.TheVariants.{Fragmen
 ghost use Rattle.packet_rules.specs.declared.translations.Translation.{Translation};
 ghost use Rattle.packet_rules.specs.declared.translations.Translation.TheVariants as goes;
 ghost use Rattle.packet_rules.specs.Arping.{is_learnable};
+ghost use Rattle.packet_rules.specs.Flows.{source_of};
 ghost use Rattle.packet_rules.specs.Frames.{sent_frame};
 ghost use Rattle.packet_rules.specs.Networks.{direction_of, mtu_of};
 ghost use Rattle.packet_rules.specs.Own.{complaint_of, exit_for};
@@ -52,6 +53,7 @@ ghost use Rattle.waiting.specs.Packets.{HeldPacket, hop_count, host_count};
 ghost use Rattle.bindings.specs.declared.entries.Entry.{Entry};
 ghost use Rattle.bindings.specs.Entries.{is_alone, is_marked, slot_of};
 ghost use Rattle.bindings.specs.Lives.{life_in};
+ghost use Rattle.spec_binding.specs.declared.changes.Want.TheVariants as want;
 ghost use Rattle.spec_binding.specs.declared.setups.Stage.TheVariants.{Paired};
 ghost use Rattle.spec_binding.specs.Books.{IsBook, is_lone, is_synced};
 ghost use Rattle.spec_binding.specs.Ledgers.{go_on_all, release_all};
@@ -61,9 +63,10 @@ ghost use Rattle.spec_step.specs.declared.events.Event.TheVariants.{Frame, Tick}
 ghost use Rattle.spec_step.specs.declared.events.Outcome.TheVariants as outcome;
 ghost use Rattle.spec_step.specs.declared.plans.Plan.TheVariants.{Send as SendBy, Wait as WaitForPair};
 ghost use Rattle.spec_step.specs.Apart.{IsUnmoved, WaitsForNobody};
-ghost use Rattle.spec_step.specs.Verdict.{error_plan, exit_by, hop_by, plan_of, reading_on, verdict};
+ghost use Rattle.spec_step.specs.Verdict.{error_plan, exit_by, hop_by, look_for, plan_from, plan_of, reading_on, verdict};
 ghost use Rattle.spec_step.specs.Founding.{HasRanges, begun, bounds_of, founded, link_places};
-ghost use Rattle.spec_step.specs.GoingOn.{GoesByOwn, HasAllPairs, HasNoPort, MayBegin, MayGoOn, MayPassOn};
+ghost use Rattle.spec_step.specs.GoingOn.{GoesByOwn, HasAllPairs, HasNoPort, HasPlace, MayBegin, MayGoOn, MayPassOn};
+ghost use Rattle.spec_step.specs.GoingOn.{MayWait};
 ghost use Rattle.spec_step.specs.Machine.{AreBytes, Goes, HasBytes, HasPushed, IsLoneRightly, IsStanding, KeepsBytes};
 ghost use Rattle.spec_step.specs.Machine.{letters_in, words_in};
 ghost use Rattle.spec_step.specs.LettingGo.{CanAskForAll, HasRested, IsLetGo, NotesRelease};
@@ -629,6 +632,17 @@ pub fn goes_on_is_sent()
         → GoesByOwn g flow by }
     ensures alone { (g : Shown) (side : Side) (bytes : List ℕ) → is_apart g ≡ true
         → MayBegin g side bytes → verdict g side bytes ≡ outcome.Sent }
+{}
+
+/// A packet waits for its pair where there is a place for it, and isn't dropped for want of one (outcome
+/// 15): where fewer than 64 packets wait for pairs, fewer than 16 of them are of its inside address, and
+/// none waits for the same pair.
+pub fn waits_where_there_is_place()
+    ensures plan { (g : Shown) (flow : Flow) (by : Pair → Translation)
+        → look_for g flow ≡ want.Wait → HasPlace g (source_of flow)
+        → plan_from g flow by (look_for g flow) ≡ Ok (WaitForPair (source_of flow)) }
+    ensures verdict { (g : Shown) (side : Side) (bytes : List ℕ) → MayWait g side bytes
+        → verdict g side bytes ≡ outcome.Waiting }
 {}
 
 /// A fragment is dropped and nothing else happens, where the link owes no datagram and has the

@@ -15,7 +15,7 @@ pub use laws::{
     source_routes_are_dropped, steps_account, steps_count, steps_feed, steps_go, steps_keep,
     steps_note, steps_pass_on, steps_say, steps_settle, steps_stay, steps_tell,
     stranger_keeps_nothing, takes_over, takings_say, ticks_let_go, true_owner_heals,
-    uses_are_marked,
+    uses_are_marked, waits_where_there_is_place,
 };
 pub use plans::{Plan, Reply};
 pub use turns::Turn;
