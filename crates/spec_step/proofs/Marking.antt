@@ -1,9 +1,13 @@
 -- What makes a use count, and what a stranger's packet leaves as it was.
-use Rattle.std.proofs.Common.{◌≡◌, ℕ, Bool, true, false, cond, not, ◌&&◌, ◌||◌, Option, Some, None, is_some, List, [], ◌∷◌, ◌++◌, refl, sym, ap, subst, ◌∙◌, append_assoc}
+use Rattle.std.proofs.Common.{◌≡◌, ℕ, Bool, true, false, cond, not, ◌&&◌, ◌||◌, Option, Some, None, Result, Ok, is_some, List, [], ◌∷◌, ◌++◌, refl, sym, ap, subst, ◌∙◌, append_assoc}
 use Rattle.std.proofs.lemmas.Bool.{cases_Bool, cond-true, cond-false, false_from_ne_true}
 use Rattle.addresses.specs.declared.transport.Protocol.{Protocol}
 use Rattle.addresses.specs.declared.transport.Protocol.TheVariants.{Icmp, Tcp, Udp}
 use Rattle.addresses.specs.declared.transport.TcpFlags.{TcpFlags}
+use Rattle.addresses.specs.declared.ethernet.Mac.{Mac}
+use Rattle.addresses.specs.declared.internet.Ip.{Ip}
+use Rattle.arp.specs.Neighbours.{asks_at}
+use Rattle.nat_types.specs.declared.gateways.Side.{Side}
 use Rattle.nat_types.specs.Same.{same_key}
 use Rattle.nat_types.specs.declared.notes.Note.{Note}
 use Rattle.nat_types.specs.declared.notes.NoteKind.{NoteKind}
@@ -24,10 +28,17 @@ use Rattle.spec_pair.specs.Talk.{use_note}
 use Rattle.spec_binding.specs.Ledgers.{Ledger, carried_ledger}
 use Rattle.spec_binding.specs.Rows.{carry_row, noted_with}
 use Rattle.spec_binding.specs.Uses.{carried_notes, use_counts}
+use Rattle.packet_rules.specs.declared.reasons.Reason.{Reason}
+use Rattle.packet_rules.specs.declared.translations.Translation.{Translation}
 use Rattle.packet_rules.specs.declared.translations.Translation.TheVariants.{Outward, Inward, Hairpin}
-use Rattle.spec_step.specs.Parts.{carried, carried_all, carried_by, remote}
-use Rattle.spec_step.specs.Shown.{GatewayAndOutput, Shown, id_of}
+use Rattle.packet_rules.specs.Frames.{sent_frame}
+use Rattle.spec_step.specs.declared.plans.Plan.{Plan}
+use Rattle.spec_step.specs.declared.plans.Plan.TheVariants.{Send}
+use Rattle.spec_step.specs.Parts.{by_verdict, carried, carried_all, carried_by, flags_in, flow_taken, framed, remote, size_in, wanted_for}
+use Rattle.spec_step.specs.Shown.{GatewayAndOutput, Shown, id_of, station_on}
 use Rattle.spec_step.specs.Uses.{IsCarrier, RestAlike}
+use Rattle.spec_step.specs.Verdict.{exit_by, hop_by, plan_of}
+use Rattle.spec_step.proofs.Behind.{asked_behind}
 
 -- ---- lives, where that of one key changes
 
@@ -140,6 +151,30 @@ pub segment-marked : (s : GatewayAndOutput) (flow : Flow) (flags : TcpFlags) (p 
 segment-marked s flow flags p life is tcp =
     let r = remote flow.source flow.source_port in
     carried-marked s p life (carried s.shown r goes.Inward flags) (has_session r life.sessions) is (counts-segment p.key.protocol s.shown r flags life tcp)
+
+-- ---- a packet that is sent
+
+behind-notes : (s : GatewayAndOutput) (exit : Side) (hop : Ip) (asks : Bool) → (asked_behind s exit hop asks).told.notes ≡ s.told.notes
+behind-notes s exit hop true = refl
+behind-notes s exit hop false = refl
+
+-- the scene after a packet was sent, before its next hop is asked for
+abbrev pub sent_scene : GatewayAndOutput → List ℕ → Flow → Translation → Mac → GatewayAndOutput
+sent_scene s bytes flow by next =
+    carried_all (framed (wanted_for s flow by) (exit_by by) (sent_frame s.shown.networks by next bytes)) flow (flags_in bytes) by
+
+sent-notes : (s : GatewayAndOutput) (bytes : List ℕ) (flow : Flow) (by : Translation) (next : Mac) → (sent_scene s bytes flow by next).told.notes ≡ (carried_all (wanted_for s flow by) flow (flags_in bytes) by).told.notes
+sent-notes s bytes flow (Outward p) next = refl
+sent-notes s bytes flow (Inward p) next = refl
+sent-notes s bytes flow (Hairpin own other) next = refl
+
+pub taken-marked : (s : GatewayAndOutput) (side : Side) (bytes : List ℕ) (flow : Flow) (by : Translation) (next : Mac) → plan_of s.shown side flow (size_in bytes) ≡ Ok (Send by next) → (flow_taken s side bytes flow).told.notes ≡ (carried_all (wanted_for s flow by) flow (flags_in bytes) by).told.notes
+taken-marked s side bytes flow by next plan =
+    let one = sent_scene s bytes flow by next in
+    let exit = exit_by by in let hop = hop_by s.shown by flow in
+    ap (λ (r : Result Plan Reason). (by_verdict s side bytes flow r).told.notes) plan
+    ∙ behind-notes one exit hop (asks_at hop.0 one.shown.moment (station_on one.shown exit).neighbours)
+    ∙ sent-notes s bytes flow by next
 
 -- ---- a hairpin
 

@@ -73,7 +73,8 @@ ghost use Rattle.spec_step.specs.LettingGo.{CanAskForAll, HasRested, IsLetGo, No
 ghost use Rattle.spec_step.specs.LettingGo.{ReleasesAlone};
 ghost use Rattle.spec_step.specs.Others.{AreOthers};
 ghost use Rattle.spec_step.specs.OwnAnswers.{AreWithin, SaysJust, ShowsNothing, all_own_of, own_of};
-ghost use Rattle.spec_step.specs.Parts.{all_idle_done, all_sought_done, all_taken, carried_all, echo_taken, error_taken, flow_taken, is_taught, remote, request_by, size_in, refused, retaken_by};
+ghost use Rattle.spec_step.specs.Parts.{all_idle_done, all_sought_done, all_taken, carried_all, echo_taken, error_taken, flags_in, flow_taken, is_taught, remote, request_by};
+ghost use Rattle.spec_step.specs.Parts.{refused, retaken_by, size_in, wanted_for};
 ghost use Rattle.spec_step.specs.PassedOn.{ChangesLittle, HidesAllInside, LeavesPairs, TellsAll};
 ghost use Rattle.spec_step.specs.Rests.{AccountsOn, Rests, most_notes};
 ghost use Rattle.spec_step.specs.Settled.{AreIdle, HaveBegun, IsSettled};
@@ -339,7 +340,13 @@ pub fn true_owner_heals()
 /// pair has a session with the segment's sender, whatever the setting is. A segment outward with RST
 /// counts where its pair has a session with the remote end, or carried nothing yet. A hairpin is both:
 /// outward for its sender's pair, inward for the other, and each has the outside address as remote end.
+/// A packet that is sent is noted so once its pair is made (`taken`).
 pub fn uses_are_marked()
+    ensures taken { (s : GatewayAndOutput) (side : Side) (bytes : List ℕ) (flow : Flow)
+        (by : Translation) (next : Mac)
+        → plan_of s.shown side flow (size_in bytes) ≡ Ok (SendBy by next)
+        → (flow_taken s side bytes flow).told.notes
+        ≡ (carried_all (wanted_for s flow by) flow (flags_in bytes) by).told.notes }
     ensures outward { (s : GatewayAndOutput) (flow : Flow) (flags : TcpFlags) (p : Pair)
         (life : Activity) → IsCarrier s.shown p life
         → (p.key.protocol ≡ Tcp → flags.rst ≡ false)

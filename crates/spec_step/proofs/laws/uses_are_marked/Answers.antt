@@ -1,5 +1,8 @@
-use Rattle.spec_step.proofs.Marking.{hairpin-marked, hairpin-segment-marked, inward-marked, outward-marked, reset-marked, segment-marked}
+use Rattle.spec_step.proofs.Marking.{hairpin-marked, hairpin-segment-marked, inward-marked, outward-marked, reset-marked, segment-marked, taken-marked}
 use Rattle.spec_step.proofs.laws.uses_are_marked.Goals as goal
+
+pub returns-clause-taken : goal.returns-clause-taken
+returns-clause-taken c = taken-marked
 
 pub returns-clause-outward : goal.returns-clause-outward
 returns-clause-outward c = outward-marked
