@@ -1,30 +1,18 @@
 -- Which frames change a router: none but an advertisement on its side.
-use Rattle.std.proofs.Common.{◌≡◌, ◌⊎◌, ℕ, Bool, true, false, cond, ◌&&◌, List, [], ◌∷◌, Option, Some, None, Result, Ok, Err, refl, sym, ap, subst, ◌∙◌}
+use Rattle.std.proofs.Common.{◌≡◌, ◌⊎◌, ℕ, Bool, true, false, cond, List, [], ◌∷◌, Option, Some, None, Result, Ok, Err, refl, ap, ◌∙◌}
 use Rattle.addresses.specs.declared.ethernet.Mac.{Mac}
 use Rattle.addresses.specs.declared.internet.Ip.{Ip}
 use Rattle.addresses.specs.declared.transport.TcpFlags.{TcpFlags}
 use Rattle.nat_types.specs.declared.gateways.GatewayId.{GatewayId}
 use Rattle.nat_types.specs.declared.gateways.Side.{Side}
 use Rattle.nat_types.specs.declared.gateways.Side.TheVariants.{Inside, Outside}
-use Rattle.nat_types.specs.declared.pairs.Endpoint.{Endpoint}
-use Rattle.nat_types.specs.declared.pairs.Key.{Key}
-use Rattle.nat_types.specs.declared.records.Record.{Record}
 use Rattle.arp.specs.declared.packets.ArpPacket.{ArpPacket}
 use Rattle.arp.specs.Neighbours.{asks_at}
 use Rattle.settings.specs.declared.whole.Settings.{Settings}
 use Rattle.icmp.specs.declared.packets.ErrorFlow.{ErrorFlow}
 use Rattle.ipv4.specs.declared.flows.Flow.{Flow}
-use Rattle.bindings.specs.Lives.{idle_keys_in}
-use Rattle.link.specs.declared.datagrams.Datagram.{Datagram}
-use Rattle.link.specs.declared.faults.LinkFault.{LinkFault}
-use Rattle.link.specs.Link.{after_take, closed_at, is_due_on_tick, is_restart, records_taken, refusal, sent_on_tick}
-use Rattle.link.specs.Reading.{reading}
-use Rattle.spec_binding.specs.Books.{is_lone}
-use Rattle.spec_binding.specs.Ledgers.{lone_ledger, restarted_ledger, rests_for, sought_keys, taken_ledger}
-use Rattle.spec_binding.specs.Resets.{back_in, restart_link, restart_notes, retaken}
-use Rattle.spec_binding.specs.Rows.{answered, taken_answer, taken_ended}
 use Rattle.waiting.specs.declared.waits.Ended.{Ended}
-use Rattle.waiting.specs.declared.waits.Ended.TheVariants.{AllPairs, One}
+use Rattle.waiting.specs.declared.waits.Ended.TheVariants.{One}
 use Rattle.waiting.specs.declared.waits.WaitsFor.TheVariants as wait
 use Rattle.waiting.specs.Packets.{HeldPacket, asks_again, ended_by, left_by, with_asked}
 use Rattle.packet_rules.specs.declared.readings.Asked.{Asked as Echo}
@@ -37,22 +25,15 @@ use Rattle.packet_rules.specs.Arping.{answer_to, is_learnable}
 use Rattle.packet_rules.specs.Errors.{passed_frame}
 use Rattle.packet_rules.specs.Frames.{sent_frame}
 use Rattle.interfaces.specs.Stations.{Interface, after_arp, is_active, new_station, with_neighbour}
-use Rattle.output.specs.Output.{with_datagram}
-use Rattle.vrrp_states.specs.declared.Action.{Action}
 use Rattle.vrrp_states.specs.Table as table
 use Rattle.vrrp_states.specs.Table.{Event as RouterEvent}
-use Rattle.spec_step.specs.declared.events.Event.{Event}
-use Rattle.spec_step.specs.declared.events.Event.TheVariants.{Frame, Datagram as Comes, Tick, Stop, PeerOff, Side as SideIs}
+use Rattle.spec_step.specs.declared.events.Event.TheVariants.{Frame}
 use Rattle.spec_step.specs.declared.plans.Plan.{Plan}
 use Rattle.spec_step.specs.declared.plans.Plan.TheVariants.{Send, Ask, AskAgain, Wait as WaitFor}
-use Rattle.spec_step.specs.declared.turns.Turn.{Turn}
-use Rattle.spec_step.specs.declared.turns.Turn.TheVariants.{Leaves, Returns, Stays}
-use Rattle.spec_step.specs.Founding.{begun, founded}
-use Rattle.spec_step.specs.GivingWay.{GivingWay, TakesTurn, left, returned, turn_of}
-use Rattle.spec_step.specs.Parts.{acted, all_framed, all_idle_done, all_sought_done, all_taken, alone_taken, answered_by, arp_taken, asked_again, by_error_plan, by_error_verdict, by_plan, by_verdict, carried_all, datagram_in, datagram_read, echo_taken, error_taken, flags_in, flow_taken, frames_of, framed, gone_alone, handed_in, has_synced, heard_by, heard_unless, idle_done, idle_taken, is_taught, keeping, link_answered, link_ticked, old_dropped, peer_told, record_done, record_shown, record_told, records_done, refused, released, renewed_behind, request_by, reset, retaken_by, routers_started, side_plugged, size_in, sought_done, taken_again, waits_for_sender, wait_ended, wanted_for, with_link, with_routers}
-use Rattle.spec_step.specs.Routers.{BothAct, RouterActs}
-use Rattle.spec_step.specs.Shown.{GatewayAndOutput, Shown, id_of, is_apart, is_running, is_up, scene, station_on, with_notes, with_station}
-use Rattle.spec_step.specs.Steps.{Does, FrameDoes, IsStepOn, ended_on, stopped, ticked, word_by, word_refusal}
+use Rattle.spec_step.specs.Parts.{all_framed, all_taken, answered_by, arp_taken, asked_again, by_error_plan, by_error_verdict, by_plan, by_verdict, carried_all, echo_taken, error_taken, flags_in, flow_taken, frames_of, framed, is_taught, link_answered, refused, released, renewed_behind, request_by, retaken_by, size_in, taken_again, waits_for_sender, wanted_for}
+use Rattle.spec_step.specs.Routers.{RouterActs}
+use Rattle.spec_step.specs.Shown.{GatewayAndOutput, Shown, is_up, scene, station_on, with_station}
+use Rattle.spec_step.specs.Steps.{FrameDoes, IsStepOn}
 use Rattle.spec_step.specs.Verdict.{error_hop, error_plan, exit_by, hop_by, plan_of, reading_on}
 use Rattle.spec_step.proofs.Own.{Said, echo-by, refusal-by, refused-by, said_scene}
 use Rattle.spec_step.proofs.Behind.{asked_behind}

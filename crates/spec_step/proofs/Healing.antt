@@ -26,7 +26,6 @@ use Rattle.packet_rules.specs.declared.readings.Reading.TheVariants.{Arp}
 use Rattle.packet_rules.specs.Arping.{answer_to, is_learnable}
 use Rattle.interfaces.specs.Stations.{Interface, after_arp, is_active, may_come_in, teaches, with_neighbour}
 use Rattle.spec_step.specs.declared.events.Event.TheVariants.{Frame}
-use Rattle.spec_step.specs.Machine.{HasBytes}
 use Rattle.spec_step.specs.Parts.{answered_by, arp_heard, arp_taken, by_plan, by_verdict, carried_all, flags_in, flow_taken, framed, is_taught, link_answered, released, request_by, size_in, waits_for_sender, wanted_for}
 use Rattle.spec_step.specs.Shown.{GatewayAndOutput, Shown, is_up, scene, station_on, with_station}
 use Rattle.spec_step.specs.Steps.{FrameDoes, IsStepOn}

@@ -1,6 +1,6 @@
 -- What makes a use count, and what a stranger's packet leaves as it was.
 use Rattle.std.proofs.Common.{◌≡◌, ℕ, Bool, true, false, cond, not, ◌&&◌, ◌||◌, Option, Some, None, Result, Ok, is_some, List, [], ◌∷◌, ◌++◌, refl, sym, ap, subst, ◌∙◌, append_assoc}
-use Rattle.std.proofs.lemmas.Bool.{cases_Bool, cond-true, cond-false, false_from_ne_true}
+use Rattle.std.proofs.lemmas.Bool.{cond-true, cond-false}
 use Rattle.addresses.specs.declared.transport.Protocol.{Protocol}
 use Rattle.addresses.specs.declared.transport.Protocol.TheVariants.{Icmp, Tcp, Udp}
 use Rattle.addresses.specs.declared.transport.TcpFlags.{TcpFlags}
@@ -13,7 +13,7 @@ use Rattle.nat_types.specs.declared.notes.Note.{Note}
 use Rattle.nat_types.specs.declared.notes.NoteKind.{NoteKind}
 use Rattle.nat_types.specs.declared.pairs.Key.{Key}
 use Rattle.nat_types.specs.declared.pairs.Pair.{Pair}
-use Rattle.nat_types.proofs.Offered.{key-eq, key-true, key-false}
+use Rattle.nat_types.proofs.Offered.{key-eq, key-false}
 use Rattle.ipv4.specs.declared.flows.Flow.{Flow}
 use Rattle.activity.specs.declared.packets.Packet.{Packet as Carried}
 use Rattle.activity.specs.declared.packets.Remote.{Remote}

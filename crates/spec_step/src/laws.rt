@@ -338,9 +338,9 @@ pub fn true_owner_heals()
 /// What makes a use count, as the notes of a packet that is carried say it. Outward a use counts. Inward
 /// a use of UDP or ICMP counts where the setting `inward_refresh` is true, and a segment of TCP where its
 /// pair has a session with the segment's sender, whatever the setting is. A segment outward with RST
-/// counts where its pair has a session with the remote end, or carried nothing yet. A hairpin is both:
-/// outward for its sender's pair, inward for the other, and each has the outside address as remote end.
-/// A packet that is sent is noted so once its pair is made (`taken`).
+/// counts where its pair has a session with the remote end, or carried nothing before in its life. A
+/// hairpin is both: outward for its sender's pair, inward for the other, and each has the outside address
+/// as remote end. A packet that is sent is noted so once its pair is made (`taken`).
 pub fn uses_are_marked()
     ensures taken { (s : GatewayAndOutput) (side : Side) (bytes : List ℕ) (flow : Flow)
         (by : Translation) (next : Mac)
@@ -555,11 +555,19 @@ pub fn peer_alone()
     ensures inside { (settings : Settings) (id : GatewayId) → settings.vrrp.peer_only ≡ true
         → (let there = gateway_of settings (other id) in
         (new_station settings id Inside).network.peer
-        ≡ Some (record { ip = there.inside_ip; priority = there.priority; interval = there.interval })) }
+        ≡ Some (record {
+          ip = there.inside_ip;
+          priority = there.priority;
+          interval = there.interval;
+        })) }
     ensures outside { (settings : Settings) (id : GatewayId) → settings.vrrp.peer_only ≡ true
         → (let there = gateway_of settings (other id) in
         (new_station settings id Outside).network.peer
-        ≡ Some (record { ip = there.outside_ip; priority = there.priority; interval = there.interval })) }
+        ≡ Some (record {
+          ip = there.outside_ip;
+          priority = there.priority;
+          interval = there.interval;
+        })) }
     ensures any { (settings : Settings) (id : GatewayId) (side : Side)
         → settings.vrrp.peer_only ≡ false → (new_station settings id side).network.peer ≡ None }
 {
