@@ -130,7 +130,8 @@ def router(options):
 
 
 def forged_advertisement(current):
-    """One advertisement of the highest priority and the longest interval, from a host inside."""
+    """One advertisement of the highest priority and the longest interval, from a host inside. It comes from the virtual
+    router's MAC, as each does: the switch sends what is for that MAC to the host until the Active box advertises again."""
     inside = current.networks.settings["inside"]
     frame = Advert(inside["vrid"], 255, "192.168.1.66", inside["virtual"], interval=4095).frame()
     sock = card_of(current, current.networks.host)
@@ -143,8 +144,8 @@ def advert(options):
     """The side is silent until the down interval that was advertised is over."""
     for way in by_setting(options, PEER_ONLY):
         seconds, dropped = in_scene(options, way, forged_advertisement)
-        owed = "dropped by both boxes" if way.is_guarded else f"silent for {PATIENCE} s and more"
-        holds = seconds < SILENT and dropped == 2 if way.is_guarded else seconds > PATIENCE - SILENT
+        owed = f"dropped by both, answered again in {HEALED} s" if way.is_guarded else f"silent for {PATIENCE} s and more"
+        holds = seconds < HEALED and dropped == 2 if way.is_guarded else seconds > PATIENCE - SILENT
         seen = f"{told_silence(seconds)}, dropped {dropped} times"
         yield Line("forged advertisement", way.name, owed, seen, holds)
 
