@@ -1,26 +1,36 @@
--- After a frame with an ARP packet that teaches its sender, the sender's hardware address is that of the packet.
-use Rattle.std.proofs.Common.{◌≡◌, ℕ, ◌-◌, Bool, true, false, cond, eqb, not, ◌&&◌, ◌||◌, nat_lt, Option, Some, None, Ok, List, [], ◌∷◌, ◌++◌, length, map, drop, refl, sym, ap, subst, ◌∙◌, arith}
+-- A neighbour is asked for behind a packet sent to it. And after a frame with an ARP packet that teaches its sender, the
+-- sender's hardware address is that of the packet.
+use Rattle.std.proofs.Common.{append_assoc, Result, ◌≡◌, ℕ, ◌-◌, Bool, true, false, cond, eqb, not, ◌&&◌, ◌||◌, nat_lt, Option, Some, None, Ok, List, [], ◌∷◌, ◌++◌, length, map, drop, refl, sym, ap, subst, ◌∙◌, arith}
 use Rattle.std.specs.Borrow.{Bor}
 use Rattle.std.proofs.lemmas.Bool.Decides.{nat_tests}
 use Rattle.addresses.specs.declared.ethernet.Mac.{Mac}
+use Rattle.std.proofs.lemmas.List.{append-nil}
 use Rattle.addresses.specs.declared.internet.Ip.{Ip}
+use Rattle.ipv4.specs.declared.flows.Flow.{Flow}
+use Rattle.output.specs.Output.{Sent}
+use Rattle.packet_rules.specs.declared.reasons.Reason.{Reason}
+use Rattle.packet_rules.specs.declared.translations.Translation.{Translation}
+use Rattle.packet_rules.specs.declared.translations.Translation.TheVariants.{Outward, Inward, Hairpin}
+use Rattle.packet_rules.specs.Frames.{sent_frame}
+use Rattle.spec_step.specs.declared.plans.Plan.{Plan}
+use Rattle.spec_step.specs.declared.plans.Plan.TheVariants.{Send}
+use Rattle.spec_step.proofs.Behind.{asked_behind}
 use Rattle.nat_types.specs.declared.gateways.Side.{Side}
 use Rattle.nat_types.specs.declared.gateways.Side.TheVariants.{Inside, Outside}
 use Rattle.arp.specs.declared.caches.CacheEntry.{CacheEntry}
 use Rattle.arp.specs.declared.packets.ArpPacket.{ArpPacket}
-use Rattle.arp.specs.Neighbours.{Neighbours, after_one_left, all_sent, entries_of, entries_taught, fixed_mac, has_entry, learnt_mac, mac_at, new_entry, or_else, renewed_entry, taught, with_newcomer, with_renewal, without, without_unsent}
+use Rattle.arp.specs.Neighbours.{Neighbours, after_one_left, all_sent, asks_at, entries_of, entries_taught, fixed_mac, has_entry, learnt_mac, mac_at, new_entry, or_else, renewed_entry, taught, with_newcomer, with_renewal, without, without_unsent}
 use Rattle.waiting.specs.declared.waits.Ended.TheVariants.{One}
 use Rattle.waiting.specs.declared.waits.WaitsFor.TheVariants as wait
 use Rattle.packet_rules.specs.declared.readings.Reading.TheVariants.{Arp}
 use Rattle.packet_rules.specs.Arping.{answer_to, is_learnable}
 use Rattle.interfaces.specs.Stations.{Interface, after_arp, is_active, may_come_in, teaches, with_neighbour}
 use Rattle.spec_step.specs.declared.events.Event.TheVariants.{Frame}
-use Rattle.spec_step.specs.Machine.{HasBytes}
-use Rattle.spec_step.specs.Parts.{answered_by, arp_heard, arp_taken, is_taught, link_answered, released, waits_for_sender}
+use Rattle.spec_step.specs.Parts.{answered_by, arp_heard, arp_taken, by_plan, by_verdict, carried_all, flags_in, flow_taken, framed, is_taught, link_answered, released, request_by, size_in, waits_for_sender, wanted_for}
 use Rattle.spec_step.specs.Shown.{GatewayAndOutput, Shown, is_up, scene, station_on, with_station}
 use Rattle.spec_step.specs.Steps.{FrameDoes, IsStepOn}
 use Rattle.spec_step.specs.Truly.{IsSetUp, Known, known_of, near_on}
-use Rattle.spec_step.specs.Verdict.{reading_on}
+use Rattle.spec_step.specs.Verdict.{exit_by, hop_by, plan_of, reading_on}
 use Rattle.spec_step.proofs.Passing.{IsSound}
 use Rattle.spec_step.proofs.Saying.{Saying, released-says, saying-nothing}
 use Rattle.spec_step.proofs.Sending.{Frames, near-mac}
@@ -145,3 +155,56 @@ owner-heals frames s side bytes s2 p step is w read teaches none =
     ∙ ap (λ (k : Known). mac_at p.sender_ip.0 k.moment (near_on k side)) known
     ∙ near-mac heard side p.sender_ip.0
     ∙ heard-mac s.shown side p none teaches
+
+-- a packet of a sender that is learnt and has an entry teaches
+both-true : (a b c : Bool) → a ≡ true → b ≡ true → (a && (b || c)) ≡ true
+both-true true true c one two = refl
+both-true true false c one two = absurd (cc)
+both-true false b c one two = absurd (cc)
+
+pub known-taught : (g : Shown) (side : Side) (p : ArpPacket) → is_learnable (station_on g side).network p ≡ true → has_entry p.sender_ip.0 (station_on g side).neighbours.learnt ≡ true → is_taught g side p ≡ true
+known-taught g side p learnable known =
+    both-true (is_learnable (station_on g side).network p) (has_entry p.sender_ip.0 (station_on g side).neighbours.learnt)
+    (may_come_in (station_on g side) p (waits_for_sender g side p)) learnable known
+
+-- ---- the request behind a packet
+
+-- the request for a neighbour, where one is due
+abbrev pub requests_if : Bool → Shown → Side → Ip → List Sent
+requests_if asks g exit hop = cond asks (record { side = exit; bytes = request_by g exit hop } ∷ []) []
+
+behind-frames : (s : GatewayAndOutput) (exit : Side) (hop : Ip) (asks : Bool) → (asked_behind s exit hop asks).told.frames ≡ s.told.frames ++ requests_if asks s.shown exit hop
+behind-frames s exit hop true = refl
+behind-frames s exit hop false = sym (append-nil s.told.frames)
+
+-- whether a request for a packet's next hop is due
+abbrev pub asks_for : Shown → Translation → Flow → Bool
+asks_for g by flow = asks_at (hop_by g by flow).0 g.moment (station_on g (exit_by by)).neighbours
+
+abbrev pub sent_by : GatewayAndOutput → List ℕ → Translation → Mac → Sent
+sent_by s bytes by next = record { side = exit_by by; bytes = sent_frame s.shown.networks by next bytes }
+
+-- the scene after a packet was sent, before its next hop is asked for
+abbrev pub sent_scene : GatewayAndOutput → List ℕ → Flow → Translation → Mac → GatewayAndOutput
+sent_scene s bytes flow by next =
+    carried_all (framed (wanted_for s flow by) (exit_by by) (sent_frame s.shown.networks by next bytes)) flow (flags_in bytes) by
+
+sent-frames : (s : GatewayAndOutput) (side : Side) (bytes : List ℕ) (flow : Flow) (by : Translation) (next : Mac)
+    → (by_plan s side bytes flow (Send by next)).told.frames ≡ s.told.frames ++ sent_by s bytes by next ∷ requests_if (asks_for s.shown by flow) s.shown (exit_by by) (hop_by s.shown by flow)
+sent-frames s side bytes flow (Outward p) next =
+    let by = Outward p in let hop = hop_by s.shown by flow in let asks = asks_for s.shown by flow in
+    behind-frames (sent_scene s bytes flow by next) Outside hop asks
+    ∙ append_assoc s.told.frames (sent_by s bytes by next ∷ []) (requests_if asks s.shown Outside hop)
+sent-frames s side bytes flow (Inward p) next =
+    let by = Inward p in let hop = hop_by s.shown by flow in let asks = asks_for s.shown by flow in
+    behind-frames (sent_scene s bytes flow by next) Inside hop asks
+    ∙ append_assoc s.told.frames (sent_by s bytes by next ∷ []) (requests_if asks s.shown Inside hop)
+sent-frames s side bytes flow (Hairpin own other) next =
+    let by = Hairpin own other in let hop = hop_by s.shown by flow in let asks = asks_for s.shown by flow in
+    behind-frames (sent_scene s bytes flow by next) Inside hop asks
+    ∙ append_assoc s.told.frames (sent_by s bytes by next ∷ []) (requests_if asks s.shown Inside hop)
+
+pub asked-at-once : (s : GatewayAndOutput) (side : Side) (bytes : List ℕ) (flow : Flow) (by : Translation) (next : Mac) → plan_of s.shown side flow (size_in bytes) ≡ Ok (Send by next)
+    → (flow_taken s side bytes flow).told.frames ≡ s.told.frames ++ sent_by s bytes by next ∷ requests_if (asks_for s.shown by flow) s.shown (exit_by by) (hop_by s.shown by flow)
+asked-at-once s side bytes flow by next plan =
+    ap (λ (r : Result Plan Reason). (by_verdict s side bytes flow r).told.frames) plan ∙ sent-frames s side bytes flow by next

@@ -17,6 +17,7 @@ mod FrameKinds
 mod Freeing
 mod Giving
 mod GoingOn
+mod HavingPlace
 mod Healing
 mod Hearing
 mod Hiding
@@ -55,6 +56,8 @@ mod Telling
 mod Translating
 mod Truths
 mod Turning
+mod Marking
+mod Refreshing
 mod Plain
 mod Unmoved
 mod Unused

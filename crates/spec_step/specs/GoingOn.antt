@@ -1,6 +1,7 @@
--- Going on: where a packet or an error is sent, where no port is free for a packet, and where its host has all the
--- pairs that it may have.
-use Rattle.std.specs.Prelude.{◌≡◌, ℕ, true, false, Option, Some, None, Ok, List}
+-- Going on: where a packet or an error is sent, where no port is free for a packet, where its host has all the pairs that
+-- it may have, and where it waits for its pair.
+use Rattle.std.specs.Prelude.{◌≡◌, ◌<◌, ℕ, true, false, Option, Some, None, Ok, List}
+use Rattle.std.specs.List.{AllByRecursion}
 use Rattle.addresses.specs.declared.ethernet.Mac.{Mac}
 use Rattle.addresses.specs.declared.transport.Port.{Port}
 use Rattle.nat_types.specs.declared.gateways.Side.{Side}
@@ -13,6 +14,7 @@ use Rattle.ipv4.specs.declared.packets.Packet.{Packet as Datagram}
 use Rattle.bindings.specs.declared.entries.Entry.{Entry}
 use Rattle.bindings.specs.Entries.{entry_of, own_entry_of, slot_of, translates}
 use Rattle.bindings.specs.Ports.{is_free_in}
+use Rattle.spec_binding.specs.declared.changes.Want.TheVariants as want
 use Rattle.spec_binding.specs.Books.{owns}
 use Rattle.spec_binding.specs.Rows.{is_at_limit, new_pair, port_for}
 use Rattle.packet_rules.specs.declared.networks.Direction.{Direction}
@@ -23,9 +25,12 @@ use Rattle.packet_rules.specs.declared.translations.Translation.TheVariants.{Out
 use Rattle.packet_rules.specs.Errors.{endpoint_about, error_direction, key_about}
 use Rattle.packet_rules.specs.Flows.{source_of, target_of}
 use Rattle.packet_rules.specs.Frames.{way_of}
-use Rattle.packet_rules.specs.Networks.{direction_of}
+use Rattle.packet_rules.specs.Networks.{direction_of, exit_of}
+use Rattle.waiting.specs.declared.waits.WaitsFor.TheVariants as wait
+use Rattle.waiting.specs.Packets.{host_count, pair_count}
+use Rattle.waiting.specs.Waits.{same_wait}
 use Rattle.spec_step.specs.Shown.{Shown}
-use Rattle.spec_step.specs.Verdict.{exit_by, fits_at, next_by, next_to, reading_on, target_pair}
+use Rattle.spec_step.specs.Verdict.{exit_by, fits_at, look_for, next_by, next_to, reading_on, target_pair}
 
 -- the entry that was found is of this pair, and translates
 pub record Translates (found : Option Entry) (p : Pair) : Type 0 where
@@ -148,3 +153,25 @@ pub record MayBegin (g : Shown) (side : Side) (bytes : List ℕ) : Type 0 where
   pub hop : Mac
   pub next : next_by g by packet.flow ≡ Some hop
   pub fits : fits_at g (exit_by by) packet.size ≡ true
+
+-- ---- a packet that waits for its pair
+
+-- There is a place for a packet that waits for the pair of its source: fewer than 64 packets wait for pairs, fewer than 16
+-- of its inside address, and none for this pair.
+pub record HasPlace (g : Shown) (e : Endpoint) : Type 0 where
+  pub places : pair_count g.kept < 64
+  pub share : host_count e.address.0 g.kept < 16
+  pub none : AllByRecursion (λ w. same_wait w.wait (wait.Pair e) ≡ false) g.kept
+
+-- A packet may wait for its pair: it is valid and its time to live is above one, its way needs a pair of its source, which
+-- is or would be proposed to the peer, there is a place for it, and it is no longer than what is sent there, or may be cut.
+pub record MayWait (g : Shown) (side : Side) (bytes : List ℕ) : Type 0 where
+  pub packet : Datagram
+  pub reads : reading_on g side bytes ≡ Ok (Packet packet)
+  pub way : Direction
+  pub goes : let flow = packet.flow in
+      direction_of g.networks side flow.protocol flow.source.0 flow.destination.0 ≡ Ok way
+  pub needs : NeedsPair g packet.flow way
+  pub waits : look_for g packet.flow ≡ want.Wait
+  pub place : HasPlace g (source_of packet.flow)
+  pub fits : fits_at g (exit_of way) packet.size ≡ true

@@ -18,3 +18,4 @@ pub mod GoingOn
 pub mod TakingOver
 pub mod LettingGo
 pub mod Apart
+pub mod Uses

@@ -1,24 +1,30 @@
 //! The laws of a step of a gateway. Each law is the contract of a function that does nothing.
 
-ghost use Rattle.std.specs.Prelude.{◌≡◌, ◌≢◌, ◌↔◌, Ok, ◌≤◌, ◌<◌, ◌+◌, ◌^◌, ◌∷◌, ◌++◌, ℕ, true, false, [], Bool, List, length, reverse, Err, None, Some};
+ghost use Rattle.std.specs.Prelude.{◌≡◌, ◌≢◌, ◌↔◌, Ok, ◌≤◌, ◌<◌, ◌+◌, ◌^◌, ◌∷◌, ◌++◌, ◌||◌, ℕ, true, false, [], not, Bool, List, length, reverse, Err, None, Some, if◌then◌else◌};
 ghost use Rattle.std.specs.Borrow.{Bor};
 ghost use Rattle.std.specs.List.{AllByRecursion};
 ghost use Rattle.nat_types.specs.declared.gateways.GatewayId.{GatewayId};
 ghost use Rattle.nat_types.specs.declared.gateways.Side.{Side};
+ghost use Rattle.nat_types.specs.declared.gateways.Side.TheVariants.{Inside, Outside};
 ghost use Rattle.nat_types.specs.declared.notes.NoteKind.TheVariants.{Booted, Crashed};
 ghost use Rattle.nat_types.specs.declared.pairs.Endpoint.{Endpoint};
 ghost use Rattle.nat_types.specs.declared.notes.Note.{Note};
 ghost use Rattle.nat_types.specs.declared.pairs.Pair.{Pair};
 ghost use Rattle.nat_types.specs.declared.pairs.Key.{Key};
 ghost use Rattle.nat_types.specs.declared.records.Record.{Record};
-ghost use Rattle.nat_types.specs.Same.{same};
+ghost use Rattle.nat_types.specs.Same.{other, same};
 ghost use Rattle.addresses.specs.declared.ethernet.Mac.{Mac};
+ghost use Rattle.addresses.specs.declared.transport.Protocol.TheVariants.{Tcp};
+ghost use Rattle.addresses.specs.declared.transport.TcpFlags.{TcpFlags};
+ghost use Rattle.activity.specs.Kept.{has_session};
+ghost use Rattle.activity.specs.Lives.{Activity};
 ghost use Rattle.arp.specs.declared.packets.ArpPacket.{ArpPacket};
-ghost use Rattle.arp.specs.Neighbours.{fixed_mac, mac_at};
+ghost use Rattle.arp.specs.Neighbours.{asks_at, fixed_mac, has_entry, mac_at};
+ghost use Rattle.settings.specs.Parts.{gateway_of};
 ghost use Rattle.settings.specs.declared.whole.Settings.{Settings};
 ghost use Rattle.frames.specs.Frame.{frame_of};
 ghost use Rattle.icmp.specs.declared.packets.ErrorFlow.{ErrorFlow};
-ghost use Rattle.interfaces.specs.Stations.{is_active};
+ghost use Rattle.interfaces.specs.Stations.{is_active, new_station};
 ghost use Rattle.link.specs.Hearing.{peer_serves};
 ghost use Rattle.link.specs.Link.{wanted};
 ghost use Rattle.output.specs.Output.{Sent};
@@ -34,14 +40,20 @@ ghost use Rattle.packet_rules.specs.declared.readings.Reading.TheVariants.{Arp};
 ghost use Rattle.packet_rules.specs.declared.reasons.Reason.{Reason};
 ghost use Rattle.packet_rules.specs.declared.reasons.Reason.TheVariants.{Fragment, HostLimit, NoPort, SourceRoute, TooLong};
 ghost use Rattle.packet_rules.specs.declared.translations.Translation.{Translation};
+ghost use Rattle.packet_rules.specs.declared.translations.Translation.TheVariants as goes;
+ghost use Rattle.packet_rules.specs.Arping.{is_learnable};
+ghost use Rattle.packet_rules.specs.Flows.{source_of};
+ghost use Rattle.packet_rules.specs.Frames.{sent_frame};
 ghost use Rattle.packet_rules.specs.Networks.{direction_of, mtu_of};
 ghost use Rattle.packet_rules.specs.Own.{complaint_of, exit_for};
 ghost use Rattle.packet_rules.specs.Steps.{reading_of};
 ghost use Rattle.spec_trace.specs.Past.{Idle};
-ghost use Rattle.spec_pair.specs.Talk.{note};
+ghost use Rattle.spec_pair.specs.Talk.{note, use_note};
 ghost use Rattle.waiting.specs.Packets.{HeldPacket, hop_count, host_count};
 ghost use Rattle.bindings.specs.declared.entries.Entry.{Entry};
 ghost use Rattle.bindings.specs.Entries.{is_alone, is_marked, slot_of};
+ghost use Rattle.bindings.specs.Lives.{life_in};
+ghost use Rattle.spec_binding.specs.declared.changes.Want.TheVariants as want;
 ghost use Rattle.spec_binding.specs.declared.setups.Stage.TheVariants.{Paired};
 ghost use Rattle.spec_binding.specs.Books.{IsBook, is_lone, is_synced};
 ghost use Rattle.spec_binding.specs.Ledgers.{go_on_all, release_all};
@@ -51,16 +63,18 @@ ghost use Rattle.spec_step.specs.declared.events.Event.TheVariants.{Frame, Tick}
 ghost use Rattle.spec_step.specs.declared.events.Outcome.TheVariants as outcome;
 ghost use Rattle.spec_step.specs.declared.plans.Plan.TheVariants.{Send as SendBy, Wait as WaitForPair};
 ghost use Rattle.spec_step.specs.Apart.{IsUnmoved, WaitsForNobody};
-ghost use Rattle.spec_step.specs.Verdict.{error_plan, plan_of, reading_on, verdict};
+ghost use Rattle.spec_step.specs.Verdict.{error_plan, exit_by, hop_by, look_for, plan_from, plan_of, reading_on, verdict};
 ghost use Rattle.spec_step.specs.Founding.{HasRanges, begun, bounds_of, founded, link_places};
-ghost use Rattle.spec_step.specs.GoingOn.{GoesByOwn, HasAllPairs, HasNoPort, MayBegin, MayGoOn, MayPassOn};
+ghost use Rattle.spec_step.specs.GoingOn.{GoesByOwn, HasAllPairs, HasNoPort, HasPlace, MayBegin, MayGoOn, MayPassOn};
+ghost use Rattle.spec_step.specs.GoingOn.{MayWait};
 ghost use Rattle.spec_step.specs.Machine.{AreBytes, Goes, HasBytes, HasPushed, IsLoneRightly, IsStanding, KeepsBytes};
 ghost use Rattle.spec_step.specs.Machine.{letters_in, words_in};
 ghost use Rattle.spec_step.specs.LettingGo.{CanAskForAll, HasRested, IsLetGo, NotesRelease};
 ghost use Rattle.spec_step.specs.LettingGo.{ReleasesAlone};
 ghost use Rattle.spec_step.specs.Others.{AreOthers};
 ghost use Rattle.spec_step.specs.OwnAnswers.{AreWithin, SaysJust, ShowsNothing, all_own_of, own_of};
-ghost use Rattle.spec_step.specs.Parts.{all_idle_done, all_sought_done, all_taken, echo_taken, error_taken, flow_taken, is_taught, size_in, refused, retaken_by};
+ghost use Rattle.spec_step.specs.Parts.{all_idle_done, all_sought_done, all_taken, carried_all, echo_taken, error_taken, flags_in, flow_taken, is_taught, remote, request_by};
+ghost use Rattle.spec_step.specs.Parts.{refused, retaken_by, size_in, wanted_for};
 ghost use Rattle.spec_step.specs.PassedOn.{ChangesLittle, HidesAllInside, LeavesPairs, TellsAll};
 ghost use Rattle.spec_step.specs.Rests.{AccountsOn, Rests, most_notes};
 ghost use Rattle.spec_step.specs.Settled.{AreIdle, HaveBegun, IsSettled};
@@ -71,10 +85,12 @@ ghost use Rattle.spec_step.specs.Shown.{with_notes};
 ghost use Rattle.spec_step.specs.Steps.{Does, IsStepOn};
 ghost use Rattle.spec_step.specs.TakingOver.{AreSilentSteps, HearsAdvert, IsBehind, IsSilentStep};
 ghost use Rattle.spec_step.specs.TakingOver.{IsAdvertFrom, router_on};
-ghost use Rattle.vrrp_states.specs.declared.State.TheVariants.{Backup, Initialize};
+ghost use Rattle.vrrp_states.specs.declared.State.TheVariants.{Backup};
 ghost use Rattle.vrrp_states.specs.Table.{Follows, active_down_interval};
 ghost use Rattle.spec_step.specs.Truly.{IsSetUp, Tells, hand_of};
+ghost use Rattle.spec_step.specs.Uses.{IsCarrier, RestAlike};
 
+use activity::stranger_keeps_nothing as kept_of_stranger;
 use interfaces::{limits_law, tallies_law};
 use packet_rules::{
     frames_law, own_frames_law, peer_alone as read_from_peer, readings_law, shows_nothing_inside,
@@ -286,22 +302,102 @@ pub fn other_frames()
     tallies_law();
 }
 
-/// The true owner of an address mends what a forged ARP packet did. After a frame with an ARP packet
-/// by which its sender is learnt or renewed, and no neighbour of that address is fixed, packets to the
-/// sender go to the hardware address of that packet.
+/// The true owner of an address mends what a forged ARP packet did. Behind a packet that is sent to a
+/// neighbour the request for that neighbour goes out at once, where one is due: its hardware address
+/// changed, or it was learnt or renewed long ago, and it wasn't learnt or asked for lately. And after a
+/// frame with an ARP packet by which its sender is learnt or renewed, packets to the sender go to the
+/// hardware address of that packet, where no neighbour of its address is fixed. A sender that has an
+/// entry is renewed by each packet that a sender may be learnt from.
 pub fn true_owner_heals()
-    ensures { (s : GatewayAndOutput) (side : Side) (bytes : Bor (List ℕ)) (s2 : GatewayAndOutput)
-        (p : ArpPacket) → IsStepOn s (Frame side bytes) s2
+    ensures asked { (s : GatewayAndOutput) (side : Side) (bytes : List ℕ) (flow : Flow)
+        (by : Translation) (next : Mac)
+        → plan_of s.shown side flow (size_in bytes) ≡ Ok (SendBy by next)
+        → (let g = s.shown in let exit = exit_by by in let hop = hop_by g by flow in
+        (flow_taken s side bytes flow).told.frames ≡ s.told.frames
+        ++ record { side = exit; bytes = sent_frame g.networks by next bytes }
+        ∷ (if asks_at hop.0 g.moment (station_on g exit).neighbours
+        then record { side = exit; bytes = request_by g exit hop } ∷ [] else [])) }
+    ensures taught { (s : GatewayAndOutput) (side : Side) (bytes : Bor (List ℕ))
+        (s2 : GatewayAndOutput) (p : ArpPacket) → IsStepOn s (Frame side bytes) s2
         → IsBook s.shown.ledger.book → KeepsBytes s.shown → IsSetUp s.shown
         → reading_on s.shown side bytes.now ≡ Ok (Arp p) → is_taught s.shown side p ≡ true
         → fixed_mac p.sender_ip.0 (station_on s.shown side).neighbours.fixed ≡ None
         → mac_at p.sender_ip.0 s2.shown.moment (station_on s2.shown side).neighbours
         ≡ Some p.sender_mac }
+    ensures renewed { (g : Shown) (side : Side) (p : ArpPacket)
+        → is_learnable (station_on g side).network p ≡ true
+        → has_entry p.sender_ip.0 (station_on g side).neighbours.learnt ≡ true
+        → is_taught g side p ≡ true }
 {
     readings_law();
     frames_law();
     own_frames_law();
     tallies_law();
+}
+
+/// What makes a use count, as the notes of a packet that is carried say it. Outward a use counts. Inward
+/// a use of UDP or ICMP counts where the setting `inward_refresh` is true, and a segment of TCP where its
+/// pair has a session with the segment's sender, whatever the setting is. A segment outward with RST
+/// counts where its pair has a session with the remote end, or carried nothing before in its life. A
+/// hairpin is both: outward for its sender's pair, inward for the other, and each has the outside address
+/// as remote end. A packet that is sent is noted so once its pair is made (`taken`).
+pub fn uses_are_marked()
+    ensures taken { (s : GatewayAndOutput) (side : Side) (bytes : List ℕ) (flow : Flow)
+        (by : Translation) (next : Mac)
+        → plan_of s.shown side flow (size_in bytes) ≡ Ok (SendBy by next)
+        → (flow_taken s side bytes flow).told.notes
+        ≡ (carried_all (wanted_for s flow by) flow (flags_in bytes) by).told.notes }
+    ensures outward { (s : GatewayAndOutput) (flow : Flow) (flags : TcpFlags) (p : Pair)
+        (life : Activity) → IsCarrier s.shown p life
+        → (p.key.protocol ≡ Tcp → flags.rst ≡ false)
+        → (carried_all s flow flags (goes.Outward p)).told.notes
+        ≡ s.told.notes ++ use_note (id_of s.shown) s.shown.moment p true ∷ [] }
+    ensures reset { (s : GatewayAndOutput) (flow : Flow) (flags : TcpFlags) (p : Pair)
+        (life : Activity) → IsCarrier s.shown p life → p.key.protocol ≡ Tcp → flags.rst ≡ true
+        → (carried_all s flow flags (goes.Outward p)).told.notes
+        ≡ s.told.notes ++ use_note (id_of s.shown) s.shown.moment p
+        (has_session (remote flow.destination flow.destination_port) life.sessions
+        || not life.has_carried) ∷ [] }
+    ensures inward { (s : GatewayAndOutput) (flow : Flow) (flags : TcpFlags) (p : Pair)
+        (life : Activity) → IsCarrier s.shown p life → p.key.protocol ≢ Tcp
+        → (carried_all s flow flags (goes.Inward p)).told.notes ≡ s.told.notes
+        ++ use_note (id_of s.shown) s.shown.moment p s.shown.ledger.inward_refresh ∷ [] }
+    ensures segment { (s : GatewayAndOutput) (flow : Flow) (flags : TcpFlags) (p : Pair)
+        (life : Activity) → IsCarrier s.shown p life → p.key.protocol ≡ Tcp
+        → (carried_all s flow flags (goes.Inward p)).told.notes
+        ≡ s.told.notes ++ use_note (id_of s.shown) s.shown.moment p
+        (has_session (remote flow.source flow.source_port) life.sessions) ∷ [] }
+    ensures hairpin { (s : GatewayAndOutput) (flow : Flow) (flags : TcpFlags) (own other : Pair)
+        (one two : Activity) → IsCarrier s.shown own one → IsCarrier s.shown other two
+        → (own.key.protocol ≡ Tcp → flags.rst ≡ false) → other.key.protocol ≢ Tcp
+        → (carried_all s flow flags (goes.Hairpin own other)).told.notes
+        ≡ s.told.notes ++ use_note (id_of s.shown) s.shown.moment own true
+        ∷ use_note (id_of s.shown) s.shown.moment other s.shown.ledger.inward_refresh ∷ [] }
+    ensures hairpin_segment { (s : GatewayAndOutput) (flow : Flow) (flags : TcpFlags)
+        (own other : Pair) (one two : Activity) → IsCarrier s.shown own one
+        → IsCarrier s.shown other two → own.key ≢ other.key
+        → (own.key.protocol ≡ Tcp → flags.rst ≡ false) → other.key.protocol ≡ Tcp
+        → (let here = s.shown.networks.outside.interface.virtual_ip in
+        (carried_all s flow flags (goes.Hairpin own other)).told.notes
+        ≡ s.told.notes ++ use_note (id_of s.shown) s.shown.moment own true
+        ∷ use_note (id_of s.shown) s.shown.moment other
+        (has_session (remote here own.key.port) two.sessions) ∷ []) }
+{}
+
+/// A stranger keeps nothing. Where `inward_refresh` is false, a packet of UDP or ICMP that is carried
+/// inward, and a segment of TCP from an end with which its pair has no session, change at no time which
+/// pairs are idle.
+pub fn stranger_keeps_nothing()
+    ensures datagram { (s : GatewayAndOutput) (flow : Flow) (flags : TcpFlags) (p : Pair)
+        → s.shown.ledger.inward_refresh ≡ false → p.key.protocol ≢ Tcp
+        → RestAlike s.shown.ledger (carried_all s flow flags (goes.Inward p)).shown.ledger }
+    ensures segment { (s : GatewayAndOutput) (flow : Flow) (flags : TcpFlags) (p : Pair)
+        (life : Activity) → s.shown.ledger.inward_refresh ≡ false → p.key.protocol ≡ Tcp
+        → life_in s.shown.ledger.book.entries s.shown.ledger.lives p.key ≡ Some life
+        → has_session (remote flow.source flow.source_port) life.sessions ≡ false
+        → RestAlike s.shown.ledger (carried_all s flow flags (goes.Inward p)).shown.ledger }
+{
+    kept_of_stranger();
 }
 
 /// What a step requires of a gateway holds already before the datagram at the step's end, for a
@@ -352,7 +448,8 @@ pub fn beginnings_account()
 {}
 
 /// What a step requires of a gateway holds of a gateway as it begins, and of the founded one, where
-/// nothing was pushed. And the link of each has places for a whole table.
+/// nothing was pushed. The link of each has places for a whole table. And whether what comes inward
+/// renews a pair is what the settings say.
 pub fn beginnings()
     ensures begun { (settings : Settings) (id : GatewayId) (boot : ℕ) → HasRanges settings
         → IsStanding (begun settings id boot) [] }
@@ -364,6 +461,10 @@ pub fn beginnings()
     ensures founded_room { (settings : Settings) (boot : ℕ)
         → (founded settings boot).link.capacity
         ≡ link_places (bounds_of settings.ports.zero) (bounds_of settings.ports.one) }
+    ensures refresh { (settings : Settings) (id : GatewayId) (boot : ℕ)
+        → (begun settings id boot).ledger.inward_refresh ≡ settings.inward_refresh }
+    ensures founded_refresh { (settings : Settings) (boot : ℕ)
+        → (founded settings boot).ledger.inward_refresh ≡ settings.inward_refresh }
 {}
 
 /// What holds of a gateway between steps holds after each step again: its routers have begun where
@@ -442,16 +543,33 @@ pub fn takes_over()
         → is_active (station_on new side) ≡ true }
 {}
 
-/// Where the other gateway's advertisements alone count on a side, a frame that comes in there changes
-/// a router that has begun only where it is an advertisement with that gateway's address and interval,
-/// and its priority or 0.
+/// Where the other gateway's advertisements alone count on a side, a frame changes the router of that side
+/// only where it comes in there and is an advertisement with that gateway's address and interval, and its
+/// priority or 0. The setting `peer_only` says whether they alone count.
 pub fn peer_alone()
-    ensures { (s : GatewayAndOutput) (side : Side) (bytes : Bor (List ℕ)) (s2 : GatewayAndOutput)
-        (peer : Peer) → IsStepOn s (Frame side bytes) s2
+    ensures frame { (s : GatewayAndOutput) (side at : Side) (bytes : Bor (List ℕ))
+        (s2 : GatewayAndOutput) (peer : Peer) → IsStepOn s (Frame at bytes) s2
         → (station_on s.shown side).network.peer ≡ Some peer
-        → (router_on s.shown side).state ≢ Initialize
         → router_on s2.shown side ≢ router_on s.shown side
-        → IsAdvertFrom peer (reading_on s.shown side bytes.now) }
+        → (at ≡ side) × IsAdvertFrom peer (reading_on s.shown at bytes.now) }
+    ensures inside { (settings : Settings) (id : GatewayId) → settings.vrrp.peer_only ≡ true
+        → (let there = gateway_of settings (other id) in
+        (new_station settings id Inside).network.peer
+        ≡ Some (record {
+          ip = there.inside_ip;
+          priority = there.priority;
+          interval = there.interval;
+        })) }
+    ensures outside { (settings : Settings) (id : GatewayId) → settings.vrrp.peer_only ≡ true
+        → (let there = gateway_of settings (other id) in
+        (new_station settings id Outside).network.peer
+        ≡ Some (record {
+          ip = there.outside_ip;
+          priority = there.priority;
+          interval = there.interval;
+        })) }
+    ensures any { (settings : Settings) (id : GatewayId) (side : Side)
+        → settings.vrrp.peer_only ≡ false → (new_station settings id side).network.peer ≡ None }
 {
     read_from_peer();
 }
@@ -531,6 +649,17 @@ pub fn goes_on_is_sent()
         → MayBegin g side bytes → verdict g side bytes ≡ outcome.Sent }
 {}
 
+/// A packet waits for its pair where there is a place for it, and isn't dropped for want of one (outcome
+/// 15): where fewer than 64 packets wait for pairs, fewer than 16 of them are of its inside address, and
+/// none waits for the same pair.
+pub fn waits_where_there_is_place()
+    ensures plan { (g : Shown) (flow : Flow) (by : Pair → Translation)
+        → look_for g flow ≡ want.Wait → HasPlace g (source_of flow)
+        → plan_from g flow by (look_for g flow) ≡ Ok (WaitForPair (source_of flow)) }
+    ensures verdict { (g : Shown) (side : Side) (bytes : List ℕ) → MayWait g side bytes
+        → verdict g side bytes ≡ outcome.Waiting }
+{}
+
 /// A fragment is dropped and nothing else happens, where the link owes no datagram and has the
 /// records that it was promised, as it does between steps.
 pub fn fragments_are_dropped()
@@ -562,8 +691,8 @@ pub fn steps_feed()
     readings_law();
 }
 
-/// A step leaves the networks and the gateway's id as they are, and what was sent before stays in
-/// front of what it sends.
+/// A step leaves the networks, the gateway's id and whether what comes inward renews a pair as they are,
+/// and what was sent before stays in front of what it sends.
 pub fn steps_stay()
     ensures networks { (s : GatewayAndOutput) (event : Event) (s2 : GatewayAndOutput)
         → IsStepOn s event s2
@@ -577,6 +706,9 @@ pub fn steps_stay()
         → IsStepOn s event s2
         → HasBytes event → IsBook s.shown.ledger.book → KeepsBytes s.shown → IsSetUp s.shown
         → (sent : List Sent) × (s2.told.frames ≡ s.told.frames ++ sent) }
+    ensures refresh { (s : GatewayAndOutput) (event : Event) (s2 : GatewayAndOutput)
+        → IsStepOn s event s2
+        → s2.shown.ledger.inward_refresh ≡ s.shown.ledger.inward_refresh }
 {
     readings_law();
     frames_law();

@@ -1,4 +1,5 @@
 use Rattle.spec_step.proofs.Beginning.{begun-room, begun-stands, founded-room, founded-stands}
+use Rattle.spec_step.proofs.Refreshing.{begun-refresh, founded-refresh}
 use Rattle.spec_step.proofs.laws.beginnings.Goals as goal
 
 pub returns-clause-begun : goal.returns-clause-begun
@@ -12,3 +13,9 @@ returns-clause-begun_room c = begun-room
 
 pub returns-clause-founded_room : goal.returns-clause-founded_room
 returns-clause-founded_room c = founded-room
+
+pub returns-clause-refresh : goal.returns-clause-refresh
+returns-clause-refresh c = begun-refresh
+
+pub returns-clause-founded_refresh : goal.returns-clause-founded_refresh
+returns-clause-founded_refresh c = founded-refresh
