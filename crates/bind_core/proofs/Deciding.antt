@@ -22,7 +22,7 @@ use Rattle.spec_binding.specs.declared.changes.Transition.{Transition}
 use Rattle.spec_binding.specs.declared.changes.PortRequest.{PortRequest}
 use Rattle.spec_binding.specs.declared.changes.Want.TheVariants as want
 use Rattle.spec_binding.specs.Books.{Book, IsBook, is_apart, is_synced, is_lone, is_paired, is_promised}
-use Rattle.spec_binding.specs.Rows.{alone_row, marked_row, paired_wish, sought_row, telling_row, row, quiet, wish, wish_of, wish_by, known_wish, new_wish, new_pair, none_row, may_want, port_for, is_at_limit, idle_row, release_row, released_row, row_of, synced_row, taken_answer, is_full}
+use Rattle.spec_binding.specs.Rows.{alone_row, marked_row, paired_wish, sought_row, telling_row, row, quiet, wish, wish_of, wish_by, known_wish, new_wish, new_pair, wanting_row, may_want, port_for, is_at_limit, idle_row, release_row, released_row, row_of, synced_row, taken_answer, is_full}
 use Rattle.bind_core.specs.Changes.{IsSteady, adds}
 use Rattle.spec_binding.specs.Ledgers.{may_ask, is_heard, is_reached}
 use Rattle.bind_core.proofs.Performing.{taken-answer}
@@ -37,7 +37,7 @@ known-steady b p (state.Closing false) = tt
 known-steady b p state.Alone = tt
 known-steady b p state.Held = tt
 
-none-steady : (b : Book) (full : Bool) → IsSteady b (none_row b full).change
+none-steady : (b : Book) (full : Bool) → IsSteady b (wanting_row b full).change
 none-steady b full = at (may_want b full)
   where
     at : (t : Bool) → IsSteady b (let r : Transition = cond t (row change.Want (Some rec.Want) None) quiet in r).change
@@ -84,13 +84,13 @@ known-mute p (state.Closing false) = refl
 known-mute p state.Alone = refl
 known-mute p state.Held = refl
 
-none-mute : (b : Book) → (none_row b true).answer ≡ None
-none-mute b = at (is_lone b.stage) b.wants
+none-mute : (b : Book) → (wanting_row b true).answer ≡ None
+none-mute b = at (is_paired b.stage) b.wants
   where
-    at : (lone wants : Bool) → (let r : Transition = cond (not lone && (not wants && false)) (row change.Want (Some rec.Want) None) quiet in r).answer ≡ None
-    at true wants = refl
-    at false true = refl
-    at false false = refl
+    at : (paired wants : Bool) → (let r : Transition = cond (paired && (not wants && false)) (row change.Want (Some rec.Want) None) quiet in r).answer ≡ None
+    at false wants = refl
+    at true true = refl
+    at true false = refl
 
 paired-mute : (apart : Bool) (p : Pair) → (paired_wish apart true p).row.answer ≡ None
 paired-mute true p = refl

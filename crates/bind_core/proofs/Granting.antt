@@ -55,8 +55,8 @@ pub counted-next : (whole count p : ℕ) (xs ys : List ℕ) → xs ≡ p ∷ ys 
 counted-next whole count p xs ys is was = let one = ap length is in omega (arith, was, one)
 
 -- the count is exact once none is left
-pub counted-all : (whole count : ℕ) (xs : List ℕ) → count < 32 → xs ≡ [] → whole ≡ count + length xs → count ≡ min 32 whole
-counted-all whole count xs below none was = let left = ap length none in omega (arith, was, left, below)
+pub counted-all : (whole count most : ℕ) (xs : List ℕ) → count < most → xs ≡ [] → whole ≡ count + length xs → count ≡ min most whole
+counted-all whole count most xs below none was = let left = ap length none in omega (arith, was, left, below)
 
 -- ---- the choice
 
@@ -85,14 +85,14 @@ chosen-all many whole ports xs none was = finished whole ports (take many xs) (a
 pub chosen-enough : (many : ℕ) (whole ports : List Port) (xs : List ℕ) → many ≡ 0 → whole ≡ ports ++ (as_ports (take many xs)).ports → ports ≡ whole
 chosen-enough many whole ports xs none was = finished whole ports (take many xs) (ap (λ (n : ℕ). take n xs) none) was
 
--- counting up to 32 spare ports is enough for the share
-halved : (n : ℕ) → share (min 32 n) ≡ share n
-halved n = omega arith
+-- counting up to 32 spare ports beyond those that are kept is enough for the share
+halved : (kept n : ℕ) → share (min (kept + 32) n - kept) ≡ share (n - kept)
+halved kept n = omega arith
 
-pub granted-is : (f : ℕ → Bool) (low high end most : ℕ) (granted : Granted) → end ≡ high + 1 → most ≡ share (min 32 (length (those_between f low end))) → granted ≡ as_ports (take most (those_between f low end))
-    → granted ≡ as_ports (take (share (length (filter f (falling high (high + 1 - low))))) (filter f (falling high (high + 1 - low))))
-granted-is f low high end most granted at many is =
+pub granted-is : (f : ℕ → Bool) (low high end kept most : ℕ) (granted : Granted) → end ≡ high + 1 → most ≡ share (min (kept + 32) (length (those_between f low end)) - kept) → granted ≡ as_ports (take most (those_between f low end))
+    → granted ≡ as_ports (take (share (length (filter f (falling high (high + 1 - low))) - kept)) (filter f (falling high (high + 1 - low))))
+granted-is f low high end kept most granted at many is =
     let same : those_between f low end ≡ filter f (falling high (high + 1 - low)) = ap (those_between f low) at ∙ ap (λ (n : ℕ). filter f (falling n (high + 1 - low))) (let e : high + 1 - 1 ≡ high = omega arith in e) in
     is
-    ∙ ap (λ (n : ℕ). as_ports (take n (those_between f low end))) (many ∙ halved (length (those_between f low end)))
-    ∙ ap (λ (zs : List ℕ). as_ports (take (share (length zs)) zs)) same
+    ∙ ap (λ (n : ℕ). as_ports (take n (those_between f low end))) (many ∙ halved kept (length (those_between f low end)))
+    ∙ ap (λ (zs : List ℕ). as_ports (take (share (length zs - kept)) zs)) same

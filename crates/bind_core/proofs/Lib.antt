@@ -10,3 +10,4 @@ mod Walking
 mod Carried
 mod Hearing
 mod Granting
+mod Asking

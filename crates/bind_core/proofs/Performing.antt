@@ -38,9 +38,10 @@ use Rattle.bindings.specs.Table.{Table, IsTable}
 use Rattle.spec_binding.specs.declared.changes.Change.{Change}
 use Rattle.spec_binding.specs.declared.changes.Change.TheVariants.{Keep, Add, Turn, Renew, Drop, Yield, Want, Give, Gain}
 use Rattle.spec_binding.specs.declared.changes.Transition.{Transition}
-use Rattle.spec_binding.specs.Books.{Book, IsBook, is_any, is_promised, is_synced, load_of, empty_book, founded_book, ports_of}
+use Rattle.spec_binding.specs.Books.{Book, IsBook, is_any, is_promised, is_synced, load_of, emptied, empty_book, founded_book, ports_of}
 use Rattle.spec_binding.specs.Rows.{after, changed, with_gained, is_gained, numbers_of, row_of, carry_row, use_row, used_row, quiet, answered, taken_book, taken_answer, taken_ended, taken_what, unsynced_after, unsynced_what, load_taken, load_what, noted_by, stage_after}
 use Rattle.spec_binding.specs.WellFormed.{Fits, HasOwnPair}
+use Rattle.spec_binding.specs.declared.setups.Rules.{Rules}
 use Rattle.spec_binding.specs.declared.setups.Stage.{Stage}
 use Rattle.spec_binding.specs.declared.setups.Stage.TheVariants.{Lone, Paired, Unsynced}
 use Rattle.nat_types.specs.declared.records.Record.TheVariants as rec
@@ -53,7 +54,7 @@ use Rattle.std.proofs.Common.{true, false, cond, [], ◌∷◌, ◌++◌, map, t
 use Rattle.bind_core.specs.Changes.{table_book, table_after, wants_after, ready_after, adds, IsBetween, IsSteady}
 use Rattle.bind_core.specs.declared.deeds.Bounds.{Bounds}
 use Rattle.spec_binding.specs.Ledgers.{Ledger, lone_ledger, ledger_after, lives_after, lives_loaded, rests_for, restarted_ledger, taken_ledger}
-use Rattle.bind_core.specs.Cores.{Core, book_of, core_after, ledger_of, is_whole, revived_with, what_loaded}
+use Rattle.bind_core.specs.Cores.{Core, book_of, core_after, ledger_of, is_whole, revived_with, rules_of, what_loaded}
 use Rattle.bind_core.specs.View.{core_of}
 use Rattle.bind_core.specs.declared.cores.Core.TheInside.{Inside}
 use Rattle.bind_core.proofs.Porting.{gained-rest}
@@ -265,7 +266,7 @@ load-book c r t2 p2 s2 cs ok stage comes zero one =
     ∙ sym (ap (load_taken (book_of c) r) ok)
   where
     of : Stage → List Record → PortBounds → PortBounds → Book
-    of s cs z o = record { id = c.id; zero = z; one = o; limit = c.limit; alone = c.alone; stage = s; begun = p2.begun; named = p2.named; entries = t2.entries; owned = t2.owned; wants = c.wants; coming = cs }
+    of s cs z o = record { id = c.id; zero = z; one = o; limit = c.limit; alone = c.alone; choice = c.choice; ahead = c.ahead; stage = s; begun = p2.begun; named = p2.named; entries = t2.entries; owned = t2.owned; wants = c.wants; coming = cs }
 
 unpaired : (b : Book) → is_synced b.stage ≡ false → IsBook b → is_promised b ≡ true → ⊥
 unpaired b h is promised = let paired : is_synced b.stage ≡ true = ap is_synced (is.promised promised) in cc
@@ -345,9 +346,9 @@ none-owned : (xs : List ℕ) → ((p : ℕ) → is_listed p xs ≡ false) → xs
 none-owned [] h = refl
 none-owned (x ∷ xs) h = let here = or_left (x == x) (is_listed x xs) (eq-eqb x x refl) in let none = h x in cc
 
-pub empty-is : (id : GatewayId) (zero one : PortBounds) (limit : Option ℕ) (alone : ℕ) (t : Table) (p : Progress) → t.zero ≡ zero → t.one ≡ one → t.entries ≡ [] → ((port : ℕ) → is_listed port t.owned ≡ false) → p ≡ progress.fresh zero one
-    → (let b : Book = record { id = id; zero = t.zero; one = t.one; limit = limit; alone = alone; stage = Unsynced; begun = p.begun; named = p.named; entries = t.entries; owned = t.owned; wants = false; coming = [] } in b) ≡ empty_book id zero one limit alone
-empty-is id zero one limit alone t p z o es owned is =
+pub empty-is : (id : GatewayId) (zero one : PortBounds) (rules : Rules) (t : Table) (p : Progress) → t.zero ≡ zero → t.one ≡ one → t.entries ≡ [] → ((port : ℕ) → is_listed port t.owned ≡ false) → p ≡ progress.fresh zero one
+    → (let b : Book = record { id = id; zero = t.zero; one = t.one; limit = rules.limit; alone = rules.alone; choice = rules.choice; ahead = rules.ahead; stage = Unsynced; begun = p.begun; named = p.named; entries = t.entries; owned = t.owned; wants = false; coming = [] } in b) ≡ empty_book id zero one rules
+empty-is id zero one rules t p z o es owned is =
     ap (λ (x : Progress). of t.zero t.one x.begun x.named t.entries t.owned) is
     ∙ ap (λ (x : PortBounds). of x t.one false 0 t.entries t.owned) z
     ∙ ap (λ (x : PortBounds). of zero x false 0 t.entries t.owned) o
@@ -355,7 +356,7 @@ empty-is id zero one limit alone t p z o es owned is =
     ∙ ap (λ (x : List ℕ). of zero one false 0 [] x) (none-owned t.owned owned)
   where
     of : PortBounds → PortBounds → Bool → ℕ → List Entry → List ℕ → Book
-    of z o begun named entries owned = record { id = id; zero = z; one = o; limit = limit; alone = alone; stage = Unsynced; begun = begun; named = named; entries = entries; owned = owned; wants = false; coming = [] }
+    of z o begun named entries owned = record { id = id; zero = z; one = o; limit = rules.limit; alone = rules.alone; choice = rules.choice; ahead = rules.ahead; stage = Unsynced; begun = begun; named = named; entries = entries; owned = owned; wants = false; coming = [] }
 
 pub revived-book : (c : Core) (t2 : Table) (stage : Stage) (cursor : Cursor) → t2 ≡ record c.table { entries = t2.entries; lives = t2.lives } → t2.entries ≡ revived_entries c.table.entries
     → book_of (record c { table = t2; stage = stage; wants = false; coming = coming cursor t2 }) ≡ revived_with stage cursor c
@@ -371,10 +372,10 @@ put_lone_is now c c1 c2 book lives refresh hashers is =
     ∙ ap (λ (l : Ledger). let l2 : Ledger = record l { lives = map (life_renewed now) l.lives } in l2) (ledger-parts c1 _ _ _ _ book lives refresh hashers)
 
 pub restarted-synced : (b : Book) → is_synced b.stage ≡ true → restarted b ≡ record (revived b) { stage = Paired; coming = restart_batch b }
-restarted-synced b h = ap (λ (t : Bool). let x : Book = cond t (record (revived b) { stage = Paired; coming = restart_batch b }) (empty_book b.id b.zero b.one b.limit b.alone) in x) h
+restarted-synced b h = ap (λ (t : Bool). let x : Book = cond t (record (revived b) { stage = Paired; coming = restart_batch b }) (emptied b) in x) h
 
-pub restarted-bare : (b : Book) → is_synced b.stage ≡ false → restarted b ≡ empty_book b.id b.zero b.one b.limit b.alone
-restarted-bare b h = ap (λ (t : Bool). let x : Book = cond t (record (revived b) { stage = Paired; coming = restart_batch b }) (empty_book b.id b.zero b.one b.limit b.alone) in x) h
+pub restarted-bare : (b : Book) → is_synced b.stage ≡ false → restarted b ≡ emptied b
+restarted-bare b h = ap (λ (t : Bool). let x : Book = cond t (record (revived b) { stage = Paired; coming = restart_batch b }) (emptied b) in x) h
 
 pub restarted-ledger : (c c2 : Core) → is_synced c.stage ≡ true → book_of c2 ≡ restarted (book_of c) → c2.table.lives ≡ lives_of_pairs c.table.entries c.table.lives → c2.inward_refresh ≡ c.inward_refresh → c2.table.hashers ≡ c.table.hashers → ledger_of c2 ≡ restarted_ledger (ledger_of c)
 restarted-ledger c c2 h book lives refresh hashers =
@@ -387,14 +388,14 @@ bare-ledger c c2 h book lives refresh hashers =
     (lives ∙ sym (ap (λ (t : Bool). let ls : List Activity = cond t (lives_of_pairs c.table.entries c.table.lives) [] in ls) h)) refresh hashers
 
 pub forgotten : (c : Core) (t2 : Table) (p : Progress) (zero one : PortBounds) → t2 ≡ record c.table { entries = []; lives = []; owned = [] } → c.table.zero ≡ zero → c.table.one ≡ one → p ≡ progress.fresh zero one
-    → (let b : Book = record { id = c.id; zero = t2.zero; one = t2.one; limit = c.limit; alone = c.alone; stage = Unsynced; begun = p.begun; named = p.named; entries = t2.entries; owned = t2.owned; wants = false; coming = [] } in b) ≡ empty_book c.id c.table.zero c.table.one c.limit c.alone
+    → (let b : Book = record { id = c.id; zero = t2.zero; one = t2.one; limit = c.limit; alone = c.alone; choice = c.choice; ahead = c.ahead; stage = Unsynced; begun = p.begun; named = p.named; entries = t2.entries; owned = t2.owned; wants = false; coming = [] } in b) ≡ emptied (book_of c)
 forgotten c t2 p zero one same z o is =
-    empty-is c.id c.table.zero c.table.one c.limit c.alone t2 p (ap (λ (t : Table). t.zero) same) (ap (λ (t : Table). t.one) same) (ap (λ (t : Table). t.entries) same) (λ port. ap (λ (t : Table). is_listed port t.owned) same)
+    empty-is c.id c.table.zero c.table.one (rules_of c) t2 p (ap (λ (t : Table). t.zero) same) (ap (λ (t : Table). t.one) same) (ap (λ (t : Table). t.entries) same) (λ port. ap (λ (t : Table). is_listed port t.owned) same)
     (is ∙ ap (λ (x : PortBounds). progress.fresh x one) (sym z) ∙ ap (λ (x : PortBounds). progress.fresh c.table.zero x) (sym o))
 
 -- the book of a gateway without a table that is founded, and owns the ports of range zero
-pub founded-is : (c : Core) (cursor : Cursor) (t2 : Table) (zero one : PortBounds) → c.coming ≡ coming cursor c.table → book_of c ≡ empty_book Zero zero one c.limit c.alone → t2 ≡ record c.table { owned = ports_of zero }
-    → book_of (record c { table = t2; stage = Lone; coming = coming cursor t2 }) ≡ founded_book zero one c.limit c.alone
+pub founded-is : (c : Core) (cursor : Cursor) (t2 : Table) (zero one : PortBounds) → c.coming ≡ coming cursor c.table → book_of c ≡ empty_book Zero zero one (rules_of c) → t2 ≡ record c.table { owned = ports_of zero }
+    → book_of (record c { table = t2; stage = Lone; coming = coming cursor t2 }) ≡ founded_book zero one (rules_of c)
 founded-is c cursor t2 zero one are empty same =
     let none : c.coming ≡ [] = ap (λ (b : Book). b.coming) empty in
     let bare : coming cursor t2 ≡ [] = none-coming cursor c.table t2 (λ any. let no : is_any (coming cursor c.table) ≡ false = ap is_any (sym are ∙ none) in cc) ∙ sym are ∙ none in

@@ -8,6 +8,7 @@ use Rattle.bindings.specs.Table.{Table, IsPast}
 use Rattle.bindings.specs.declared.entries.Entry.{Entry}
 use Rattle.bindings.specs.Entries.{slot_of}
 use Rattle.resync.specs.Batch.{is_settled}
+use Rattle.spec_binding.specs.declared.setups.Choice.TheVariants.{Lowest}
 use Rattle.spec_binding.specs.declared.setups.Stage.TheVariants.{Paired}
 use Rattle.spec_binding.specs.declared.changes.Change.{Change}
 use Rattle.spec_binding.specs.declared.changes.Change.TheVariants.{Keep, Add, Turn, Renew, Drop, Yield, Want, Give, Gain}
@@ -16,7 +17,7 @@ use Rattle.spec_binding.specs.Ledgers.{is_held, lives_after}
 use Rattle.spec_binding.specs.Rows.{changed}
 use Rattle.bind_core.specs.declared.deeds.Bounds.{Bounds}
 
--- the table as the book of a gateway that isn't lone, with no limit
+-- the table as the book of a gateway that isn't lone, with no limit and no rules of its own
 abbrev pub table_book : Table → Book
 table_book t = record {
   id = Zero;
@@ -24,6 +25,8 @@ table_book t = record {
   one = t.one;
   limit = None;
   alone = 0;
+  choice = Lowest;
+  ahead = 0;
   stage = Paired;
   begun = false;
   named = 0;

@@ -23,21 +23,27 @@ use Rattle.resync.specs.Cursor.{to_come}
 use Rattle.resync.specs.declared.cursor.Cursor.{Cursor}
 use Rattle.spec_binding.specs.Resets.{revived}
 use Rattle.spec_binding.specs.declared.changes.Transition.{Transition}
+use Rattle.spec_binding.specs.declared.setups.Choice.{Choice}
+use Rattle.spec_binding.specs.declared.setups.Rules.{Rules}
 use Rattle.spec_binding.specs.declared.setups.Stage.{Stage}
 use Rattle.spec_binding.specs.Books.{Book, is_lone, is_synced}
 use Rattle.spec_binding.specs.Ledgers.{Ledger, may_ask}
+use Rattle.spec_binding.specs.Rows.{behind}
 use Rattle.bind_core.specs.Changes.{table_after, wants_after}
 
 -- The core: its gateway, its table, the most pairs that one inside address may have, after how many centiseconds
--- without an answer it is apart, whether what comes inward sets the last use of a pair, its stage, whether Begin was
--- taken and not yet Done, the last port that an Owner named, whether its Want is open, and which records of a promised
--- batch are still to be drawn.
+-- without an answer it is apart, whether what comes inward sets the last use of a pair, by which choice an endpoint gets
+-- its port, how many free ports it asks for ahead and keeps for itself, its stage, whether Begin was taken and not yet
+-- Done, the last port that an Owner named, whether its Want is open, and which records of a promised batch are still to be
+-- drawn.
 pub record Core : Type 0 where
   pub id : GatewayId
   pub table : Table
   pub limit : Option ℕ
   pub alone : ℕ
   pub inward_refresh : Bool
+  pub choice : Choice
+  pub ahead : ℕ
   pub stage : Stage
   pub begun : Bool
   pub named : ℕ
@@ -53,6 +59,8 @@ book_of c = record {
   one = c.table.one;
   limit = c.limit;
   alone = c.alone;
+  choice = c.choice;
+  ahead = c.ahead;
   stage = c.stage;
   begun = c.begun;
   named = c.named;
@@ -60,6 +68,16 @@ book_of c = record {
   owned = c.table.owned;
   wants = c.wants;
   coming = c.coming;
+}
+
+-- the rules that the gateway's operator set
+abbrev pub rules_of : Core → Rules
+rules_of c = record {
+  limit = c.limit;
+  alone = c.alone;
+  inward_refresh = c.inward_refresh;
+  choice = c.choice;
+  ahead = c.ahead;
 }
 
 -- the core's ledger: its book, what its pairs carried, whether what comes inward sets their last use, and the hashers of
@@ -75,6 +93,10 @@ ledger_of c = record {
 -- the core once a row is carried out
 abbrev pub core_after : ℕ → Core → Transition → Core
 core_after now c r = record c { table = table_after now r.change c.table; wants = wants_after r.change c.wants }
+
+-- the core once a row and what is asked for behind it are carried out; `e` is the end of the link before
+abbrev pub core_behind : ℕ → Core → Link → Transition → Core
+core_behind now c e r = core_after now (core_after now c r) (behind (book_of c) e r)
 
 -- ---- ticks
 

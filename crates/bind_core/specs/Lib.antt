@@ -3,3 +3,4 @@ pub mod Cores
 pub mod View
 pub mod Grants
 pub mod Memory
+pub mod Looks

@@ -10,9 +10,11 @@ abbrev pub core_of : Inside → Core
 core_of c = record {
   id = c.id;
   table = c.table;
-  limit = c.limit;
-  alone = c.alone;
-  inward_refresh = c.inward_refresh;
+  limit = c.rules.limit;
+  alone = c.rules.alone;
+  inward_refresh = c.rules.inward_refresh;
+  choice = c.rules.choice;
+  ahead = c.rules.ahead;
   stage = c.stage;
   begun = c.loading.begun;
   named = c.loading.named;

@@ -1,7 +1,7 @@
 //! The core of a gateway: its table, its stage, and what a promised batch and a loading have
 //! reached.
 ghost use Rattle.std.specs.Prelude.{◌≡◌, ◌+◌, ◌*◌, ◌<◌, ◌≤◌, ◌++◌, [], true, IsTrue, IsOk, IfOk};
-ghost use Rattle.std.specs.Prelude.{IfSome, is_some, length, vec_len, vec_capacity, false, OnOk, OnErr};
+ghost use Rattle.std.specs.Prelude.{IfSome, None, is_some, length, vec_len, vec_capacity, false, OnOk, OnErr};
 ghost use Rattle.link.specs.Grammar.{IsWellFormedRecord};
 ghost use Rattle.link.specs.Link.{free_places};
 ghost use Rattle.spec_binding.specs.Books.{IsBook, is_synced as is_synced_at, is_apart as is_apart_at};
@@ -9,25 +9,27 @@ ghost use Rattle.spec_binding.specs.Books.{is_lone as is_lone_at, is_promised, e
 ghost use Rattle.spec_binding.specs.Books.{founded_book};
 ghost use Rattle.spec_binding.specs.Ledgers.{bare_ledger};
 ghost use Rattle.spec_binding.specs.WellFormed.{Fits};
-ghost use Rattle.spec_binding.specs.Rows.{noted_by, after, answered};
+ghost use Rattle.spec_binding.specs.Rows.{noted_by, after, answered, behind, changed, row as row_with};
 ghost use Rattle.bind_core.specs.Changes.{adds, IsSteady, LivesOn};
 ghost use Rattle.bindings.specs.Ports.{AreBounds, key_count};
 ghost use Rattle.nat_types.specs.declared.gateways.GatewayId.TheVariants.{Zero};
 ghost use Rattle.spec_binding.specs.Resets.{restart_batch};
-ghost use Rattle.bind_core.specs.Cores.{book_of, core_after, ledger_of, owned_of};
+ghost use Rattle.bind_core.specs.Cores.{book_of, core_after, core_behind, ledger_of, owned_of, rules_of};
 ghost use Rattle.bind_core.specs.Memory.{LacksCore};
 ghost use Rattle.slots.specs.Memory.{LacksEndpoints};
 ghost use Rattle.memory.specs.Memory.{WasRefused};
 
-use crate::deeds::{Bounds, change_table, count_keys, is_wanting, own_range, recall_port, tell};
+use crate::deeds::{
+    Bounds, change_table, count_keys, is_wanting, note, own_range, recall_port, tell,
+};
 use crate::rows::{is_lone, is_paired, is_synced};
 use addresses::Port;
-use bindings::{Hashers, PortBounds, Table};
+use bindings::{Hashers, Table};
 use link::Link;
 use memory::with_room;
 use nat_types::{Endpoint, GatewayId, Key, Note};
 use resync::{Cursor, Loading, steady_batch_law};
-use spec_binding::{Stage, Transition, books_begin};
+use spec_binding::{Change, Rules, Stage, Transition, books_begin};
 use std::alloc::{AllocError, Global};
 use std::marker::Model;
 
@@ -37,12 +39,7 @@ pub struct Core {
     pub(crate) id: GatewayId,
     pub(crate) bounds: Bounds,
     pub(crate) table: Table,
-    /// The most pairs that one inside address may have; None where there is no limit.
-    pub(crate) limit: Option<u16>,
-    /// After how many centiseconds without an answer of the peer the gateway is apart; 0 is never.
-    pub(crate) alone: u16,
-    /// Whether what comes inward sets the last use of a pair.
-    pub(crate) inward_refresh: bool,
+    pub(crate) rules: Rules,
     pub(crate) stage: Stage,
     /// The progress of loading the table from the peer's batch.
     pub(crate) loading: Loading,
@@ -100,8 +97,8 @@ impl Core {
         ensures { result ≡ is_apart_at (book_of self.now) link.now now }
     {
         is_paired(self.stage)
-            && self.alone != 0
-            && u64::from(self.alone) <= now.saturating_sub(link.answered())
+            && self.rules.alone != 0
+            && u64::from(self.rules.alone) <= now.saturating_sub(link.answered())
     }
 
     /// Returns the gateway's table.
@@ -145,6 +142,22 @@ impl Core {
 
     // ---- what a row does
 
+    /// Makes a change of the core.
+    fn change_by(&mut self, now: u64, change: Change)
+        requires fits { Fits (book_of self.old) change }
+        requires kept { IsBook (changed change (book_of self.old)) }
+        requires ready { adds change ≡ true → 0 < self.old.table.ready }
+        requires steady { is_promised (book_of self.old) ≡ true → IsSteady (book_of self.old)
+            change }
+        ensures core { self.new ≡ core_after now self.old (row_with change None None) }
+        ensures pasts { LivesOn now change self.old.table self.new.table }
+    {
+        steady_batch_law();
+        self.wants = is_wanting(&change, self.wants);
+        change_table(&mut self.table, self.bounds, change, now);
+    }
+
+    /// Carries a row out.
     pub(crate) fn perform(
         &mut self,
         link: &mut Link,
@@ -167,104 +180,114 @@ impl Core {
         ensures len { vec_len notes.new ≤ vec_len notes.old + 1 }
         ensures capacity { vec_capacity notes.new ≡ vec_capacity notes.old }
     {
-        steady_batch_law();
-        change_table(&mut self.table, self.bounds, row.change, now);
-        self.wants = is_wanting(row.change, self.wants);
+        self.change_by(now, row.change);
         tell(link, notes, self.id, now, row);
+    }
+
+    /// Carries a row out, and behind it asks the peer for ports, where the row's change is a cause to
+    /// ask for ports ahead and the gateway is short after it.
+    pub(crate) fn carry_out(
+        &mut self,
+        link: &mut Link,
+        notes: &mut Vec<Note>,
+        now: u64,
+        row: Transition,
+    )
+        requires fits { Fits (book_of self.old) row.change }
+        requires kept { IsBook (after (book_of self.old) row) }
+        requires formed { IfSome row.answer IsWellFormedRecord }
+        requires ready { adds row.change ≡ true → 0 < self.old.table.ready }
+        requires steady { is_promised (book_of self.old) ≡ true → IsSteady (book_of self.old)
+            row.change }
+        requires places { IsTrue (is_some row.answer) → 0 < free_places link.old }
+        requires reserved { vec_len notes.old < vec_capacity notes.old }
+        ensures core { self.new ≡ core_behind now self.old link.old row }
+        ensures link { link.new ≡ answered (answered link.old row.answer)
+            (behind (book_of self.old) link.old row).answer }
+        ensures pasts { LivesOn now row.change self.old.table self.new.table }
+        ensures notes { notes.new.items ≡ notes.old.items ++ noted_by self.old.id now row.what }
+        ensures len { vec_len notes.new ≤ vec_len notes.old + 1 }
+        ensures capacity { vec_capacity notes.new ≡ vec_capacity notes.old }
+    {
+        let is_cause = self.is_cause(row.change);
+        self.change_by(now, row.change);
+        self.answer(link, is_cause, row.change, row.answer);
+        note(notes, self.id, now, true, row.what);
     }
 
     // ---- beginnings
 
-    /// Returns the core of a gateway without a table. `zero` and `one` are the ranges of gateway 0
-    /// and gateway 1; `limit` is the most pairs that one inside address may have, None for any
-    /// number; after `alone` centiseconds without an answer of the peer it is apart, 0 is never;
-    /// `inward_refresh` says whether what comes inward sets the last use of a pair (RFC 4787,
-    /// REQ-6). Takes all the memory of the core but that of `ready` and `owned`; fails where there
-    /// isn't enough.
+    /// Returns the core of a gateway without a table. Takes all the memory of the core but that of
+    /// `ready` and `owned`; fails where there isn't enough.
     pub fn unsynced(
         alloc: Global,
         id: GatewayId,
-        zero: PortBounds,
-        one: PortBounds,
-        limit: Option<u16>,
-        alone: u16,
-        inward_refresh: bool,
+        bounds: Bounds,
+        rules: Rules,
         hashers: Hashers,
     ) -> Result<Core, AllocError>
-        requires zero { AreBounds zero }
-        requires one { AreBounds one }
+        requires zero { AreBounds bounds.zero }
+        requires one { AreBounds bounds.one }
         ensures ledger { IfOk result (λ c. ledger_of c
-            ≡ bare_ledger (empty_book id zero one limit alone) inward_refresh hashers) }
+            ≡ bare_ledger (empty_book id bounds.zero bounds.one rules) rules.inward_refresh
+            hashers) }
         ensures hashers { IfOk result (λ c. c.table.hashers ≡ hashers) }
-        ensures refused { OnErr result (LacksCore zero one) }
+        ensures refused { OnErr result (LacksCore bounds.zero bounds.one) }
     {
         books_begin();
-        recall_port(zero.highest);
-        recall_port(one.highest);
-        let idle = with_room(alloc, count_keys(zero, one))?;
-        let table = Table::new(alloc, zero, one, hashers)?;
+        recall_port(bounds.zero.highest);
+        recall_port(bounds.one.highest);
+        let idle = with_room(alloc, count_keys(bounds.zero, bounds.one))?;
+        let table = Table::new(alloc, bounds.zero, bounds.one, hashers)?;
         Ok(Core {
             id,
-            bounds: Bounds { zero, one },
+            bounds,
             table,
-            limit,
-            alone,
-            inward_refresh,
+            rules,
             stage: Stage::Unsynced,
-            loading: Loading::new(zero, one),
+            loading: Loading::new(bounds.zero, bounds.one),
             wants: false,
             cursor: Cursor::Over,
             idle,
         })
     }
 
-    /// Returns the core of gateway 0, founded alone, which owns the ports of its range. The
-    /// limit, `alone`, `inward_refresh` and the Err are those of `unsynced`.
+    /// Returns the core of gateway 0, founded alone, which owns the ports of its range. The Err is
+    /// that of `unsynced`.
     pub fn founder(
         alloc: Global,
-        zero: PortBounds,
-        one: PortBounds,
-        limit: Option<u16>,
-        alone: u16,
-        inward_refresh: bool,
+        bounds: Bounds,
+        rules: Rules,
         hashers: Hashers,
     ) -> Result<Core, AllocError>
-        requires zero { AreBounds zero }
-        requires one { AreBounds one }
+        requires zero { AreBounds bounds.zero }
+        requires one { AreBounds bounds.one }
         ensures ledger { IfOk result (λ c. ledger_of c
-            ≡ bare_ledger (founded_book zero one limit alone) inward_refresh hashers) }
+            ≡ bare_ledger (founded_book bounds.zero bounds.one rules) rules.inward_refresh
+            hashers) }
         ensures hashers { IfOk result (λ c. c.table.hashers ≡ hashers) }
-        ensures refused { OnErr result (LacksCore zero one) }
+        ensures refused { OnErr result (LacksCore bounds.zero bounds.one) }
     {
-        let mut core = Core::unsynced(
-            alloc,
-            GatewayId::Zero,
-            zero,
-            one,
-            limit,
-            alone,
-            inward_refresh,
-            hashers,
-        )?;
-        core.found(zero, one);
+        let mut core = Core::unsynced(alloc, GatewayId::Zero, bounds, rules, hashers)?;
+        core.found(bounds);
         Ok(core)
     }
 
-    fn found(&mut self, zero: PortBounds, one: PortBounds)
-        requires zero { AreBounds zero }
-        requires one { AreBounds one }
+    fn found(&mut self, bounds: Bounds)
+        requires zero { AreBounds bounds.zero }
+        requires one { AreBounds bounds.one }
         requires empty { book_of self.old
-            ≡ empty_book Zero zero one self.old.limit self.old.alone }
+            ≡ empty_book Zero bounds.zero bounds.one (rules_of self.old) }
         ensures book { book_of self.new
-            ≡ founded_book zero one self.old.limit self.old.alone }
+            ≡ founded_book bounds.zero bounds.one (rules_of self.old) }
         ensures lives { self.new.table.lives ≡ self.old.table.lives }
         ensures refresh { self.new.inward_refresh ≡ self.old.inward_refresh }
         ensures hashers { self.new.table.hashers ≡ self.old.table.hashers }
     {
         books_begin();
-        recall_port(zero.highest);
-        recall_port(one.highest);
-        own_range(&mut self.table, zero);
+        recall_port(bounds.zero.highest);
+        recall_port(bounds.one.highest);
+        own_range(&mut self.table, bounds.zero);
         self.stage = Stage::Lone;
     }
 }

@@ -6,7 +6,7 @@ ghost use Rattle.nat_types.specs.declared.pairs.Key.{Key as OutsidePort};
 ghost use Rattle.activity.specs.Lives.{History, came, with_packet, life_begun, life_carried};
 ghost use Rattle.bindings.specs.Entries.{is_pair, is_taken, rank_of, slot_of, entry_in};
 ghost use Rattle.bindings.specs.Lists.{place_in, put_in, with_state};
-ghost use Rattle.std.specs.List.{insert};
+ghost use Rattle.std.specs.List.{insert, list_any};
 ghost use Rattle.bindings.specs.Lives.{KeepsOthers, lives_with, use_counts_at};
 ghost use Rattle.bindings.specs.Ports.{in_bounds, in_either, is_vacant, key_count, ports_in};
 ghost use Rattle.bindings.specs.Runs.{without_port};
@@ -17,6 +17,7 @@ ghost use Rattle.spec_binding.specs.declared.changes.Change.TheVariants.{Renew, 
 ghost use Rattle.spec_binding.specs.Books.{ports_of};
 ghost use Rattle.spec_binding.specs.WellFormed.{Fits, GivesWay, HasOwnPair, MayGive};
 ghost use Rattle.spec_binding.specs.Rows.{answered, changed, noted_by, noted_with, is_gained as is_gained_in};
+ghost use Rattle.spec_binding.specs.Rows.{is_made as is_made_in};
 ghost use Rattle.spec_binding.specs.Rows.{is_full, with_gained, without_ports, numbers_of};
 ghost use Rattle.spec_binding.specs.Ledgers.{is_held, lives_after};
 ghost use Rattle.spec_binding.specs.Ledgers.{is_reached as is_reached_at};
@@ -167,7 +168,7 @@ pub(crate) fn count_keys(zero: PortBounds, one: PortBounds) -> usize
 
 /// The port ranges of gateway 0 and of gateway 1.
 #[derive(Clone, Copy)]
-pub(crate) struct Bounds {
+pub struct Bounds {
     pub zero: PortBounds,
     pub one: PortBounds,
 }
@@ -193,6 +194,7 @@ pub(crate) fn lies_in_either(bounds: Bounds, port: Port) -> bool
     lies_within(bounds.zero, port) || lies_within(bounds.one, port)
 }
 
+/// Whether a granted port becomes owned, if ports are gained.
 fn is_gained(table: &Table, bounds: Bounds, port: Port) -> bool
     requires { IsBetween table.now bounds }
     ensures { result ≡ is_gained_in (table_book table.now) port.0 }
@@ -222,6 +224,29 @@ fn gain_ports(table: &mut Table, bounds: Bounds, granted: Granted)
     }
 }
 
+/// Whether any granted port becomes owned, if ports are gained.
+pub(crate) fn gains_any(table: &Table, bounds: Bounds, granted: Granted) -> bool
+    requires { IsBetween table.now bounds }
+    ensures { result ≡ list_any (is_gained_in (table_book table.now)) (numbers_of granted) }
+{
+    for port in granted.ports() {
+        if is_gained(table, bounds, *port) {
+            return true;
+        }
+    }
+    false
+}
+
+/// Whether a pair in this state is one that the gateway has just made.
+pub(crate) fn is_made(state: EntryState) -> bool
+    ensures { result ≡ is_made_in state }
+{
+    match state {
+        EntryState::Pending { .. } | EntryState::Live | EntryState::Alone => true,
+        EntryState::Doomed | EntryState::Closing { .. } | EntryState::Held => false,
+    }
+}
+
 /// Carries a change out on the table. Whether a Want is open is no part of the table.
 pub(crate) fn change_table(table: &mut Table, bounds: Bounds, change: Change, now: u64)
     requires bounds { IsBetween table.old bounds }
@@ -245,8 +270,8 @@ pub(crate) fn change_table(table: &mut Table, bounds: Bounds, change: Change, no
 }
 
 /// Whether a Want is open after a change.
-pub(crate) fn is_wanting(change: Change, wants: bool) -> bool
-    ensures { result ≡ wants_after change wants }
+pub(crate) fn is_wanting(change: &Change, wants: bool) -> bool
+    ensures { result ≡ wants_after change.now wants }
 {
     match change {
         Change::Want => true,
@@ -255,7 +280,7 @@ pub(crate) fn is_wanting(change: Change, wants: bool) -> bool
     }
 }
 
-fn push_answer(link: &mut Link, answer: Option<Record>)
+pub(crate) fn push_answer(link: &mut Link, answer: Option<Record>)
     requires places { IsTrue (is_some answer) → 0 < free_places link.old }
     requires formed { IfSome answer IsWellFormedRecord }
     ensures { link.new ≡ answered link.old answer }

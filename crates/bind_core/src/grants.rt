@@ -31,21 +31,20 @@ fn spare_between(table: &Table, lowest: Port, end: usize) -> Option<Port>
     if lowest.0 <= port.0 { Some(port) } else { None }
 }
 
-/// Returns how many ports from `lowest` on and below `end` are spare, but at most 32: more don't
-/// change the share.
-fn count_spare(table: &Table, lowest: Port, end: usize) -> usize
+/// Returns how many ports from `lowest` on and below `end` are spare, but at most `most`.
+fn count_spare(table: &Table, lowest: Port, end: usize, most: usize) -> usize
     requires { end ≤ 65536 }
-    ensures { result ≡ min 32 (length (spares_between table.now.entries table.now.owned lowest.0
+    ensures { result ≡ min most (length (spares_between table.now.entries table.now.owned lowest.0
         end)) }
 {
     let mut below = end;
-    for count in 0..32 {
+    for count in 0..most {
         match spare_between(table, lowest, below) {
             Some(port) => below = usize::from(port.0),
             None => return count,
         }
     }
-    32
+    most
 }
 
 /// Returns the greatest spare ports from `lowest` on and below `end`, at most `most`.
@@ -71,16 +70,19 @@ fn greatest(table: &Table, lowest: Port, end: usize, most: usize) -> Granted
 }
 
 /// Returns the ports to grant of those from `lowest` to `highest`: the greatest spare ones, at most
-/// 16, and at most half of them.
-pub(crate) fn choose_granted(table: &Table, lowest: Port, highest: Port) -> Granted
+/// 16, and at most half of those beyond the number that the gateway keeps. More than 32 beyond it
+/// don't change the choice, so no more are counted.
+pub(crate) fn choose_granted(table: &Table, lowest: Port, highest: Port, kept: u16) -> Granted
     requires low { 0 < lowest.0 }
     requires order { lowest.0 ≤ highest.0 }
     ensures { let spares = filter (is_spare table.now.entries table.now.owned)
         (falling highest.0 (highest.0 + 1 - lowest.0))
-        in result ≡ as_ports (take (share_of (length spares)) spares) }
+        in result ≡ as_ports (take (share_of (length spares - kept)) spares) }
 {
     let end = usize::from(highest.0) + 1;
-    let most = share(count_spare(table, lowest, end));
+    let kept = usize::from(kept);
+    let spare = count_spare(table, lowest, end, kept + 32);
+    let most = share(spare.saturating_sub(kept));
     greatest(table, lowest, end, most)
 }
 

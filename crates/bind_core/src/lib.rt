@@ -2,6 +2,7 @@
 //! peer, and ports that move.
 #![tactic(auto)]
 
+mod ahead;
 mod batches;
 mod cores;
 mod deeds;
@@ -17,4 +18,5 @@ mod wishes;
 
 pub use bindings::Hashers;
 pub use cores::Core;
-pub use spec_binding::Want;
+pub use deeds::Bounds;
+pub use spec_binding::{Choice, Rules, Want};

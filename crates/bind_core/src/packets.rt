@@ -95,7 +95,7 @@ impl Core {
             remote,
             way,
             flags,
-            inward_refresh: self.inward_refresh,
+            inward_refresh: self.rules.inward_refresh,
             at: now,
         };
         let counts = carry_by(&mut self.table, row.what.is_some(), key, packet);

@@ -9,11 +9,11 @@ ghost use Rattle.spec_binding.specs.Books.{is_synced as is_synced_at, is_lone as
 ghost use Rattle.spec_binding.specs.Rows.{is_takeable as is_takeable_in, proposed_row, install_row};
 ghost use Rattle.spec_binding.specs.Rows.{told_row, grant_row, want_row, synced_row, noted_by};
 ghost use Rattle.spec_binding.specs.Rows.{answered, row_of, unsynced_after, unsynced_what};
-ghost use Rattle.spec_binding.specs.Rows.{taken_answer, taken_ended, taken_what};
+ghost use Rattle.spec_binding.specs.Rows.{behind, taken_answer, taken_behind, taken_ended, taken_what};
 ghost use Rattle.bind_core.specs.Changes.{LivesOn};
 ghost use Rattle.resync.specs.Loading.{loaded};
-ghost use Rattle.spec_binding.specs.Ledgers.{lives_loaded, rests_for, taken_ledger};
-ghost use Rattle.bind_core.specs.Cores.{book_of, core_after, ledger_of};
+ghost use Rattle.spec_binding.specs.Ledgers.{ledger_after, lives_loaded, rests_for, taken_ledger};
+ghost use Rattle.bind_core.specs.Cores.{book_of, core_behind, ledger_of};
 ghost use Rattle.spec_pair.specs.Box.{Letter};
 
 use crate::Core;
@@ -94,7 +94,7 @@ impl Core {
         let highest = higher(self.bounds.zero.highest, self.bounds.one.highest);
         let lowest = lower(self.bounds.zero.lowest, self.bounds.one.lowest);
         self.recall();
-        let granted = choose_granted(&self.table, lowest, highest);
+        let granted = choose_granted(&self.table, lowest, highest, self.rules.ahead);
         row(Change::Give(granted), Some(Record::Grant(granted)), None)
     }
 
@@ -162,10 +162,11 @@ impl Core {
             in result ≡ row.ended }
         ensures core { let rests = rests_for now (ledger_of self.old) entry in
             let row = row_of (book_of self.old) rests entry
-            in self.new ≡ core_after now self.old row }
+            in self.new ≡ core_behind now self.old link.old row }
         ensures link { let rests = rests_for now (ledger_of self.old) entry in
             let row = row_of (book_of self.old) rests entry
-            in link.new ≡ answered link.old row.answer }
+            in link.new ≡ answered (answered link.old row.answer)
+            (behind (book_of self.old) link.old row).answer }
         ensures pasts { let rests = rests_for now (ledger_of self.old) entry in
             let row = row_of (book_of self.old) rests entry
             in LivesOn now row.change self.old.table self.new.table }
@@ -182,7 +183,7 @@ impl Core {
         books_keep();
         let row = self.row_for(entry, now);
         let ended = row.ended;
-        self.perform(link, notes, now, row);
+        self.carry_out(link, notes, now, row);
         ended
     }
 
@@ -230,10 +231,14 @@ impl Core {
         requires reserved { vec_len notes.old < vec_capacity notes.old }
         ensures ended { result
             ≡ taken_ended (book_of self.old) (rests_for now (ledger_of self.old) entry) entry }
-        ensures ledger { ledger_of self.new ≡ taken_ledger now (ledger_of self.old) entry }
+        // Behind a Grant that brought a port, ports may be asked for again.
+        ensures ledger { let rests = rests_for now (ledger_of self.old) entry in
+            let more = taken_behind (book_of self.old) link.old rests entry in ledger_of self.new
+            ≡ ledger_after now more.change (taken_ledger now (ledger_of self.old) entry) }
         ensures ready { self.old.table.ready ≤ self.new.table.ready + 1 }
         ensures link { let rests = rests_for now (ledger_of self.old) entry
-            in link.new ≡ answered link.old (taken_answer (book_of self.old) rests entry) }
+            in link.new ≡ answered (answered link.old (taken_answer (book_of self.old) rests entry))
+            (taken_behind (book_of self.old) link.old rests entry).answer }
         ensures pasts { is_synced_at self.old.stage ≡ true
             → let rests = rests_for now (ledger_of self.old) entry in
             LivesOn now (row_of (book_of self.old) rests entry).change self.old.table

@@ -6,7 +6,7 @@ ghost use Rattle.activity.specs.Lives.{life_renewed};
 ghost use Rattle.link.specs.Link.{free_places, occupied, Link as End, Agrees};
 ghost use Rattle.nat_types.specs.declared.records.Record.{Record as Rec};
 ghost use Rattle.spec_binding.specs.Machine.{Works};
-ghost use Rattle.spec_binding.specs.Books.{IsBook, is_synced as is_synced_at, empty_book};
+ghost use Rattle.spec_binding.specs.Books.{IsBook, is_synced as is_synced_at, emptied};
 ghost use Rattle.spec_binding.specs.Resets.{back_in, put_lone as put_lone_book, retaken};
 ghost use Rattle.spec_binding.specs.Resets.{restart_batch, restart_link, restart_notes};
 ghost use Rattle.bindings.specs.Revivals.{lives_of_pairs, comes_back};
@@ -121,10 +121,8 @@ impl Core {
 
     /// Empties the table; the gateway isn't synced then, and has loaded nothing.
     fn forget(&mut self)
-        requires kept { let b = book_of self.old
-            in IsBook (empty_book b.id b.zero b.one b.limit b.alone) }
-        ensures book { let b = book_of self.old
-            in book_of self.new ≡ empty_book b.id b.zero b.one b.limit b.alone }
+        requires kept { IsBook (emptied (book_of self.old)) }
+        ensures book { book_of self.new ≡ emptied (book_of self.old) }
         ensures lives { self.new.table.lives ≡ [] }
         ensures refresh { self.new.inward_refresh ≡ self.old.inward_refresh }
         ensures hashers { self.new.table.hashers ≡ self.old.table.hashers }

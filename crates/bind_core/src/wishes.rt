@@ -1,10 +1,12 @@
 //! The wishes of packets: what a packet of an endpoint has to do, and what comes of it.
-ghost use Rattle.std.specs.Prelude.{◌≡◌, ◌+◌, ◌<◌, ◌≤◌, ◌++◌, ℕ, [], vec_len, vec_capacity, Some, List};
+ghost use Rattle.std.specs.Prelude.{◌≡◌, ◌+◌, ◌<◌, ◌≤◌, ◌++◌, ℕ, [], vec_len, vec_capacity, IfSome, Some, is_some, List};
 ghost use Rattle.nat_types.specs.declared.records.Record.{Record as Rec};
 ghost use Rattle.spec_binding.specs.Machine.{Stands, Works};
 ghost use Rattle.spec_binding.specs.Books.{is_apart as is_apart_at};
-ghost use Rattle.spec_binding.specs.Rows.{none_row, new_wish, is_at_limit as is_at_limit_in, wish_of};
-ghost use Rattle.spec_binding.specs.Rows.{noted_by, answered, is_full, unknown_wish};
+ghost use Rattle.spec_binding.specs.Rows.{behind, new_wish, is_at_limit as is_at_limit_in, wish_of};
+ghost use Rattle.spec_binding.specs.Rows.{noted_by, answered, is_full, port_for, unknown_wish};
+ghost use Rattle.spec_binding.specs.declared.changes.Want.TheVariants.{Port as PortOf};
+ghost use Rattle.bind_core.specs.Looks.{given_answer, offered_answer};
 ghost use Rattle.bind_core.specs.Changes.{LivesOn};
 ghost use Rattle.bind_core.specs.Cores.{book_of, ledger_of};
 ghost use Rattle.spec_binding.specs.WellFormed.{IsWellFormedEndpoint};
@@ -12,23 +14,58 @@ ghost use Rattle.spec_binding.specs.Ledgers.{ledger_after};
 
 use crate::Core;
 use crate::deeds::is_link_full;
-use crate::rows::{add_row, is_lone, is_synced, known, paired, quiet, row, wish};
+use crate::rows::{add_row, is_lone, is_synced, known, paired, quiet, wish};
 use addresses::{Ip, Port};
+use bindings::numbers;
 use link::Link;
-use nat_types::{Endpoint, EntryState, Key, Note, NoteKind, Pair, Record};
-use spec_binding::{
-    Change, PortRequest, Transition, Want, answers_fit, books_keep, rows_fit, wish_works,
-};
+use nat_types::{Endpoint, EntryState, Key, Note, NoteKind, Pair};
+use spec_binding::{Choice, PortRequest, Want, answers_fit, books_keep, rows_fit, wish_works};
+
+/// Returns the answer to a packet of an endpoint whose pair would be made at once, on this port or on
+/// none.
+fn given(port: Option<Port>) -> Want
+    ensures { result ≡ given_answer port }
+{
+    match port {
+        Some(port) => Want::Port(port),
+        None => Want::NoPort,
+    }
+}
+
+/// Returns the answer to a packet of an endpoint whose pair would be proposed, where a port is free
+/// for it.
+fn offered(has_port: bool, full: bool) -> Want
+    ensures { result ≡ offered_answer has_port full }
+{
+    if !has_port {
+        return Want::NoPort;
+    }
+    if full { Want::NotNow } else { Want::Wait }
+}
 
 impl Core {
-    fn no_port(&self, full: bool) -> Transition
-        ensures { result ≡ none_row (book_of self.now) full }
+    /// Returns the port that an endpoint without a pair gets, or None where none is free: the lowest
+    /// one, or the one that is drawn by the endpoint's numbers.
+    fn port_for(&self, endpoint: Endpoint) -> Option<Port>
+        ensures { result ≡ port_for (book_of self.now) endpoint }
     {
-        if !is_lone(self.stage) && !self.wants && !full {
-            row(Change::Want, Some(Record::Want), None)
-        } else {
-            quiet()
+        let parity = endpoint.port.parity();
+        match &self.rules.choice {
+            Choice::Lowest => self.table.free_like(endpoint.protocol, parity),
+            Choice::Drawn(key) => {
+                let (x, y) = numbers(key, endpoint);
+                self.table.drawn(endpoint.protocol, parity, x, y)
+            }
         }
+    }
+
+    /// Whether a port is free for an endpoint without a pair. No port is drawn.
+    fn has_port(&self, endpoint: Endpoint) -> bool
+        ensures { result ≡ is_some (port_for (book_of self.now) endpoint) }
+    {
+        self.table
+            .free_like(endpoint.protocol, endpoint.port.parity())
+            .is_some()
     }
 
     fn new_pair(&self, apart: bool, full: bool, pair: Pair) -> PortRequest
@@ -53,7 +90,7 @@ impl Core {
         ensures { result ≡ new_wish (book_of self.now) apart full endpoint port }
     {
         match port {
-            None => wish(Want::NoPort, self.no_port(full)),
+            None => wish(Want::NoPort, self.wanting(full)),
             Some(port) => {
                 let key = Key {
                     protocol: endpoint.protocol,
@@ -69,26 +106,44 @@ impl Core {
     fn is_at_limit(&self, address: Ip) -> bool
         ensures { result ≡ is_at_limit_in (book_of self.now) address }
     {
-        match self.limit {
+        match self.rules.limit {
             None => false,
             Some(limit) => u32::from(limit) <= self.table.pairs_of(address),
         }
     }
 
-    /// Returns the answer and the row for an endpoint without a pair.
-    fn unknown_wish_for(&self, apart: bool, full: bool, endpoint: Endpoint) -> PortRequest
+    /// Returns the answer and the row for an endpoint without a pair. `looked` is the port that
+    /// `look` answered, if it was one: the port isn't chosen again then.
+    fn unknown_wish_for(
+        &self,
+        apart: bool,
+        full: bool,
+        endpoint: Endpoint,
+        looked: Option<Port>,
+    ) -> PortRequest
+        requires { IfSome looked (λ port. (unknown_wish (book_of self.now) apart full
+            endpoint).answer ≡ PortOf port) }
         ensures { result ≡ unknown_wish (book_of self.now) apart full endpoint }
     {
+        if looked.is_some() {
+            return self.new_wish_for(apart, full, endpoint, looked);
+        }
         if self.is_at_limit(endpoint.address) {
             return wish(Want::HostLimit, quiet());
         }
-        let parity = endpoint.port.parity();
-        let port = self.table.free_like(endpoint.protocol, parity);
-        self.new_wish_for(apart, full, endpoint, port)
+        self.new_wish_for(apart, full, endpoint, self.port_for(endpoint))
     }
 
     #[inline(always)]
-    fn wish_for(&self, apart: bool, full: bool, endpoint: Endpoint) -> PortRequest
+    fn wish_for(
+        &self,
+        apart: bool,
+        full: bool,
+        endpoint: Endpoint,
+        looked: Option<Port>,
+    ) -> PortRequest
+        requires { IfSome looked (λ port. (wish_of (book_of self.now) apart full endpoint).answer
+            ≡ PortOf port) }
         ensures { result ≡ wish_of (book_of self.now) apart full endpoint }
     {
         if !is_synced(self.stage) {
@@ -96,7 +151,7 @@ impl Core {
         }
         match self.table.port_of(endpoint) {
             Some(entry) => known(entry.pair, entry.state),
-            None => self.unknown_wish_for(apart, full, endpoint),
+            None => self.unknown_wish_for(apart, full, endpoint, looked),
         }
     }
 
@@ -115,38 +170,51 @@ impl Core {
         }
     }
 
-    /// Returns what `want` would answer for an endpoint without a pair.
+    /// Returns what `want` would answer for an endpoint without a pair. The port is chosen only where
+    /// the pair would be made at once.
     #[cold]
     fn look_for_new(&self, link: &Link, endpoint: Endpoint, now: u64) -> Want
         ensures { let apart = is_apart_at (book_of self.now) link.now now in
             result ≡ (unknown_wish (book_of self.now) apart (is_full link.now) endpoint).answer }
     {
-        let apart = self.is_apart(link, now);
-        self.unknown_wish_for(apart, is_link_full(link), endpoint)
-            .answer
+        if self.is_at_limit(endpoint.address) {
+            return Want::HostLimit;
+        }
+        if is_lone(self.stage) || self.is_apart(link, now) {
+            return given(self.port_for(endpoint));
+        }
+        offered(self.has_port(endpoint), is_link_full(link))
     }
 
     /// Returns what a packet of an endpoint has to do: go out by its pair's port, wait, or be
     /// dropped for now. Where the endpoint has no pair, a new one may be made or proposed, or ports
-    /// asked for of the peer. A gateway that is apart makes it alone.
+    /// asked for of the peer. A gateway that is apart makes it alone. Behind a pair that is made,
+    /// ports are asked for ahead. `looked` is the port that `look` answers for the endpoint now: it
+    /// isn't chosen again then. It may be left out.
     pub fn want(
         &mut self,
         endpoint: Endpoint,
+        looked: Option<Port>,
         link: &mut Link,
         now: u64,
         notes: &mut Vec<Note>,
     ) -> Want
         requires formed { IsWellFormedEndpoint endpoint }
+        requires looked { IfSome looked (λ port. let apart = is_apart_at (book_of self.old) link.old
+            now in (wish_of (book_of self.old) apart (is_full link.old) endpoint).answer
+            ≡ PortOf port) }
         requires ready { 0 < self.old.table.ready }
         requires reserved { vec_len notes.old < vec_capacity notes.old }
         ensures answer { let apart = is_apart_at (book_of self.old) link.old now
             in result ≡ (wish_of (book_of self.old) apart (is_full link.old) endpoint).answer }
         ensures link { let apart = is_apart_at (book_of self.old) link.old now in
             let row = (wish_of (book_of self.old) apart (is_full link.old) endpoint).row
-            in link.new ≡ answered link.old row.answer }
+            in link.new ≡ answered (answered link.old row.answer)
+            (behind (book_of self.old) link.old row).answer }
         ensures ledger { let apart = is_apart_at (book_of self.old) link.old now in
             let row = (wish_of (book_of self.old) apart (is_full link.old) endpoint).row
-            in ledger_of self.new ≡ ledger_after now row.change (ledger_of self.old) }
+            in ledger_of self.new ≡ ledger_after now (behind (book_of self.old) link.old row).change
+            (ledger_after now row.change (ledger_of self.old)) }
         ensures ready { self.old.table.ready ≤ self.new.table.ready + 1 }
         ensures pasts { let apart = is_apart_at (book_of self.old) link.old now in
             let row = (wish_of (book_of self.old) apart (is_full link.old) endpoint).row
@@ -169,9 +237,9 @@ impl Core {
         wish_works();
         let full = is_link_full(link);
         let apart = self.is_apart(link, now);
-        let wish = self.wish_for(apart, full, endpoint);
+        let wish = self.wish_for(apart, full, endpoint, looked);
         let answer = wish.answer;
-        self.perform(link, notes, now, wish.row);
+        self.carry_out(link, notes, now, wish.row);
         answer
     }
 }

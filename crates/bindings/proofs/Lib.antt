@@ -3,6 +3,7 @@ mod Ranked
 mod Slots
 mod Edits
 mod Members
+mod Opened
 mod Orders
 mod Places
 mod Turned

@@ -13,13 +13,14 @@ use Rattle.bindings.specs.declared.ports.Ports.{Ports}
 use Rattle.port_range.specs.Ports.{chosen_open}
 use Rattle.port_range.specs.Searches.{IsLastBelow}
 use Rattle.port_range.specs.Words.{is_set}
-use Rattle.port_range.proofs.Offered.{chosen-same, is_set-and}
+use Rattle.port_range.specs.Drawn.{drawn_port as drawn_of}
+use Rattle.port_range.proofs.Offered.{chosen-same, drawn-same, is_set-and}
 use Rattle.addresses.specs.Transport.{same_protocol}
 use Rattle.addresses.proofs.Offered.{protocol-eq, protocol-self}
 use Rattle.bindings.specs.declared.entries.Entry.{Entry}
 use Rattle.bindings.specs.declared.entries.PortBounds.{PortBounds}
 use Rattle.bindings.specs.Entries.{slot_of, set_at}
-use Rattle.bindings.specs.Ports.{range_of, is_free_at, is_free_in, is_open_in, is_spare, is_spare_in, lowest_of, highest_of, chosen_port, IsLike, AreAlike, SameEnds, SameBounds, SameOwned, AreFree, key_of}
+use Rattle.bindings.specs.Ports.{range_of, is_free_at, is_free_in, is_open_in, is_spare, is_spare_in, lowest_of, highest_of, chosen_port, drawn_port, IsLike, AreAlike, SameEnds, SameBounds, SameOwned, AreFree, key_of}
 
 -- a test of ports is replaced at one port
 abbrev pub IsSetAt : (ℕ → Bool) → (ℕ → Bool) → ℕ → Bool → Type 0
@@ -154,6 +155,16 @@ chosen-is es zero one ports x parity free alike is =
   where
     like : IsLike ports.tcp (lowest_of zero one) (highest_of zero one) (range_of ports x)
     like = like-of (lowest_of zero one) (highest_of zero one) ports alike x
+
+-- the highest port of a range is a port
+pub port-high : (low high : ℕ) (ports : Ports) (x : Protocol) → AreAlike low high ports → IsRange (range_of ports x) → high < 65536
+port-high low high ports x alike is = (let same = (like-of low high ports alike x).high in let top = is.high in omega (arith, same, top))
+
+-- the port that is drawn of a protocol's range is that of the owned ports and the entries
+pub drawn-is : (low high : ℕ) (es : List Entry) (ports : Ports) (x : Protocol) (parity : Parity) (m n : ℕ) → AreFree low high es ports → AreAlike low high ports → IsRange (range_of ports x) → drawn_of (range_of ports x) parity m n ≡ drawn_port es ports.tcp.owned x parity m n
+drawn-is low high es ports x parity m n free alike is =
+    drawn-same (is_available (range_of ports x)) (is_open_in es ports.tcp.owned x) (is_owned (range_of ports x)) (is_owned ports.tcp) parity m n
+    (available-is low high es ports x free alike is) (like-of low high ports alike x).owned
 
 -- the ranges stay alike
 pub alike-same : (low high : ℕ) (old new : Ports) → AreAlike low high old → SameBounds old new → SameOwned old new → AreAlike low high new

@@ -8,3 +8,4 @@ pub mod Runs
 pub mod Table
 pub mod Stores
 pub mod Dues
+pub mod Numbers

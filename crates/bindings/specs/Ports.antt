@@ -1,10 +1,12 @@
 -- The ports of a table: which are free, which are owned, and which of them is chosen.
 use Rattle.std.specs.Prelude.{◌≡◌, ℕ, ◌+◌, ◌-◌, ◌*◌, ◌≤◌, Bool, ◌&&◌, ◌||◌, Option, is_none, List, nat_lt, if◌then◌else◌}
+use Rattle.std.specs.List.{filter}
 use Rattle.addresses.specs.declared.transport.Protocol.{Protocol}
 use Rattle.addresses.specs.declared.transport.Protocol.TheVariants.{Icmp, Tcp, Udp}
 use Rattle.addresses.specs.declared.transport.Parity.{Parity}
 use Rattle.addresses.specs.declared.transport.Port.{Port}
 use Rattle.nat_types.specs.declared.pairs.Key.{Key}
+use Rattle.port_range.specs.Drawn.{drawn_open}
 use Rattle.port_range.specs.Ports.{Range, is_free, is_owned, is_within, is_listed, chosen_open}
 use Rattle.port_range.specs.declared.TheConstants.{FIRST_PORT}
 use Rattle.bindings.specs.declared.entries.Entry.{Entry}
@@ -62,6 +64,16 @@ highest_of zero one = (if nat_lt zero.highest.0 one.highest.0 then one.highest.0
 abbrev pub chosen_port : List Entry → List ℕ → PortBounds → PortBounds → Protocol → Parity → Option Port
 chosen_port entries owned zero one protocol parity =
     chosen_open (is_open_in entries owned protocol) (lowest_of zero one) (highest_of zero one) parity
+
+-- The port that is drawn by two numbers, x and y, of the owned ports without an entry of the protocol. Owned ports with
+-- an entry of it are places too.
+abbrev pub drawn_port : List Entry → List ℕ → Protocol → Parity → ℕ → ℕ → Option Port
+drawn_port entries owned protocol parity x y =
+    drawn_open (is_open_in entries owned protocol) (λ port. is_listed port owned) parity x y
+
+-- the owned ports without an entry of the protocol
+abbrev pub open_ports : List Entry → List ℕ → Protocol → List ℕ
+open_ports entries owned protocol = filter (is_free_in entries protocol) owned
 
 -- ---- what the code keeps: a range for each protocol
 

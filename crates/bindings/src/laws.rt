@@ -1,7 +1,8 @@
 //! Laws of the table.
-ghost use Rattle.std.specs.Prelude.{◌≡◌, ℕ, ◌<◌, ◌≤◌, List, ◌∷◌, length, Bool, true, Some, None, if◌then◌else◌};
+ghost use Rattle.std.specs.Prelude.{◌≡◌, ℕ, ◌<◌, ◌≤◌, List, ◌∷◌, length, replicate, Bool, true, Some, None, if◌then◌else◌};
 ghost use Rattle.nat_types.specs.declared.pairs.Key.{Key as OutsidePort};
 ghost use Rattle.bindings.specs.Entries.{slot_of};
+ghost use Rattle.bindings.specs.Numbers.{example, numbers_of};
 ghost use Rattle.bindings.specs.Ports.{in_either};
 ghost use Rattle.bindings.specs.Table.{Table as Seen, IsTable, AreInRanges, IsPast, Accounts, idle_keys_of};
 ghost use Rattle.bindings.specs.Lives.{rests_at, is_unused_at, use_counts_at, is_among};
@@ -55,4 +56,11 @@ pub fn uses_law()
     ensures unused { (t : Seen) → (key : OutsidePort) → (now : ℕ) → (uses : List ℕ)
         → Accounts t key now uses → is_unused_at t.entries t.lives key ≡ true
         → HaveRested (least_rest key.protocol) now uses }
+{}
+
+/// States that the definition of an endpoint's numbers gives those of an example that any SHA-256 gives: of
+/// 192.168.1.10:5000 over UDP, behind keys of 32 bytes that are all 0 or all 1.
+pub fn numbers_law()
+    ensures zeros { numbers_of (replicate 32 0) example ≡ (0x6C9D2865, 0x392B9567) }
+    ensures ones { numbers_of (replicate 32 1) example ≡ (0x4B3649BC, 0x3AA02976) }
 {}

@@ -2,6 +2,7 @@
 //! owns.
 #![tactic(auto)]
 
+mod draws;
 mod entries;
 mod laws;
 mod ports;
@@ -13,7 +14,8 @@ mod table;
 mod tallies;
 mod watches;
 
+pub use draws::numbers;
 pub use entries::{Entry, PortBounds, TableFault};
-pub use laws::{room_law, uses_law};
+pub use laws::{numbers_law, room_law, uses_law};
 pub use slots::Hashers;
 pub use table::Table;

@@ -1,9 +1,10 @@
 //! The free and owned ports of a table, for each protocol.
-ghost use Rattle.std.specs.Prelude.{◌≡◌, ℕ, [], true, false, IfOk, OnErr, IfSome, IfNone, if◌then◌else◌, ◌&&◌, ◌||◌, ◌==◌, ◌+◌, ◌*◌, ◌<◌, ◌≤◌};
+ghost use Rattle.std.specs.Prelude.{◌≡◌, ℕ, [], length, true, false, IfOk, OnErr, IfSome, IfNone, if◌then◌else◌, ◌&&◌, ◌||◌, ◌==◌, ◌+◌, ◌*◌, ◌<◌, ◌≤◌};
 ghost use Rattle.addresses.specs.declared.transport.Protocol.{Protocol as Transport};
 ghost use Rattle.nat_types.specs.declared.pairs.Key.{Key as OutsidePort};
 ghost use Rattle.nat_types.specs.Same.{same_key};
-ghost use Rattle.port_range.specs.Ports.{is_bad, is_within, is_free, is_owned, IsRange, chosen_port};
+ghost use Rattle.port_range.specs.Ports.{is_bad, is_within, is_free, is_owned, IsRange, chosen_port, open_ports};
+ghost use Rattle.port_range.specs.Drawn.{drawn_port};
 ghost use Rattle.port_range.specs.Memory.{LacksMarks};
 ghost use Rattle.port_range.specs.Searches.{IsLastBelow};
 ghost use Rattle.port_range.specs.Words.{is_set};
@@ -280,5 +281,25 @@ impl Ports {
         let range = self.range(protocol);
         range.recall();
         range.free_like(parity)
+    }
+
+    pub(crate) fn drawn(&self, protocol: Protocol, parity: Parity, x: u32, y: u32) -> Option<Port>
+        ensures chosen { result ≡ drawn_port (range_of self.now protocol) parity x y }
+        ensures range { IsRange (range_of self.now protocol) }
+    {
+        let range = self.range(protocol);
+        range.recall();
+        range.drawn(parity, x, y)
+    }
+
+    pub(crate) fn free_count(&self, protocol: Protocol) -> u32
+        ensures count { result ≡ length (open_ports (range_of self.now protocol)) }
+        ensures range { IsRange (range_of self.now protocol) }
+        ensures first { IsRange self.now.tcp }
+    {
+        let range = self.range(protocol);
+        range.recall();
+        self.tcp.recall();
+        range.free_count()
     }
 }

@@ -14,12 +14,13 @@ ghost use Rattle.bindings.specs.Revivals.{revived_entries, revived_slot, lives_o
 ghost use Rattle.bindings.specs.Table.{empty_table};
 ghost use Rattle.bindings.specs.Runs.{own_in, without_port, all_ports, first_run, port_at};
 ghost use Rattle.bindings.specs.Lives.{KeepsOthers, is_among, may_go, rests_at, is_unused_at, use_counts_at};
-ghost use Rattle.bindings.specs.Ports.{AreBounds, in_either, key_count, is_open_in, is_vacant, is_spare, chosen_port, ports_in};
+ghost use Rattle.bindings.specs.Ports.{AreBounds, in_either, key_count, is_open_in, is_vacant, is_spare, chosen_port, drawn_port, open_ports, ports_in};
 ghost use Rattle.bindings.specs.Table.{IsTable, IsPast, owns, alone_keys_of, idle_keys_of, is_alone_at, is_marked_at, with_entry_state, without_entry};
 ghost use Rattle.bindings.specs.Dues.{watched_keys};
 ghost use Rattle.bindings.specs.Lives.{lives_with};
 ghost use Rattle.bindings.specs.Lists.{place_in};
 ghost use Rattle.std.specs.List.{insert};
+ghost use Rattle.port_range.specs.Drawn.{IsLike};
 ghost use Rattle.port_range.specs.Ports.{IsChosen};
 ghost use Rattle.port_range.specs.Searches.{IsLastBelow};
 ghost use Rattle.activity.specs.Lives.{life_begun, life_carried, life_renewed};
@@ -398,6 +399,30 @@ impl Table {
             → is_open_in self.now.entries self.now.owned protocol port ≡ false) }
     {
         self.ports.free_like(protocol, parity)
+    }
+
+    /// Returns the port that is drawn by two numbers, those of `numbers`, or None where no owned port is free for the
+    /// protocol. Taken is the block with the number `x` modulo their count among the blocks, of 64 ports each, that have
+    /// an owned port of the parity that is free for the protocol, and in it the place with the number `y` modulo their
+    /// count among its owned ports of the parity. The port is the first of these from the place on that is free for the
+    /// protocol, or else from the block's beginning (RFC 6056, section 3.3.3, within a block). Where no block has one, it
+    /// is drawn of the other parity.
+    pub fn drawn(&self, protocol: Protocol, parity: Parity, x: u32, y: u32) -> Option<Port>
+        ensures chosen { result ≡ drawn_port self.now.entries self.now.owned protocol parity x y }
+        ensures like { IfSome result (IsLike (is_open_in self.now.entries self.now.owned protocol)
+            parity) }
+        ensures none { IfNone result ((port : ℕ)
+            → is_open_in self.now.entries self.now.owned protocol port ≡ false) }
+    {
+        self.ports.drawn(protocol, parity, x, y)
+    }
+
+    /// Returns how many owned ports are free for the protocol, of both parities together. The count is kept, so no port
+    /// is looked at.
+    pub fn free_count(&self, protocol: Protocol) -> u32
+        ensures { result ≡ length (open_ports self.now.entries self.now.owned protocol) }
+    {
+        self.ports.free_count(protocol)
     }
 
     /// Whether the gateway owns a port or, while a table is loaded, is to own it.

@@ -3,8 +3,8 @@
 use addresses::Ip;
 use cases_words::Case;
 use settings::{
-    FragmentSettings, GatewaySettings, IcmpSettings, InterfaceSettings, Neighbour, PortRange,
-    Settings, VrrpSettings,
+    Choice, FragmentSettings, GatewaySettings, IcmpSettings, InterfaceSettings, Neighbour,
+    PortRange, Settings, VrrpSettings,
 };
 
 /// Prints the built-in settings as a settings file spells them.
@@ -14,6 +14,8 @@ pub(crate) fn print(case: &mut Case, settings: &Settings) {
     range(case, "one", settings.ports.one);
     case.say("alone = ", settings.alone);
     case.say("\ninward_refresh = ", settings.inward_refresh);
+    case.say("\nchoice = ", word(settings.choice));
+    case.say("\nahead = ", settings.ahead);
     case.end();
     interface(case, "\n[inside", &settings.inside, None);
     interface(case, "\n[outside", &settings.outside, Some(settings.router));
@@ -32,6 +34,14 @@ fn range(case: &mut Case, name: &str, range: PortRange) {
     case.say(" = [", range.lowest.0);
     case.say(", ", range.highest.0);
     case.put("]\n");
+}
+
+/// Returns the word for a choice, in quotes.
+fn word(choice: Choice) -> &'static str {
+    match choice {
+        Choice::Lowest => "\"lowest\"",
+        Choice::Drawn => "\"drawn\"",
+    }
 }
 
 fn interface(case: &mut Case, text: &str, it: &InterfaceSettings, router: Option<Ip>) {

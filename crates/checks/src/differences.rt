@@ -26,13 +26,15 @@ fn same_neighbours(one: &[Neighbour], other: &[Neighbour]) -> bool {
 }
 
 /// Returns the keys of `[ports]` and `[inside]`, each with whether its values are the same.
-fn ports_and_inside_rows(one: &Settings, other: &Settings) -> [(Key, bool); 10] {
+fn ports_and_inside_rows(one: &Settings, other: &Settings) -> [(Key, bool); 12] {
     let (ports, inside) = (Section::Ports, Section::Inside);
     let same_zero = same_range(one.ports.zero, other.ports.zero);
     let same_one = same_range(one.ports.one, other.ports.one);
     let same_limit = one.ports.host_limit == other.ports.host_limit;
     let same_alone = one.alone == other.alone;
     let same_refresh = one.inward_refresh == other.inward_refresh;
+    let same_choice = one.choice == other.choice;
+    let same_ahead = one.ahead == other.ahead;
     let (one, other) = (&one.inside, &other.inside);
     let same_virtual = one.virtual_ip == other.virtual_ip;
     let same_prefix = one.prefix_length == other.prefix_length;
@@ -43,6 +45,8 @@ fn ports_and_inside_rows(one: &Settings, other: &Settings) -> [(Key, bool); 10] 
         (Key::new(ports, Name::HostLimit), same_limit),
         (Key::new(ports, Name::Alone), same_alone),
         (Key::new(ports, Name::InwardRefresh), same_refresh),
+        (Key::new(ports, Name::Choice), same_choice),
+        (Key::new(ports, Name::Ahead), same_ahead),
         (Key::new(inside, Name::Virtual), same_virtual),
         (Key::new(inside, Name::Prefix), same_prefix),
         (Key::new(inside, Name::Vrid), same_number),
@@ -149,6 +153,8 @@ pub fn may_differ(key: Key) -> bool {
             Name::HostLimit
             | Name::Alone
             | Name::InwardRefresh
+            | Name::Choice
+            | Name::Ahead
             | Name::Wire
             | Name::Router
             | Name::Mtu

@@ -10,6 +10,7 @@ mod digests;
 mod findings;
 mod options;
 mod places;
+mod port_warnings;
 mod warning_kinds;
 mod warnings;
 
@@ -18,5 +19,6 @@ pub use comparing::compare;
 pub use differences::{differing_keys, may_differ, must_agree};
 pub use digests::digest;
 pub use options::CheckOptions;
+pub use port_warnings::PortWarning;
 pub use warning_kinds::{Warning, WarningKind};
 pub use warnings::warnings_of;

@@ -1,22 +1,14 @@
 //! The warnings of settings, and their texts.
 
+use crate::PortWarning;
 use settings_file::Key;
 use std::fmt;
-
-/// For how many centiseconds a packet that waits for its pair is kept.
-pub(crate) const KEPT: u16 = 300;
 
 /// The kind of a warning: a value that is likely a mistake, though a pair can run with it.
 #[derive(Clone, Copy)]
 pub enum WarningKind {
-    /// The range has one port.
-    OnePort,
-    /// No limit is set for a host.
-    NoLimit,
-    /// A gateway never makes pairs alone.
-    NeverAlone,
-    /// A gateway makes pairs alone only once packets that wait for a pair are lost.
-    LateAlone,
+    /// Something of the ports.
+    Ports(PortWarning),
     /// The network has addresses that no host has.
     Martian,
     /// The network takes less than the longest packets, and the gateways don't cut them.
@@ -57,16 +49,7 @@ pub enum WarningKind {
 impl fmt::Display for WarningKind {
     fn fmt<W: fmt::Write>(&self, f: &mut fmt::Formatter<W>) -> fmt::Result {
         let text = match self {
-            WarningKind::OnePort => "the range has one port, for one UDP and one TCP pair",
-            WarningKind::NoLimit => "left out: one inside host can take all ports",
-            WarningKind::NeverAlone =>
-                "0 or left out: new connections wait for the other box while it doesn't answer",
-            WarningKind::LateAlone => {
-                return write!(
-                    f,
-                    "above {KEPT}: a connection's first packet is kept for {KEPT} centiseconds, and then lost"
-                );
-            }
+            WarningKind::Ports(warning) => return f.write(warning),
             WarningKind::Martian =>
                 "in 0/8, 127/8, 224/4 and 240/4 no host has an address; nothing is translated",
             WarningKind::Uncut =>

@@ -1,10 +1,10 @@
 //! The warnings of settings.
 
-use crate::warning_kinds::KEPT;
-use crate::{Warning, WarningKind};
+use crate::port_warnings::KEPT;
+use crate::{PortWarning, Warning, WarningKind};
 use addresses::Ip;
 use nat_types::Side;
-use settings::{GatewaySettings, InterfaceSettings, Neighbour, PortRange, Settings};
+use settings::{Choice, GatewaySettings, InterfaceSettings, Neighbour, PortRange, Settings};
 use settings_file::{Key, Name, Section, add_left_out_ports, add_port_clashes, is_network_address};
 use std::alloc::{AllocError, Global};
 
@@ -66,29 +66,40 @@ fn warn_if(condition: bool, section: Section, name: Name, kind: WarningKind) -> 
     }
 }
 
-fn port_warnings(settings: &Settings) -> [Option<Warning>; 5] {
-    let Settings { ports, alone, .. } = settings;
+/// Returns a warning at a key of `[ports]` where its condition holds.
+fn warn_of_ports(condition: bool, name: Name, warning: PortWarning) -> Option<Warning> {
+    warn_if(condition, Section::Ports, name, WarningKind::Ports(warning))
+}
+
+fn port_warnings(settings: &Settings) -> [Option<Warning>; 8] {
+    let Settings {
+        ports,
+        alone,
+        ahead,
+        ..
+    } = settings;
     let one_zero = has_one_port(ports.zero);
     let one_one = has_one_port(ports.one);
     let is_unlimited = ports.host_limit.is_none();
     let (is_never, is_late) = (*alone == 0, *alone > KEPT);
+    let is_lowest = settings.choice == Choice::Lowest;
+    let is_much = exceeds_quarter(*ahead, ports.zero) || exceeds_quarter(*ahead, ports.one);
     [
-        warn_if(one_zero, Section::Ports, Name::Zero, WarningKind::OnePort),
-        warn_if(one_one, Section::Ports, Name::One, WarningKind::OnePort),
-        warn_if(
-            is_unlimited,
-            Section::Ports,
-            Name::HostLimit,
-            WarningKind::NoLimit,
-        ),
-        warn_if(
-            is_never,
-            Section::Ports,
-            Name::Alone,
-            WarningKind::NeverAlone,
-        ),
-        warn_if(is_late, Section::Ports, Name::Alone, WarningKind::LateAlone),
+        warn_of_ports(one_zero, Name::Zero, PortWarning::OnePort),
+        warn_of_ports(one_one, Name::One, PortWarning::OnePort),
+        warn_of_ports(is_unlimited, Name::HostLimit, PortWarning::NoLimit),
+        warn_of_ports(is_never, Name::Alone, PortWarning::NeverAlone),
+        warn_of_ports(is_late, Name::Alone, PortWarning::LateAlone),
+        warn_of_ports(is_lowest, Name::Choice, PortWarning::LowestPort),
+        warn_of_ports(*ahead == 0, Name::Ahead, PortWarning::NoneAhead),
+        warn_of_ports(is_much, Name::Ahead, PortWarning::MuchAhead),
     ]
+}
+
+/// Whether a number of ports is above a quarter of a range.
+fn exceeds_quarter(ports: u32, range: PortRange) -> bool {
+    let size = u32::from(range.highest.0 - range.lowest.0) + 1;
+    ports > size / 4
 }
 
 /// The most bytes that a network's longest packet may have.

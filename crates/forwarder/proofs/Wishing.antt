@@ -19,7 +19,7 @@ use Rattle.spec_binding.specs.declared.changes.PortRequest.{PortRequest}
 use Rattle.spec_binding.specs.declared.changes.Transition.{Transition}
 use Rattle.spec_binding.specs.declared.changes.Want.TheVariants as want
 use Rattle.spec_binding.specs.Books.{Book, is_lone, is_synced}
-use Rattle.spec_binding.specs.Rows.{answered, is_at_limit, is_full, known_wish, new_pair, new_wish, none_row, paired_wish, port_for, quiet, row, wish, wish_by, wish_of}
+use Rattle.spec_binding.specs.Rows.{answered, is_at_limit, is_full, known_wish, new_pair, new_wish, wanting_row, paired_wish, port_for, quiet, row, wish, wish_by, wish_of}
 use Rattle.spec_step.specs.Parts.{by_row, wanted_by}
 use Rattle.spec_step.specs.Shown.{GatewayAndOutput, is_apart, scene}
 
@@ -35,7 +35,7 @@ known-mute p (state.Closing false) = refl
 known-mute p state.Alone = refl
 known-mute p state.Held = refl
 
-none-mute : (b : Book) → (none_row b true).answer ≡ None
+none-mute : (b : Book) → (wanting_row b true).answer ≡ None
 none-mute b = at (is_lone b.stage) b.wants
   where
     at : (lone wants : Bool) → (let r : Transition = cond (not lone && (not wants && false)) (row change_of.Want (Some record_of.Want) None) quiet in r).answer ≡ None

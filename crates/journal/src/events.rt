@@ -12,7 +12,7 @@ use packet_rules::Reason;
 #[derive(Drop)]
 pub struct EventLog<L> {
     log: L,
-    /// Whether the box takes the other box's advertisements alone, so that each one dropped isn't that box's.
+    /// Whether the box takes the other box's advertisements alone. Each one dropped isn't as its settings have that box's.
     peer_only: bool,
     limiter: Limiter,
     /// The mappings that have begun, where mappings are logged.

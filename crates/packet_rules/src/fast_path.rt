@@ -1,6 +1,6 @@
 //! The frames that nearly every packet comes in, read apart from all others: what no step refuses,
 //! and what is UDP's or TCP's, is read without a reason on the way.
-ghost use Rattle.std.specs.Prelude.{◌≡◌, IfSome, Ok, OnSome, length};
+ghost use Rattle.std.specs.Prelude.{◌≡◌, IfSome, Ok};
 ghost use Rattle.frames.specs.Frame.{frame_of};
 ghost use Rattle.packet_rules.specs.declared.readings.Reading.TheVariants.{Packet as PacketReading};
 ghost use Rattle.packet_rules.specs.Steps.{transport_reading, other_reading, ipv4_reading, reading_of, Carries};

@@ -26,7 +26,7 @@ pub record IsFirst (test : ℕ → Bool) (start count : ℕ) (port : Port) : Typ
   pub lowest : (q : ℕ) → start ≤ q → q < port.0 → test q ≡ false
 
 -- what fails at a number, and from the next on, fails from that number on
-fails_from : (test : ℕ → Bool) (start end : ℕ) → test start ≡ false → ((q : ℕ) → start + 1 ≤ q → q < end → test q ≡ false) → (q : ℕ) → start ≤ q → q < end → test q ≡ false
+pub fails_from : (test : ℕ → Bool) (start end : ℕ) → test start ≡ false → ((q : ℕ) → start + 1 ≤ q → q < end → test q ≡ false) → (q : ℕ) → start ≤ q → q < end → test q ≡ false
 fails_from test start end here rest q low high =
     elim (cases_eq q start) [ inl same ↦ ap test same ∙ here | inr other ↦ rest q (omega arith) high ]
 
@@ -73,11 +73,11 @@ lowest_open-none test lowest highest wanted h q low high fit =
     let none = first_where-none (is_open test wanted) lowest (highest + 1 - lowest) h q low (omega arith) in
     false_from_ne_true (test q) (λ holds. both_ways (is_open test wanted q) none (and_from (test q) (fits wanted q) holds fit))
 
-or_else-some : (first second : Option Port) (port : Port) → or_else first second ≡ Some port → (first ≡ Some port) ⊎ ((first ≡ None) × (second ≡ Some port))
+pub or_else-some : (first second : Option Port) (port : Port) → or_else first second ≡ Some port → (first ≡ Some port) ⊎ ((first ≡ None) × (second ≡ Some port))
 or_else-some None second port h = inr (refl, h)
 or_else-some (Some p) second port h = inl h
 
-or_else-none : (first second : Option Port) → or_else first second ≡ None → (first ≡ None) × (second ≡ None)
+pub or_else-none : (first second : Option Port) → or_else first second ≡ None → (first ≡ None) × (second ≡ None)
 or_else-none None second h = (refl, h)
 or_else-none (Some p) second h = cc
 
@@ -191,7 +191,7 @@ not-of test parity q fails = false_from_ne_true (is_open test (Some parity) q) (
     both_ways (test q) (fails (parity-eq (parity_of q) parity parts.1)) parts.0)
 
 -- two parities are one, or the first is the other of the second
-parity-cases : (a b : Parity) → (a ≡ b) ⊎ (a ≡ other_parity b)
+pub parity-cases : (a b : Parity) → (a ≡ b) ⊎ (a ≡ other_parity b)
 parity-cases Even Even = inl refl
 parity-cases Even Odd = inr refl
 parity-cases Odd Even = inr refl

@@ -224,7 +224,7 @@ looked-like lowest highest marks parity port looked h is many =
     let same = cond-true {A = ℕ} (same_parity (parity_of port.0) parity) 0 16 (parity-true (parity_of port.0) parity is.kind) in
     (omega (arith, same, many), omega (arith, many, found-port lowest highest marks parity port h is))
 
-other-parity : (parity : Parity) → same_parity (other_parity parity) parity ≡ false
+pub other-parity : (parity : Parity) → same_parity (other_parity parity) parity ≡ false
 other-parity Even = refl
 other-parity Odd = refl
 

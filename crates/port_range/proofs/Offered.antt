@@ -10,3 +10,14 @@ pub use Rattle.port_range.proofs.Choice.{chosen-is}
 pub use Rattle.port_range.proofs.Choice.{chosen-none}
 -- A bit of two words' conjunction.
 pub use Rattle.port_range.proofs.Bits.{is_set-and}
+-- The port that is drawn.
+-- each port that may be given out is owned
+pub use Rattle.port_range.proofs.Drawing.{AreOwned}
+-- each port that may be given out is a port
+pub use Rattle.port_range.proofs.Drawing.{ArePorts}
+-- a drawn port is one that `IsLike` allows
+pub use Rattle.port_range.proofs.Drawing.{drawn-is}
+-- where no port is drawn, no port may be given out
+pub use Rattle.port_range.proofs.Drawing.{drawn-none}
+-- tests that agree draw the same port
+pub use Rattle.port_range.proofs.Drawing.{drawn-same}

@@ -15,6 +15,7 @@ use Rattle.port_range.specs.Words.{is_set, has_bit, IsLowestBit, AreOthers}
 use Rattle.port_range.specs.Marks.{has_both, mask_of, open_word, IsSummary, AreMarks, IsLowestOf}
 use Rattle.port_range.proofs.Bits.{is_set-zero, is_set-and, has_bit-in, has_bit-of, has_bit-past}
 use Rattle.port_range.proofs.Choice.{parity-eq, parity-true}
+use Rattle.port_range.proofs.Keeping.{open-none}
 
 -- ---- the bits of a word that are of a parity
 
@@ -23,7 +24,7 @@ unfolding is_set
 mask-bits Even i low = agree_below_at (λ j. is_set (mask_of Even) j) (λ j. same_parity (parity_of j) Even) 64 i refl low
 mask-bits Odd i low = agree_below_at (λ j. is_set (mask_of Odd) j) (λ j. same_parity (parity_of j) Odd) 64 i refl low
 
-same-parity_of : (a b : ℕ) → a % 2 ≡ b % 2 → parity_of a ≡ parity_of b
+pub same-parity_of : (a b : ℕ) → a % 2 ≡ b % 2 → parity_of a ≡ parity_of b
 same-parity_of a b same = ap (λ (x : ℕ). cond (x == 0) Even Odd) same
 
 open-bits : (parity : Parity) (free owned : List ℕ) (index i : ℕ) → i < 64
@@ -50,13 +51,13 @@ not-open parity free owned index q is kind clear =
     (open-bits parity free owned index (q % 64) low ∙ and_from bits (same_parity (parity_of (q % 64)) parity) (sym (both-bits free owned index q is) ∙ holds) same))
 
 -- no port of the parity may be given out of a word that has none
-none-open : (parity : Parity) (free owned : List ℕ) (index q : ℕ) → q / 64 ≡ index → parity_of q ≡ parity → nat_lt 0 (open_word parity free owned index) ≡ false → has_both free owned q ≡ false
+pub none-open : (parity : Parity) (free owned : List ℕ) (index q : ℕ) → q / 64 ≡ index → parity_of q ≡ parity → nat_lt 0 (open_word parity free owned index) ≡ false → has_both free owned q ≡ false
 none-open parity free owned index q is kind nothing =
     let clear : open_word parity free owned index ≡ 0 = omega (arith, ltb-false 0 (open_word parity free owned index) nothing) in
     not-open parity free owned index q is kind (ap (λ (w : ℕ). is_set w (q % 64)) clear ∙ is_set-zero (q % 64))
 
 -- a port of the word's lowest bit may be given, and is of the parity
-is-open : (parity : Parity) (free owned : List ℕ) (index i : ℕ) → i < 64 → is_set (open_word parity free owned index) i ≡ true
+pub is-open : (parity : Parity) (free owned : List ℕ) (index i : ℕ) → i < 64 → is_set (open_word parity free owned index) i ≡ true
     → (has_both free owned (index * 64 + i) ≡ true) × (parity_of (index * 64 + i) ≡ parity)
 is-open parity free owned index i low holds =
     let parts = and_parts (is_set (get_or free index 0) i && is_set (get_or owned index 0) i) (same_parity (parity_of i) parity) (sym (open-bits parity free owned index i low) ∙ holds) in
@@ -202,10 +203,11 @@ summary-zero parity many some few is = record {
   each = λ n low. zero-bits few n ∙ sym (ap (λ (w : ℕ). nat_lt 0 (bit_and (bit_and w (get_or (replicate some 0) n 0)) (mask_of parity))) (zero-at many n));
 }
 
-pub marks-zero : AreMarks (replicate 1024 0) (replicate 1024 0) (replicate 16 0) (replicate 16 0)
+pub marks-zero : AreMarks (replicate 1024 0) (replicate 1024 0) (replicate 16 0) (replicate 16 0) 0
 marks-zero = record {
   free_size = length-replicate {A = ℕ} 1024 0;
   owned_size = length-replicate {A = ℕ} 1024 0;
   summed_even = summary-zero Even 1024 1024 16 refl;
   summed_odd = summary-zero Odd 1024 1024 16 refl;
+  counted = sym (open-none (replicate 1024 0) (replicate 1024 0) (zero-bits 1024));
 }

@@ -1,3 +1,5 @@
+pub mod Counts
+pub mod Drawn
 pub mod Marks
 pub mod Memory
 pub mod Ports

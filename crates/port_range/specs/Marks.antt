@@ -17,6 +17,15 @@ pub record Marked : Type 0 where
 abbrev pub has_both : List ℕ → List ℕ → ℕ → Bool
 has_both free owned port = has_bit free port && has_bit owned port
 
+-- the ports that pass a test, of so many ports from a start
+abbrev pub ports_where : (ℕ → Bool) → ℕ → ℕ → List ℕ
+ports_where test start zero = []
+ports_where test start (suc count) = (if test start then start ∷ ports_where test (start + 1) count else ports_where test (start + 1) count)
+
+-- how many ports may be given out
+unfoldable pub open_count : List ℕ → List ℕ → ℕ
+open_count free owned = length (ports_where (has_both free owned) 0 65536)
+
 abbrev pub other_parity : Parity → Parity
 other_parity Even = Odd
 other_parity Odd = Even
@@ -35,12 +44,13 @@ pub record IsSummary (parity : Parity) (free owned summary : List ℕ) : Type 0 
   pub size : length summary ≡ 16
   pub each : (index : ℕ) → index < 1024 → has_bit summary index ≡ nat_lt 0 (open_word parity free owned index)
 
--- the words cover the ports, and both summaries are right
-pub record AreMarks (free owned even odd : List ℕ) : Type 0 where
+-- the words cover the ports, both summaries are right, and so is the count
+pub record AreMarks (free owned even odd : List ℕ) (count : ℕ) : Type 0 where
   pub free_size : length free ≡ 1024
   pub owned_size : length owned ≡ 1024
   pub summed_even : IsSummary Even free owned even
   pub summed_odd : IsSummary Odd free owned odd
+  pub counted : count ≡ open_count free owned
 
 -- the port passes, is of the parity, and is the lowest such
 pub record IsLowestOf (test : ℕ → Bool) (parity : Parity) (port : Port) : Type 0 where
@@ -55,11 +65,6 @@ words_looked_at parity None = 32
 words_looked_at parity (Some port) = (if same_parity (parity_of port.0) parity then 0 else 16) + (port.0 / 4096 + 3)
 
 -- ---- a range by its marks
-
--- the ports that pass a test, of so many ports from a start
-abbrev pub ports_where : (ℕ → Bool) → ℕ → ℕ → List ℕ
-ports_where test start zero = []
-ports_where test start (suc count) = (if test start then start ∷ ports_where test (start + 1) count else ports_where test (start + 1) count)
 
 abbrev pub ranged : ℕ → ℕ → Marked → Range
 ranged lowest highest marks = record {

@@ -1,6 +1,6 @@
 -- The ports of a range: which of them are free, which are owned, and which is chosen.
 use Rattle.std.specs.Prelude.{◌≡◌, ℕ, zero, suc, ◌+◌, ◌-◌, ◌≤◌, ◌==◌, nat_le, nat_lt, ◌<◌, Bool, true, false, ◌&&◌, ◌||◌, Option, Some, None, List, [], ◌∷◌, if◌then◌else◌}
-use Rattle.std.specs.List.{list_any}
+use Rattle.std.specs.List.{filter, list_any}
 use Rattle.addresses.specs.declared.transport.Parity.{Parity}
 use Rattle.addresses.specs.declared.transport.Parity.TheVariants.{Even, Odd}
 use Rattle.addresses.specs.declared.transport.Port.{Port}
@@ -28,6 +28,10 @@ is_owned range port = is_listed port range.owned
 -- a port that may be given out is free and owned
 abbrev pub is_available : Range → ℕ → Bool
 is_available range port = is_free range port && is_owned range port
+
+-- the owned ports that are free, rising
+abbrev pub open_ports : Range → List ℕ
+open_ports range = filter (is_free range) range.owned
 
 -- a port lies between the first and the last of a range
 abbrev pub is_within : ℕ → ℕ → ℕ → Bool

@@ -1,11 +1,12 @@
 //! The ports of a range: which are free, which are owned, and which one an endpoint gets.
 #![tactic(auto)]
 
-ghost use Rattle.std.specs.Prelude.{◌≡◌, ℕ, [], true, false, OnOk, IfOk, IfErr, Err, IfSome, IfNone, ◌+◌, ◌*◌, ◌<◌, ◌≤◌, ◌==◌, ◌&&◌, ◌||◌, not, if◌then◌else◌};
-ghost use Rattle.port_range.specs.Ports.{is_free, is_owned, is_available, is_within, is_bad, IsReason, IsRange, IsChosen, chosen_port};
+ghost use Rattle.std.specs.Prelude.{◌≡◌, ℕ, [], true, false, OnOk, IfOk, IfErr, Err, IfSome, IfNone, ◌+◌, ◌*◌, ◌<◌, ◌≤◌, ◌==◌, ◌&&◌, ◌||◌, not, length, if◌then◌else◌};
+ghost use Rattle.port_range.specs.Ports.{is_free, is_owned, is_available, is_within, is_bad, IsReason, IsRange, IsChosen, chosen_port, open_ports};
 ghost use Rattle.port_range.specs.Searches.{IsFirstFrom};
 ghost use Rattle.port_range.specs.Words.{is_set};
 ghost use Rattle.port_range.specs.Marks.{words_looked_at};
+ghost use Rattle.port_range.specs.Drawn.{drawn_port, words_drawn_at, IsLike};
 ghost use Rattle.port_range.specs.Memory.{LacksMarks};
 ghost use Rattle.port_range.specs.declared.RangeFault.TheVariants.{NoMemory};
 
@@ -152,6 +153,44 @@ impl Range {
                 (other, looked + more)
             }
         }
+    }
+
+    /// Returns the port that is drawn by two numbers, or None where no port is free and owned. Taken is the block with
+    /// the number `x` modulo their count among the blocks, of 64 ports each, that have a free owned port of the parity,
+    /// and in it the place with the number `y` modulo their count among its owned ports of the parity. The port is the
+    /// first free owned one of the parity from the place on, or else from the block's beginning. Where no block has
+    /// one, it is drawn of the other parity.
+    pub fn drawn(&self, parity: Parity, x: u32, y: u32) -> Option<Port>
+        ensures chosen { result ≡ drawn_port self.now parity x y }
+        ensures like { IfSome result (IsLike (is_available self.now) parity) }
+        ensures none { IfNone result ((port : ℕ) → is_available self.now port ≡ false) }
+    {
+        self.drawn_counted(parity, x, y).0
+    }
+
+    /// Returns the port that `drawn` returns, and how many words the draw looks at.
+    pub fn drawn_counted(&self, parity: Parity, x: u32, y: u32) -> (Option<Port>, u32)
+        ensures port { result.0 ≡ drawn_port self.now parity x y }
+        ensures like { IfSome result.0 (IsLike (is_available self.now) parity) }
+        ensures none { IfNone result.0 ((port : ℕ) → is_available self.now port ≡ false) }
+        ensures looked { result.1 ≡ words_drawn_at parity result.0 }
+        ensures few { result.1 ≤ 35 }
+    {
+        let (like, looked) = self.marks.drawn(parity, x, y);
+        match like {
+            Some(port) => (Some(port), looked),
+            None => {
+                let (other, more) = self.marks.drawn(other_parity(parity), x, y);
+                (other, looked + more)
+            }
+        }
+    }
+
+    /// Returns how many ports are free and owned. The count is kept, so no word is looked at.
+    pub fn free_count(&self) -> u32
+        ensures { result ≡ length (open_ports self.now) }
+    {
+        self.marks.open_count()
     }
 
     /// Whether a port lies in the range.

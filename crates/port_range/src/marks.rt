@@ -6,9 +6,14 @@ ghost use Rattle.port_range.specs.Ports.{is_within};
 ghost use Rattle.port_range.specs.Searches.{IsFirstFrom};
 ghost use Rattle.port_range.specs.Words.{is_set, has_bit, agrees};
 ghost use Rattle.port_range.specs.Memory.{LacksMarks};
-ghost use Rattle.port_range.specs.Marks.{has_both, other_parity, mask_of, open_word, IsSummary, IsLowestOf};
+ghost use Rattle.port_range.specs.Marks.{has_both, other_parity, mask_of, open_count, open_word, IsSummary, IsLowestOf};
+ghost use Rattle.port_range.specs.Counts.{one_if};
+ghost use Rattle.port_range.specs.Drawn.{drawn_in, drawn_like};
 
-use crate::words::{fill_between, has_bit, lowest_bit, next_bit, put_bit, set_between, zeros};
+use crate::words::{
+    drawn_bit, ends_of, fill_between, has_bit, lowest_bit, next_bit, nth_number, put_bit,
+    set_between, zeros,
+};
 use addresses::{Parity, Port};
 use std::alloc::{AllocError, Global};
 use std::marker::Model;
@@ -118,6 +123,82 @@ fn lowest_open(summary: &[u64], free: &[u64], owned: &[u64], parity: Parity) -> 
     }
 }
 
+/// Returns the port of a parity that is drawn in a block by `y`, or None where the block has no port
+/// of it that is free and owned.
+fn drawn_in(free: &[u64], owned: &[u64], parity: Parity, y: u32, block: usize) -> Option<Port>
+    requires free { length free.now ≡ 1024 }
+    requires owned { length owned.now ≡ 1024 }
+    requires block { block < 1024 }
+    ensures { result ≡ drawn_in (has_both free.now owned.now) (has_bit owned.now) parity y block }
+{
+    let mine = owned[block] & mask_of(parity);
+    match drawn_bit(mine, free[block] & mine, y) {
+        Some(bit) => Some(Port((block * 64 + bit) as u16)),
+        None => None,
+    }
+}
+
+/// Returns the port of a parity that is drawn by `x` and `y`, or None where no port of it is free
+/// and owned, and how many words the draw looked at.
+fn drawn_open(
+    summary: &[u64],
+    free: &[u64],
+    owned: &[u64],
+    parity: Parity,
+    x: u32,
+    y: u32,
+) -> (Option<Port>, u32)
+    requires free { length free.now ≡ 1024 }
+    requires owned { length owned.now ≡ 1024 }
+    requires summary { IsSummary parity free.now owned.now summary.now }
+    ensures chosen { result.0 ≡ drawn_like (has_both free.now owned.now) (has_bit owned.now)
+        parity x y }
+    ensures looked_some { IfSome result.0 (λ port. result.1 ≡ 19) }
+    ensures looked_none { IfNone result.0 (result.1 ≡ 16) }
+{
+    let looked = summary.len() as u32;
+    let ends = ends_of(summary);
+    let count = ends[SUMMARY_WORDS - 1];
+    if count == 0 {
+        return (None, looked);
+    }
+    match nth_number(summary, &ends, x % count) {
+        Some(block) => (drawn_in(free, owned, parity, y, block), looked + 3),
+        None => (None, looked),
+    }
+}
+
+/// Whether a port is free and owned.
+fn has_both(free: &[u64], owned: &[u64], number: usize) -> bool
+    requires free { number < 64 * length free.now }
+    requires owned { number < 64 * length owned.now }
+    ensures { result ≡ has_both free.now owned.now number }
+{
+    has_bit(free, number) && has_bit(owned, number)
+}
+
+/// Counts the ports that are free and owned. All words are looked at.
+fn count_both(free: &[u64], owned: &[u64]) -> u32
+    requires free { length free.now ≡ 1024 }
+    requires owned { length owned.now ≡ 1024 }
+    ensures { result ≡ open_count free.now owned.now }
+{
+    let mut count = 0;
+    for index in 0..WORDS {
+        count += (free[index] & owned[index]).count_ones();
+    }
+    count
+}
+
+/// Returns a count after one of what it counts has come or gone.
+fn recounted(count: u32, was: bool, is: bool) -> u32
+    requires some { one_if was ≤ count }
+    requires few { count ≤ 65536 }
+    ensures { result + one_if was ≡ count + one_if is }
+{
+    count + u32::from(is) - u32::from(was)
+}
+
 /// The bits of the free and of the owned ports, with a summary for each parity.
 #[derive(Drop)]
 pub(crate) struct Marks {
@@ -127,6 +208,8 @@ pub(crate) struct Marks {
     even: Vec<u64>,
     /// The summary of the words that have an odd port, free and owned.
     odd: Vec<u64>,
+    /// How many ports are free and owned.
+    available: u32,
 }
 
 impl Model for Marks {
@@ -136,7 +219,8 @@ impl Model for Marks {
 
     ghost view = { λ m. record { free = m.free.items; owned = m.owned.items } };
 
-    ghost invariant = { λ m. AreMarks m.free.items m.owned.items m.even.items m.odd.items };
+    ghost invariant = { λ m. AreMarks m.free.items m.owned.items m.even.items m.odd.items
+        m.available };
 }
 
 impl Marks {
@@ -155,6 +239,7 @@ impl Marks {
             owned,
             even,
             odd,
+            available: 0,
         })
     }
 
@@ -171,6 +256,7 @@ impl Marks {
         fill_between(&mut self.owned, low, high, owned);
         sum_up_all(&mut self.even, &self.free, &self.owned, Parity::Even);
         sum_up_all(&mut self.odd, &self.free, &self.owned, Parity::Odd);
+        self.available = count_both(&self.free, &self.owned);
     }
 
     pub(crate) fn is_free(&self, port: Port) -> bool
@@ -192,7 +278,10 @@ impl Marks {
     {
         let number = usize::from(port.0);
         let index = number / 64;
+        let was = has_both(&self.free, &self.owned, number);
         put_bit(&mut self.free, number, flag);
+        let is = has_both(&self.free, &self.owned, number);
+        self.available = recounted(self.available, was, is);
         sum_up(&mut self.even, &self.free, &self.owned, Parity::Even, index);
         sum_up(&mut self.odd, &self.free, &self.owned, Parity::Odd, index);
     }
@@ -204,7 +293,10 @@ impl Marks {
     {
         let number = usize::from(port.0);
         let index = number / 64;
+        let was = has_both(&self.free, &self.owned, number);
         put_bit(&mut self.owned, number, flag);
+        let is = has_both(&self.free, &self.owned, number);
+        self.available = recounted(self.available, was, is);
         sum_up(&mut self.even, &self.free, &self.owned, Parity::Even, index);
         sum_up(&mut self.odd, &self.free, &self.owned, Parity::Odd, index);
     }
@@ -236,6 +328,14 @@ impl Marks {
             first,
             last,
         );
+        self.available = count_both(&self.free, &self.owned);
+    }
+
+    /// Returns how many ports are free and owned.
+    pub(crate) fn open_count(&self) -> u32
+        ensures { result ≡ open_count self.now.free self.now.owned }
+    {
+        self.available
     }
 
     /// Returns the free ports among the 64 ports from `64 * index` on, as bits.
@@ -282,5 +382,20 @@ impl Marks {
             Parity::Odd => &self.odd,
         };
         lowest_open(summary, &self.free, &self.owned, parity)
+    }
+
+    /// Returns the port of a parity that is drawn by `x` and `y`, or None where no port of it is
+    /// free and owned, and how many words the draw looked at.
+    pub(crate) fn drawn(&self, parity: Parity, x: u32, y: u32) -> (Option<Port>, u32)
+        ensures chosen { result.0 ≡ drawn_like (has_both self.now.free self.now.owned)
+            (has_bit self.now.owned) parity x y }
+        ensures looked_some { IfSome result.0 (λ port. result.1 ≡ 19) }
+        ensures looked_none { IfNone result.0 (result.1 ≡ 16) }
+    {
+        let summary = match parity {
+            Parity::Even => &self.even,
+            Parity::Odd => &self.odd,
+        };
+        drawn_open(summary, &self.free, &self.owned, parity, x, y)
     }
 }

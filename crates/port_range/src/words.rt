@@ -4,6 +4,7 @@ ghost use Rattle.memory.specs.Memory.{WasRefused};
 ghost use Rattle.port_range.specs.Ports.{is_within};
 ghost use Rattle.port_range.specs.Searches.{IsFirstFrom, IsLastBelow};
 ghost use Rattle.port_range.specs.Words.{is_set, has_bit, agrees, IsLowestBit, AreOthers};
+ghost use Rattle.port_range.specs.Counts.{count_below, IsNth, AreEnds, IsDrawnBit};
 
 use memory::copies_of;
 use std::alloc::{AllocError, Global};
@@ -180,4 +181,67 @@ pub(crate) fn next_bit(words: &[u64], from: usize, flag: bool) -> Option<usize>
         }
     }
     None
+}
+
+/// Returns the set bit of a word that `number` other ones stand below, or None where there is none.
+fn nth_bit(word: u64, number: u32) -> Option<usize>
+    ensures nth { IfSome result (IsNth (is_set word) number) }
+    ensures within { IfSome result (λ bit. bit < 64) }
+    ensures none { IfNone result (count_below (is_set word) 64 ≤ number) }
+{
+    let mut start = 0;
+    for passed in 0..number {
+        start = lowest_from(word, start)? + 1;
+    }
+    lowest_from(word, start)
+}
+
+/// Returns for each word how many bits are set up to its end.
+pub(crate) fn ends_of(words: &[u64]) -> [u32; 16]
+    requires { length words.now ≡ 16 }
+    ensures { AreEnds words.now result }
+{
+    let mut ends = [0; 16];
+    let mut count = 0;
+    for (index, word) in words.iter().enumerate() {
+        count += word.count_ones();
+        ends[index] = count;
+    }
+    ends
+}
+
+/// Returns the set bit of the words that `number` other ones stand below, or None where there is
+/// none. Only its own word is looked at.
+pub(crate) fn nth_number(words: &[u64], ends: &[u32; 16], number: u32) -> Option<usize>
+    requires size { length words.now ≡ 16 }
+    requires ends { AreEnds words.now ends.now }
+    ensures nth { IfSome result (IsNth (has_bit words.now) number) }
+    ensures none { IfNone result (count_below (has_bit words.now) 1024 ≤ number) }
+{
+    let mut start = 0;
+    for (index, end) in ends.iter().enumerate() {
+        if number < *end {
+            let bit = nth_bit(words[index], number - start)?;
+            return Some(index * 64 + bit);
+        }
+        start = *end;
+    }
+    None
+}
+
+/// Returns the set bit of `free` that is first from a place on, or else from 0: the place is the bit
+/// of `owned` with the number `y` modulo their count. None says that no bit is set in both.
+pub(crate) fn drawn_bit(owned: u64, free: u64, y: u32) -> Option<usize>
+    ensures some { IfSome result (IsDrawnBit (is_set owned) (is_set free) y) }
+    ensures none { IfNone result ((i : ℕ) → i < 64 → (is_set owned i && is_set free i) ≡ false) }
+{
+    let count = owned.count_ones();
+    if count == 0 {
+        return None;
+    }
+    let place = nth_bit(owned, y % count)?;
+    match lowest_from(free, place) {
+        Some(bit) => Some(bit),
+        None => lowest_from(free, 0),
+    }
 }

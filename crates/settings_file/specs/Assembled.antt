@@ -9,7 +9,7 @@ use Rattle.settings_file.specs.declared.keys.Section.TheVariants.{Inside, Outsid
 use Rattle.settings_file.specs.declared.keys.Name.TheVariants.{Zero, One, Router}
 use Rattle.settings_file.specs.Document.{address_at}
 use Rattle.settings_file.specs.Neighbours.{neighbours_of, neighbour_in}
-use Rattle.settings_file.specs.Values.{IsRange, IsLimit, IsAlone, IsRefreshed, IsInterface, IsIcmp, IsFragments, IsVrrp, IsGateway}
+use Rattle.settings_file.specs.Values.{IsRange, IsLimit, IsAlone, IsRefreshed, IsChoice, IsAhead, IsInterface, IsIcmp, IsFragments, IsVrrp, IsGateway}
 use Rattle.settings_file.specs.Settings.{overlap}
 use Rattle.settings_file.specs.Ids.{same_ids}
 
@@ -20,6 +20,8 @@ pub record AreValues (t : Members) (v : Values) : Type 0 where
   pub limit_is : IsLimit t v.host_limit
   pub alone_is : IsAlone t v.alone
   pub refresh_is : IsRefreshed t v.inward_refresh
+  pub choice_is : IsChoice t v.choice
+  pub ahead_is : IsAhead t v.ahead
   pub inside_is : IsInterface t Inside v.inside
   pub outside_is : IsInterface t Outside v.outside
   pub router_is : address_at t Outside Router ≡ Some v.router.0
@@ -45,6 +47,8 @@ pub record IsAssembled (v : Values) (s : Settings) : Type 0 where
   pub host_limit : s.ports.host_limit ≡ v.host_limit
   pub alone : s.alone ≡ v.alone
   pub inward_refresh : s.inward_refresh ≡ v.inward_refresh
+  pub choice : s.choice ≡ v.choice
+  pub ahead : s.ahead ≡ v.ahead
   pub inside : s.inside ≡ v.inside
   pub outside : s.outside ≡ v.outside
   pub router : s.router ≡ v.router

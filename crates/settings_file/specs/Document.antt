@@ -1,9 +1,12 @@
 -- The values at the keys of a document, each read as its type and within its limits.
-use Rattle.std.specs.Prelude.{ℕ, pos, ◌-◌, ◌/◌, ◌^◌, ◌==◌, ◌&&◌, nat_le, min, not, Bool, false, true, if◌then◌else◌, List, [], ◌∷◌, Option, Some, None, is_some, option_map, option_and_then}
+use Rattle.std.specs.Prelude.{ℕ, pos, ◌-◌, ◌/◌, ◌^◌, ◌==◌, ◌&&◌, nat_le, min, not, Bool, false, true, if◌then◌else◌, List, [], ◌∷◌, codes, Option, Some, None, is_some, option_map, option_and_then}
 use Rattle.std.specs.Option.{option_or}
+use Rattle.std.specs.Str.{bytes_eq}
 use Rattle.addresses.specs.Address.{IsIn}
 use Rattle.addresses.specs.declared.internet.Prefix.{Prefix}
 use Rattle.toml.specs.Data.{Data, integer, Items, no_items, item, Members, get_member, as_str, as_bool, as_table, as_array}
+use Rattle.settings.specs.declared.choice.Choice.{Choice}
+use Rattle.settings.specs.declared.choice.Choice.TheVariants.{Lowest, Drawn}
 use Rattle.settings_file.specs.declared.keys.Section.{Section}
 use Rattle.settings_file.specs.declared.keys.Name.{Name}
 use Rattle.settings_file.specs.Keys.{section_text, name_text}
@@ -57,6 +60,18 @@ optional_at low high t section name =
 
 unfoldable pub flag_or : Bool → Members → Section → Name → Option Bool
 flag_or default t section name = or_default default as_bool (value_of t section name)
+
+-- the choice of ports that a word names
+abbrev pub choice_named : List ℕ → Option Choice
+choice_named word =
+    if bytes_eq word (codes "lowest") then Some Lowest else if bytes_eq word (codes "drawn") then Some Drawn else None
+
+abbrev pub choice_in : Data → Option Choice
+choice_in d = option_and_then choice_named (as_str d)
+
+-- the choice at a key: the lowest port where it is left out
+unfoldable pub choice_at : Members → Section → Name → Option Choice
+choice_at t section name = or_default Lowest choice_in (value_of t section name)
 
 unfoldable pub text_at : Members → Section → Name → Option (List ℕ)
 text_at t section name = option_and_then as_str (value_of t section name)

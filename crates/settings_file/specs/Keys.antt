@@ -3,7 +3,7 @@ use Rattle.std.specs.Prelude.{ℕ, List, codes, Some, None}
 use Rattle.settings_file.specs.declared.keys.Section.{Section}
 use Rattle.settings_file.specs.declared.keys.Section.TheVariants.{Ports, Inside, Outside, Icmp, Fragments, Vrrp, GatewayZero, GatewayOne, Neighbour}
 use Rattle.settings_file.specs.declared.keys.Name.{Name}
-use Rattle.settings_file.specs.declared.keys.Name.TheVariants.{Zero, One, HostLimit, Alone, InwardRefresh, Virtual, Prefix, Vrid, Wire, Router, Mtu, Echo, Errors, Pass, PeerOnly}
+use Rattle.settings_file.specs.declared.keys.Name.TheVariants.{Zero, One, HostLimit, Alone, InwardRefresh, Choice, Ahead, Virtual, Prefix, Vrid, Wire, Router, Mtu, Echo, Errors, Pass, PeerOnly}
 use Rattle.settings_file.specs.declared.keys.Name.TheVariants.{InsideIp, InsideMac, OutsideIp, OutsideMac, Priority, Interval, Preempt, BootFile, Link, InsidePort, OutsidePort}
 use Rattle.settings_file.specs.declared.keys.Name.TheVariants.{Side, Ip, Mac}
 use Rattle.settings_file.specs.declared.keys.Key.{Key}
@@ -27,6 +27,8 @@ name_text One = codes "one"
 name_text HostLimit = codes "host_limit"
 name_text Alone = codes "alone"
 name_text InwardRefresh = codes "inward_refresh"
+name_text Choice = codes "choice"
+name_text Ahead = codes "ahead"
 name_text Virtual = codes "virtual"
 name_text Prefix = codes "prefix"
 name_text Vrid = codes "vrid"

@@ -10,8 +10,8 @@ use Rattle.settings_file.specs.Document.{value_of}
 use Rattle.settings_file.specs.Faults.{first}
 use Rattle.settings_file.specs.Neighbours.{all_missing_from, neighbours_of}
 
--- the keys of the sections that can't be left out, in the order of their text: all but host_limit, alone, inward_refresh, mtu, echo, errors,
--- pass, peer_only, priority, interval, preempt and the loopback ports
+-- the keys of the sections that can't be left out, in the order of their text: all but host_limit, alone, inward_refresh, choice, ahead, mtu,
+-- echo, errors, pass, peer_only, priority, interval, preempt and the loopback ports
 abbrev pub required : List Key
 required =
     key Ports Zero ∷ key Ports One

@@ -3,12 +3,12 @@ use Rattle.std.specs.Prelude.{Bool, true, false, List, [], ◌∷◌, Option, is
 use Rattle.toml.specs.Data.{Members}
 use Rattle.settings_file.specs.declared.keys.Section.{Section}
 use Rattle.settings_file.specs.declared.keys.Section.TheVariants.{Ports, Inside, Outside, Icmp, Fragments, Vrrp}
-use Rattle.settings_file.specs.declared.keys.Name.TheVariants.{Zero, One, HostLimit, Alone, InwardRefresh, Virtual, Prefix, Vrid, Wire, Router, Mtu, Echo, Errors, Pass, PeerOnly}
+use Rattle.settings_file.specs.declared.keys.Name.TheVariants.{Zero, One, HostLimit, Alone, InwardRefresh, Choice, Ahead, Virtual, Prefix, Vrid, Wire, Router, Mtu, Echo, Errors, Pass, PeerOnly}
 use Rattle.settings_file.specs.declared.keys.Name.TheVariants.{InsideIp, InsideMac, OutsideIp, OutsideMac, Priority, Interval, Preempt, BootFile, Link, InsidePort, OutsidePort}
 use Rattle.settings_file.specs.declared.keys.Key.{Key}
 use Rattle.settings_file.specs.Keys.{key, whole}
 use Rattle.settings_file.specs.Faults.{first_bad}
-use Rattle.settings_file.specs.Document.{Network, network_with, number_at, number_or, zero_or, optional_at, flag_or, text_at, address_at, mac_at, range_at, is_host, is_apart, is_section}
+use Rattle.settings_file.specs.Document.{Network, network_with, number_at, number_or, zero_or, optional_at, flag_or, choice_at, text_at, address_at, mac_at, range_at, is_host, is_apart, is_section}
 
 -- [ports]
 abbrev pub port_rows : Members → List (Key × Bool)
@@ -18,6 +18,8 @@ port_rows t =
     ∷ (key Ports HostLimit, is_some (optional_at 1 65535 t Ports HostLimit))
     ∷ (key Ports Alone, is_some (zero_or 50 65535 t Ports Alone))
     ∷ (key Ports InwardRefresh, is_some (flag_or true t Ports InwardRefresh))
+    ∷ (key Ports Choice, is_some (choice_at t Ports Choice))
+    ∷ (key Ports Ahead, is_some (number_or 0 0 1024 t Ports Ahead))
     ∷ []
 
 unfoldable pub bad_ports : Members → Option Key

@@ -14,7 +14,7 @@ use Rattle.settings_file.specs.Document.{number_at, address_at, mac_at, range_at
 use Rattle.settings_file.specs.Faults.{earlier}
 use Rattle.settings_file.specs.Rows.{bad_ports, bad_inside, bad_outside, bad_icmp, bad_fragments, bad_vrrp, bad_gateway, network_at}
 use Rattle.settings_file.specs.Neighbours.{neighbours_of, neighbour_in, bad_neighbours}
-use Rattle.settings_file.specs.Values.{IsRange, IsLimit, IsAlone, IsRefreshed, IsInterface, IsIcmp, IsFragments, IsVrrp, IsGateway}
+use Rattle.settings_file.specs.Values.{IsRange, IsLimit, IsAlone, IsRefreshed, IsChoice, IsAhead, IsInterface, IsIcmp, IsFragments, IsVrrp, IsGateway}
 use Rattle.settings_file.specs.Missing.{first_missing}
 use Rattle.settings_file.specs.Unknown.{first_unknown}
 use Rattle.settings_file.specs.Works.{Works, all_that_cant, cant_work}
@@ -28,6 +28,8 @@ pub record HoldsValues (t : Members) (settings : Settings) : Type 0 where
   pub limit_is : IsLimit t settings.ports.host_limit
   pub alone_is : IsAlone t settings.alone
   pub refresh_is : IsRefreshed t settings.inward_refresh
+  pub choice_is : IsChoice t settings.choice
+  pub ahead_is : IsAhead t settings.ahead
   pub inside_is : IsInterface t Inside settings.inside
   pub outside_is : IsInterface t Outside settings.outside
   pub router_is : address_at t Outside Router ≡ Some settings.router.0

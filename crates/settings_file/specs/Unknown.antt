@@ -8,7 +8,7 @@ use Rattle.toml.specs.Data.{Data, Members, no_members, member, as_table}
 use Rattle.settings_file.specs.declared.keys.Section.{Section}
 use Rattle.settings_file.specs.declared.keys.Section.TheVariants.{Ports, Inside, Outside, Icmp, Fragments, Vrrp, GatewayZero, GatewayOne, Neighbour}
 use Rattle.settings_file.specs.declared.keys.Name.{Name}
-use Rattle.settings_file.specs.declared.keys.Name.TheVariants.{Zero, One, HostLimit, Alone, InwardRefresh, Virtual, Prefix, Vrid, Wire, Router, Mtu, Echo, Errors, Pass, PeerOnly}
+use Rattle.settings_file.specs.declared.keys.Name.TheVariants.{Zero, One, HostLimit, Alone, InwardRefresh, Choice, Ahead, Virtual, Prefix, Vrid, Wire, Router, Mtu, Echo, Errors, Pass, PeerOnly}
 use Rattle.settings_file.specs.declared.keys.Name.TheVariants.{InsideIp, InsideMac, OutsideIp, OutsideMac, Priority, Interval, Preempt, BootFile, Link, InsidePort, OutsidePort}
 use Rattle.settings_file.specs.declared.keys.Name.TheVariants.{Side, Ip, Mac}
 use Rattle.settings_file.specs.Keys.{section_text, name_text}
@@ -16,7 +16,7 @@ use Rattle.settings_file.specs.Neighbours.{tables_in}
 
 -- the keys that a section has
 abbrev pub names_of : Section → List Name
-names_of Ports = Zero ∷ One ∷ HostLimit ∷ Alone ∷ InwardRefresh ∷ []
+names_of Ports = Zero ∷ One ∷ HostLimit ∷ Alone ∷ InwardRefresh ∷ Choice ∷ Ahead ∷ []
 names_of Inside = Virtual ∷ Prefix ∷ Vrid ∷ Wire ∷ Mtu ∷ []
 names_of Outside = Virtual ∷ Prefix ∷ Vrid ∷ Wire ∷ Router ∷ Mtu ∷ []
 names_of Icmp = Echo ∷ Errors ∷ []

@@ -2,6 +2,7 @@
 use Rattle.std.specs.Prelude.{◌≡◌, ℕ, Bool, true, false, Option, Some, string_bytes}
 use Rattle.toml.specs.Data.{Members}
 use Rattle.settings.specs.declared.ranges.PortRange.{PortRange}
+use Rattle.settings.specs.declared.choice.Choice.{Choice}
 use Rattle.settings.specs.declared.icmp_settings.IcmpSettings.{IcmpSettings}
 use Rattle.settings.specs.declared.fragment_settings.FragmentSettings.{FragmentSettings}
 use Rattle.settings.specs.declared.vrrp_settings.VrrpSettings.{VrrpSettings}
@@ -10,9 +11,9 @@ use Rattle.settings.specs.declared.gateway_settings.GatewaySettings.{GatewaySett
 use Rattle.settings_file.specs.declared.keys.Section.{Section}
 use Rattle.settings_file.specs.declared.keys.Name.{Name}
 use Rattle.settings_file.specs.declared.keys.Section.TheVariants.{Ports, Icmp, Fragments, Vrrp}
-use Rattle.settings_file.specs.declared.keys.Name.TheVariants.{HostLimit, Alone, InwardRefresh, Virtual, Prefix, Vrid, Wire, Mtu, Echo, Errors, Pass, PeerOnly}
+use Rattle.settings_file.specs.declared.keys.Name.TheVariants.{HostLimit, Alone, InwardRefresh, Choice as ChoiceKey, Ahead, Virtual, Prefix, Vrid, Wire, Mtu, Echo, Errors, Pass, PeerOnly}
 use Rattle.settings_file.specs.declared.keys.Name.TheVariants.{InsideIp, InsideMac, OutsideIp, OutsideMac, Priority, Interval, Preempt, BootFile, Link, InsidePort, OutsidePort}
-use Rattle.settings_file.specs.Document.{number_at, number_or, zero_or, optional_at, flag_or, text_at, address_at, mac_at, range_at}
+use Rattle.settings_file.specs.Document.{number_at, number_or, zero_or, optional_at, flag_or, choice_at, text_at, address_at, mac_at, range_at}
 
 -- a range of ports
 abbrev pub IsRange : Members → Name → PortRange → Type 0
@@ -29,6 +30,14 @@ IsAlone t alone = zero_or 50 65535 t Ports Alone ≡ Some alone
 -- whether each packet inward keeps its pair: where it is left out, it does
 abbrev pub IsRefreshed : Members → Bool → Type 0
 IsRefreshed t refresh = flag_or true t Ports InwardRefresh ≡ Some refresh
+
+-- how a port is chosen: the lowest one where it is left out
+abbrev pub IsChoice : Members → Choice → Type 0
+IsChoice t choice = choice_at t Ports ChoiceKey ≡ Some choice
+
+-- how many ports are asked for ahead: none where it is left out
+abbrev pub IsAhead : Members → ℕ → Type 0
+IsAhead t ahead = number_or 0 0 1024 t Ports Ahead ≡ Some ahead
 
 -- a network: where they are left out, mtu is 1500 and wire is none
 pub record IsInterface (t : Members) (s : Section) (interface : InterfaceSettings) : Type 0 where

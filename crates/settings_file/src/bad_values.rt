@@ -2,7 +2,7 @@
 
 use crate::key_checks::add_failing;
 use crate::neighbours::{self, MAX_NEIGHBOURS};
-use crate::{Key, Name, Section, fields, limits, sections};
+use crate::{Key, Name, Section, choices, fields, limits, sections};
 use addresses::Prefix;
 use nat_types::Side;
 use std::alloc::{AllocError, Global};
@@ -57,7 +57,7 @@ fn bad_in_sections(
     document: &Table,
     inside: Option<Prefix>,
     outside: Option<Prefix>,
-) -> [Option<Key>; 16] {
+) -> [Option<Key>; 18] {
     let (ports, inner, outer) = (Section::Ports, Section::Inside, Section::Outside);
     [
         fields::required_range(document, ports, Name::Zero).err(),
@@ -65,6 +65,8 @@ fn bad_in_sections(
         limits::host_limit(document).err(),
         limits::alone(document).err(),
         fields::flag_or(document, ports, Name::InwardRefresh, true).err(),
+        choices::choice(document, ports, Name::Choice).err(),
+        limits::ahead(document).err(),
         fields::required_address(document, inner, Name::Virtual).err(),
         limits::prefix_length(document, inner).err(),
         limits::virtual_router(document, inner).err(),

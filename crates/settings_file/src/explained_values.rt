@@ -113,6 +113,7 @@ enum Wanted {
     Flag,
     Text,
     Side,
+    Choice,
 }
 
 impl Display for Wanted {
@@ -130,6 +131,7 @@ impl Display for Wanted {
             Wanted::Flag => f.write_str("true or false"),
             Wanted::Text => f.write_str("a text in quotes"),
             Wanted::Side => f.write_str("\"inside\" or \"outside\""),
+            Wanted::Choice => f.write_str("\"lowest\" or \"drawn\""),
         }
     }
 }
@@ -159,6 +161,7 @@ fn wanted_at(document: &Table, section: Section, name: Name, value: &Value) -> W
         | Name::Pass
         | Name::InwardRefresh
         | Name::PeerOnly => Wanted::Flag,
+        Name::Choice => Wanted::Choice,
         _ => match numbers_of(name) {
             Some(numbers) if value.is_integer() => Wanted::Within(numbers),
             Some(numbers) => Wanted::Number(numbers),

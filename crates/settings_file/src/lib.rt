@@ -2,6 +2,7 @@
 #![tactic(auto)]
 
 mod bad_values;
+mod choices;
 mod clashes;
 mod examinations;
 mod explained_keys;

@@ -3,7 +3,7 @@ ghost use Rattle.std.specs.Prelude.{◌≡◌, ◌<◌, ◌≤◌, Some, IfErr, 
 ghost use Rattle.std.specs.Option.{ForSome};
 ghost use Rattle.toml.specs.View.{table_view};
 ghost use Rattle.settings_file.specs.declared.keys.Section.TheVariants.{Ports};
-ghost use Rattle.settings_file.specs.declared.keys.Name.TheVariants.{HostLimit, Alone, Prefix, Vrid, Mtu, Priority, Interval};
+ghost use Rattle.settings_file.specs.declared.keys.Name.TheVariants.{HostLimit, Alone, Ahead, Prefix, Vrid, Mtu, Priority, Interval};
 ghost use Rattle.settings_file.specs.Document.{number_at, number_or, zero_or, optional_at};
 ghost use Rattle.settings_file.specs.Faults.{IsBadAt};
 
@@ -24,6 +24,9 @@ const ALONE: Limits = Limits {
     low: 50,
     high: 65535,
 };
+
+/// The limits of the ports that are asked for ahead.
+const AHEAD: Limits = Limits { low: 0, high: 1024 };
 
 /// The limits of a prefix length, in bits.
 const PREFIX_LENGTHS: Limits = Limits { low: 8, high: 30 };
@@ -77,6 +80,7 @@ pub(crate) fn numbers_of(name: Name) -> Option<Numbers> {
     match name {
         Name::HostLimit => Some(Numbers::Within(HOST_LIMITS)),
         Name::Alone => Some(Numbers::ZeroOr(ALONE)),
+        Name::Ahead => Some(Numbers::Within(AHEAD)),
         Name::Prefix => Some(Numbers::Within(PREFIX_LENGTHS)),
         Name::Vrid => Some(Numbers::Within(VIRTUAL_ROUTERS)),
         Name::Mtu => Some(Numbers::Within(MTUS)),
@@ -110,6 +114,18 @@ pub(crate) fn alone(document: &Table) -> Result<u16, Key>
         (IsBadAt Ports Alone (zero_or 50 65535 (table_view document.now) Ports Alone)) }
 {
     zero_or(document, Section::Ports, Name::Alone, ALONE)
+}
+
+/// Returns how many ports are asked for ahead: 0 to 1024; the default is 0.
+pub(crate) fn ahead(document: &Table) -> Result<u32, Key>
+    ensures ok { IfOk result
+        (λ n. number_or 0 0 1024 (table_view document.now) Ports Ahead ≡ Some n) }
+    ensures high { IfOk result (λ n. n ≤ 1024) }
+    ensures err { IfErr result
+        (IsBadAt Ports Ahead (number_or 0 0 1024 (table_view document.now) Ports Ahead)) }
+{
+    let ahead = number_or(document, Section::Ports, Name::Ahead, AHEAD.low, AHEAD)?;
+    Ok(u32::from(ahead))
 }
 
 /// Returns the number of first bits that the addresses of a network share: 8 to 30.

@@ -8,11 +8,13 @@ ghost use Rattle.settings_file.specs.declared.keys.Name.TheVariants.{Zero, One, 
 ghost use Rattle.settings_file.specs.Document.{address_at, is_apart, is_section, IsApart};
 ghost use Rattle.settings_file.specs.Faults.{FindsBad};
 ghost use Rattle.settings_file.specs.Rows.{bad_ports, bad_inside, bad_outside, bad_icmp, bad_fragments, bad_vrrp, network_at};
-ghost use Rattle.settings_file.specs.Values.{IsRange, IsLimit, IsAlone, IsRefreshed, IsInterface, IsIcmp, IsFragments, IsVrrp};
+ghost use Rattle.settings_file.specs.Values.{IsRange, IsLimit, IsAlone, IsRefreshed, IsChoice, IsAhead, IsInterface, IsIcmp, IsFragments, IsVrrp};
 
-use crate::{Key, Name, Section, fields, limits};
+use crate::{Key, Name, Section, choices, fields, limits};
 use addresses::{Ip, Prefix};
-use settings::{FragmentSettings, IcmpSettings, InterfaceSettings, PortRange, VrrpSettings};
+use settings::{
+    Choice, FragmentSettings, IcmpSettings, InterfaceSettings, PortRange, VrrpSettings,
+};
 use toml::Table;
 
 /// The values of `[ports]`.
@@ -23,12 +25,16 @@ pub(crate) struct PortValues {
     pub(crate) host_limit: Option<u16>,
     pub(crate) alone: u16,
     pub(crate) inward_refresh: bool,
+    pub(crate) choice: Choice,
+    pub(crate) ahead: u32,
     ghost limited: { ForSome host_limit (λ most. 0 < most) },
     ghost alone_late: { alone < 50 → alone ≡ 0 },
+    ghost most_ahead: { ahead ≤ 1024 },
 }
 
 /// Returns the port ranges of gateway 0 and of gateway 1, the limit of each inside host, where there is one, after how
-/// many centiseconds without an answer a gateway makes pairs alone, and whether packets inward keep their pairs.
+/// many centiseconds without an answer a gateway makes pairs alone, whether packets inward keep their pairs, how a port
+/// is chosen, and how many are asked for ahead.
 #[tactic(auto, unfolding(crate::specs::Rows::bad_ports))]
 pub(crate) fn ports(document: &Table) -> Result<PortValues, Key>
     ensures zero { IfOk result (λ r. IsRange (table_view document.now) Zero r.zero) }
@@ -37,6 +43,8 @@ pub(crate) fn ports(document: &Table) -> Result<PortValues, Key>
     ensures alone { IfOk result (λ r. IsAlone (table_view document.now) r.alone) }
     ensures refresh { IfOk result
         (λ r. IsRefreshed (table_view document.now) r.inward_refresh) }
+    ensures choice { IfOk result (λ r. IsChoice (table_view document.now) r.choice) }
+    ensures ahead { IfOk result (λ r. IsAhead (table_view document.now) r.ahead) }
     ensures bad { FindsBad (bad_ports (table_view document.now)) result }
 {
     let zero = fields::required_range(document, Section::Ports, Name::Zero)?;
@@ -44,12 +52,16 @@ pub(crate) fn ports(document: &Table) -> Result<PortValues, Key>
     let host_limit = limits::host_limit(document)?;
     let alone = limits::alone(document)?;
     let inward_refresh = fields::flag_or(document, Section::Ports, Name::InwardRefresh, true)?;
+    let choice = choices::choice(document, Section::Ports, Name::Choice)?;
+    let ahead = limits::ahead(document)?;
     Ok(PortValues {
         zero,
         one,
         host_limit,
         alone,
         inward_refresh,
+        choice,
+        ahead,
     })
 }
 

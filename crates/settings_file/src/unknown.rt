@@ -12,12 +12,14 @@ use std::alloc::{AllocError, Global};
 use toml::{Table, Value};
 
 /// The keys of `[ports]`.
-const PORTS_KEYS: [Name; 5] = [
+const PORTS_KEYS: [Name; 7] = [
     Name::Zero,
     Name::One,
     Name::HostLimit,
     Name::Alone,
     Name::InwardRefresh,
+    Name::Choice,
+    Name::Ahead,
 ];
 
 /// The keys of `[inside]`.

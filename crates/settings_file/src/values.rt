@@ -9,8 +9,8 @@ use crate::neighbours::neighbours;
 use crate::{Section, SettingFault, sections};
 use addresses::Ip;
 use settings::{
-    FragmentSettings, GatewaySettings, IcmpSettings, InterfaceSettings, Neighbour, PortRange,
-    PortRanges, Settings, VrrpSettings,
+    Choice, FragmentSettings, GatewaySettings, IcmpSettings, InterfaceSettings, Neighbour,
+    PortRange, PortRanges, Settings, VrrpSettings,
 };
 use std::alloc::Global;
 use toml::Table;
@@ -23,6 +23,8 @@ pub(crate) struct Values {
     pub(crate) host_limit: Option<u16>,
     pub(crate) alone: u16,
     pub(crate) inward_refresh: bool,
+    pub(crate) choice: Choice,
+    pub(crate) ahead: u32,
     pub(crate) inside: InterfaceSettings,
     pub(crate) outside: InterfaceSettings,
     pub(crate) router: Ip,
@@ -34,6 +36,7 @@ pub(crate) struct Values {
     pub(crate) neighbours: Vec<Neighbour>,
     ghost limited: { ForSome host_limit (λ most. 0 < most) },
     ghost alone_late: { alone < 50 → alone ≡ 0 },
+    ghost most_ahead: { ahead ≤ 1024 },
     ghost few_neighbours: { vec_len neighbours ≤ 64 },
     ghost apart: { AreApart inside outside },
     ghost zero_inside: { LiesIn zero.inside_ip.0 inside },
@@ -76,6 +79,8 @@ impl Values {
             host_limit: ports.host_limit,
             alone: ports.alone,
             inward_refresh: ports.inward_refresh,
+            choice: ports.choice,
+            ahead: ports.ahead,
             inside,
             outside,
             router,
@@ -115,6 +120,8 @@ impl Values {
             ports,
             alone: self.alone,
             inward_refresh: self.inward_refresh,
+            choice: self.choice,
+            ahead: self.ahead,
             inside: self.inside,
             outside: self.outside,
             router: self.router,

@@ -1,7 +1,7 @@
 -- The change of each row fits, and each record that is pushed is well-formed.
 use Rattle.std.proofs.Common.{◌≡◌, Bool, true, false, cond, not, ◌&&◌, is_some, Option, Some, None, refl, sym, ap, ◌∙◌}
 use Rattle.std.specs.Prelude.{IfSome}
-use Rattle.std.proofs.lemmas.Bool.{and_parts, not-true}
+use Rattle.std.proofs.lemmas.Bool.{and_parts}
 use Rattle.nat_types.specs.Granted.{Granted, IsPort}
 use Rattle.nat_types.specs.declared.gateways.GatewayId.{GatewayId}
 use Rattle.nat_types.specs.declared.notes.NoteKind.TheVariants as happens
@@ -28,7 +28,7 @@ use Rattle.spec_binding.specs.declared.changes.PortRequest.{PortRequest}
 use Rattle.spec_binding.specs.declared.changes.Want.TheVariants as want
 use Rattle.spec_binding.specs.Books.{Book, IsBook, is_lone, is_paired, is_promised, is_synced}
 use Rattle.spec_binding.specs.WellFormed.{Fits, HasOwnPair, IsNewEntry, IsWellFormedEndpoint}
-use Rattle.spec_binding.specs.Rows.{accept_row, accepted_row, alone_row, answering, is_takeable, marked_row, paired_wish, sought_row, taking, telling_row, told_row, ask_row, asked_row, carry_row, ending, gives_way, grant_row, idle_row, install_row, is_at_limit, known_wish, left_row, may_want, new_pair, new_wish, no_row, none_row, port_for, proposed_row, quiet, refuse_row, refused_row, release_row, released_row, row, row_of, stayed_row, synced_row, taken_answer, use_row, used_row, wish, wish_by, wish_of, yes_row}
+use Rattle.spec_binding.specs.Rows.{accept_row, accepted_row, alone_row, answering, is_takeable, marked_row, paired_wish, sought_row, taking, telling_row, told_row, ask_row, asked_row, carry_row, ending, gives_way, grant_row, idle_row, install_row, is_at_limit, known_wish, left_row, may_want, new_pair, new_wish, no_row, wanting_row, port_for, proposed_row, quiet, refuse_row, refused_row, release_row, released_row, row, row_of, stayed_row, synced_row, taken_answer, use_row, used_row, wish, wish_by, wish_of, yes_row}
 use Rattle.spec_binding.proofs.Moves.{may-give, ranges-port}
 use Rattle.spec_binding.proofs.Taking.{MayTake, takes}
 use Rattle.spec_binding.proofs.Wishing.{at-key, chosen-says}
@@ -43,6 +43,12 @@ sound-quiet c = record { fits = tt; answer = tt }
 
 has-own : (c : Book) (x : Entry) (s : EntryState) → x.state ≡ s → is_of_rank First s ≡ true → slot_of c.entries x.pair.key ≡ Some x → HasOwnPair c x.pair.key
 has-own c x s is own found = record { entry = x; found = found; own = ap (is_of_rank First) is ∙ own }
+
+-- the stage of a gateway that is synced and not lone
+pub paired-is : (s : Stage) → is_paired s ≡ true → s ≡ Paired
+paired-is Unsynced h = cc
+paired-is Paired h = refl
+paired-is Lone h = cc
 
 module _ (c : Book) where
   accepted-sound : (x : Entry) (s : EntryState) → x.state ≡ s → slot_of c.entries x.pair.key ≡ Some x → IsSound c (accepted_row x.pair s)
@@ -200,17 +206,17 @@ module _ (c : Book) where
   known-sound p state.Alone = sound-quiet c
   known-sound p state.Held = sound-quiet c
 
-  paired-is : (s : Stage) → is_synced s ≡ true → is_lone s ≡ false → s ≡ Paired
-  paired-is Unsynced synced lone = cc
-  paired-is Paired synced lone = refl
-  paired-is Lone synced lone = cc
-
-  none-sound : (full : Bool) → is_synced c.stage ≡ true → IsSound c (none_row c full)
-  none-sound full synced = at (may_want c full) refl
+  none-sound : (full : Bool) → IsSound c (wanting_row c full)
+  none-sound full = at (may_want c full) refl
     where
       at : (t : Bool) → may_want c full ≡ t → IsSound c (let r : Transition = cond t (row change_of.Want (Some rec.Want) None) quiet in r)
-      at true may = record { fits = paired-is c.stage synced (not-true (is_lone c.stage) (and_parts (not (is_lone c.stage)) (not c.wants && not full) may).0); answer = tt }
+      at true may = record { fits = paired-is c.stage (and_parts (is_paired c.stage) (not c.wants && not full) may).0; answer = tt }
       at false may = sound-quiet c
+
+  -- ports asked for ahead
+  pub ahead-sound : (t full : Bool) → IsSound c (let r : Transition = cond t (wanting_row c full) quiet in r)
+  ahead-sound true full = none-sound full
+  ahead-sound false full = sound-quiet c
 
   -- an own pair of an endpoint without one, on a port that was chosen for it, is a new entry
   new-entry : (e : Endpoint) (port : Port) (s : EntryState) → rank_of s ≡ Some First → IsBook c → IsWellFormedEndpoint e → entry_of c.entries e ≡ None → port_for c e ≡ Some port → IsNewEntry c (entry_in s (new_pair e port))
@@ -231,7 +237,7 @@ module _ (c : Book) where
   paired-sound false false e port is formed none found = let new = new-entry e port (state.Pending false) refl is formed none found in record { fits = new; answer = new.formed }
 
   new-sound : (apart full : Bool) (e : Endpoint) (o : Option Port) → IsBook c → is_synced c.stage ≡ true → IsWellFormedEndpoint e → entry_of c.entries e ≡ None → port_for c e ≡ o → IsSound c (new_wish c apart full e o).row
-  new-sound apart full e None is synced formed none found = none-sound full synced
+  new-sound apart full e None is synced formed none found = none-sound full
   new-sound apart full e (Some port) is synced formed none found = at (is_lone c.stage)
     where
       at : (lone : Bool) → IsSound c (let w : PortRequest = cond lone (wish (want.Port port) (row (Add (entry_in state.Live (new_pair e port))) None (Some (happens.Retaken (new_pair e port))))) (paired_wish apart full (new_pair e port)) in w).row

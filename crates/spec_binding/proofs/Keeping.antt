@@ -33,6 +33,7 @@ use Rattle.resync.specs.Loading.{Load, is_beside, is_new, loaded_state, names_ru
 use Rattle.spec_pair.specs.Box.{In, founder}
 use Rattle.spec_pair.specs.Ownership.{AreRising as RunsRise}
 use Rattle.spec_pair.proofs.Offered.{same_boxes}
+use Rattle.spec_binding.specs.declared.setups.Rules.{Rules}
 use Rattle.spec_binding.specs.declared.setups.Stage.{Stage}
 use Rattle.spec_binding.specs.declared.setups.Stage.TheVariants.{Unsynced, Paired, Lone}
 use Rattle.spec_binding.specs.declared.changes.Change.{Change}
@@ -40,7 +41,7 @@ use Rattle.spec_binding.specs.declared.changes.Change.TheVariants.{Keep, Add, Tu
 use Rattle.spec_binding.specs.declared.changes.Transition.{Transition}
 use Rattle.spec_binding.specs.declared.changes.PortRequest.{PortRequest}
 use Rattle.spec_binding.specs.declared.changes.Want.TheVariants as want
-use Rattle.spec_binding.specs.Books.{Book, IsBook, empty_book, founded_book, in_ranges, is_any, is_lone, is_paired, is_synced, load_of, owns, ports_of}
+use Rattle.spec_binding.specs.Books.{Book, IsBook, emptied, empty_book, founded_book, in_ranges, is_any, is_lone, is_paired, is_synced, load_of, owns, ports_of}
 use Rattle.spec_binding.specs.WellFormed.{Fits, GivesWay, IsWellFormedEndpoint, MayGive}
 use Rattle.spec_binding.specs.Machine.{box_at}
 use Rattle.spec_binding.specs.Resets.{begun_anew, put_lone, restart_batch, restarted, revived}
@@ -535,8 +536,8 @@ revived-keeps b s rs is synced after_it formed paired = record {
   unnamed = λ a n. absurd (both_ways (is_synced s) a after_it);
 }
 
-pub empty-keeps : (id : GatewayId) (zero one : PortBounds) (limit : Option ℕ) (alone : ℕ) → AreBounds zero → AreBounds one → IsPort zero.highest.0 → IsPort one.highest.0 → IsBook (empty_book id zero one limit alone)
-empty-keeps id z o limit alone az ao hz ho = record {
+pub empty-keeps : (id : GatewayId) (zero one : PortBounds) (rules : Rules) → AreBounds zero → AreBounds one → IsPort zero.highest.0 → IsPort one.highest.0 → IsBook (empty_book id zero one rules)
+empty-keeps id z o rules az ao hz ho = record {
   zero = az;
   one = ao;
   highest = (hz, ho);
@@ -559,15 +560,17 @@ empty-keeps id z o limit alone az ao hz ho = record {
 pub restart-keeps : (b : Book) → IsBook b → IsBook (restarted b)
 restart-keeps b is = at (is_synced b.stage) refl
   where
-    at : (t : Bool) → is_synced b.stage ≡ t → IsBook (let b2 : Book = cond t (begun_anew b) (empty_book b.id b.zero b.one b.limit b.alone) in b2)
+    at : (t : Bool) → is_synced b.stage ≡ t → IsBook (let b2 : Book = cond t (begun_anew b) (emptied b) in b2)
     at true synced = revived-keeps b Paired (restart_batch b) is synced refl (batch-formed b is) (λ w. refl)
-    at false unsynced = empty-keeps b.id b.zero b.one b.limit b.alone is.zero is.one is.highest.0 is.highest.1
+    at false unsynced =
+        let rules : Rules = record { limit = b.limit; alone = b.alone; inward_refresh = true; choice = b.choice; ahead = b.ahead } in
+        empty-keeps b.id b.zero b.one rules is.zero is.one is.highest.0 is.highest.1
 
 -- after a greater boot was heard, each entry is an agreed pair
 pub restart-agrees : (b : Book) → IsBook b → (k : Key) (x : Entry) → slot_of (restarted b).entries k ≡ Some x → (is_settled x.state ≡ true) × (is_pair x.state ≡ true)
 restart-agrees b is k x = at (is_synced b.stage)
   where
-    at : (t : Bool) → slot_of (let b2 : Book = cond t (begun_anew b) (empty_book b.id b.zero b.one b.limit b.alone) in b2).entries k ≡ Some x → (is_settled x.state ≡ true) × (is_pair x.state ≡ true)
+    at : (t : Bool) → slot_of (let b2 : Book = cond t (begun_anew b) (emptied b) in b2).entries k ≡ Some x → (is_settled x.state ≡ true) × (is_pair x.state ≡ true)
     at true h = let w = was-there b.entries k x is.keys h in (ap is_settled w.state ∙ woken-settled w.entry.state w.pair, ap is_pair w.state ∙ woken-pair w.entry.state w.pair)
     at false h = absurd (cc)
 
@@ -632,8 +635,8 @@ founded-owns z o p are = range-is z p are ∙ at (in_bounds z p) (in_bounds o p)
     at false true = refl
     at false false = refl
 
-pub founded-keeps : (zero one : PortBounds) (limit : Option ℕ) (alone : ℕ) → AreBounds zero → AreBounds one → IsPort zero.highest.0 → IsPort one.highest.0 → IsBook (founded_book zero one limit alone)
-founded-keeps z o limit alone az ao hz ho = record {
+pub founded-keeps : (zero one : PortBounds) (rules : Rules) → AreBounds zero → AreBounds one → IsPort zero.highest.0 → IsPort one.highest.0 → IsBook (founded_book zero one rules)
+founded-keeps z o rules az ao hz ho = record {
   zero = az;
   one = ao;
   highest = (hz, ho);
@@ -653,6 +656,6 @@ founded-keeps z o limit alone az ao hz ho = record {
   unnamed = λ a n. absurd (cc);
 }
 
-pub founded-box : (zero one : PortBounds) (limit : Option ℕ) (alone capacity : ℕ) → AreBounds zero → box_at (founded_book zero one limit alone) (fresh Zero 1 capacity) [] 0 ≡ founder (λ p. in_either zero one p && in_bounds zero p)
-founded-box z o limit alone capacity az = same_boxes (box_at (founded_book z o limit alone) (fresh Zero 1 capacity) [] 0) (founder (λ p. in_either z o p && in_bounds z p))
+pub founded-box : (zero one : PortBounds) (rules : Rules) (capacity : ℕ) → AreBounds zero → box_at (founded_book zero one rules) (fresh Zero 1 capacity) [] 0 ≡ founder (λ p. in_either zero one p && in_bounds zero p)
+founded-box z o rules capacity az = same_boxes (box_at (founded_book z o rules) (fresh Zero 1 capacity) [] 0) (founder (λ p. in_either z o p && in_bounds z p))
     (record { up = refl; boot = refl; synced = refl; lone = refl; peer = refl; table = λ k. refl; sent = refl; taken = refl; loading = refl; owned = λ p. founded-owns z o p az; wants = refl; named = refl; promised = refl })

@@ -31,7 +31,7 @@ use Rattle.spec_binding.specs.declared.changes.Want.TheVariants as want
 use Rattle.spec_binding.specs.Books.{Book, IsBook, is_lone, is_promised, is_synced, load_of, is_paired}
 use Rattle.spec_binding.specs.WellFormed.{IsBeside, IsSameBatch}
 use Rattle.spec_binding.specs.Resets.{restart_batch}
-use Rattle.spec_binding.specs.Rows.{alone_row, marked_row, paired_wish, sought_row, telling_row, accept_row, accepted_row, after, carry_row, changed, grant_row, idle_row, is_at_limit, known_wish, left_row, load_taken, may_want, new_pair, new_wish, no_row, none_row, numbers_of, port_for, quiet, refuse_row, refused_row, release_row, released_row, row, row_of, stage_after, stayed_row, synced_row, taken_answer, taken_book, unsynced_after, use_row, used_row, wish, wish_by, wish_of, yes_row}
+use Rattle.spec_binding.specs.Rows.{alone_row, marked_row, paired_wish, sought_row, telling_row, accept_row, accepted_row, after, carry_row, changed, grant_row, idle_row, is_at_limit, known_wish, left_row, load_taken, may_want, new_pair, new_wish, no_row, wanting_row, numbers_of, port_for, quiet, refuse_row, refused_row, release_row, released_row, row, row_of, stage_after, stayed_row, synced_row, taken_answer, taken_book, unsynced_after, use_row, used_row, wish, wish_by, wish_of, yes_row}
 use Rattle.spec_binding.proofs.Members.{gained-is}
 use Rattle.spec_binding.proofs.Restarting.{batch-count}
 use Rattle.spec_binding.proofs.Unbroken.{machine_runs}
@@ -39,20 +39,20 @@ use Rattle.spec_binding.proofs.Working.{loaded-keeps}
 use Rattle.spec_binding.proofs.Wishing.{at-key}
 
 beside : (b : Book) → IsBeside b b
-beside b = record { id = refl; zero = refl; one = refl; limit = refl; alone = refl; stage = refl; begun = refl; named = refl; coming = refl }
+beside b = record { id = refl; zero = refl; one = refl; limit = refl; alone = refl; choice = refl; ahead = refl; stage = refl; begun = refl; named = refl; coming = refl }
 
 pub change-leaves : (b : Book) (ch : Change) → IsBeside b (changed ch b)
 change-leaves b Keep = beside b
-change-leaves b (Add e) = record { id = refl; zero = refl; one = refl; limit = refl; alone = refl; stage = refl; begun = refl; named = refl; coming = refl }
-change-leaves b (Turn k s) = record { id = refl; zero = refl; one = refl; limit = refl; alone = refl; stage = refl; begun = refl; named = refl; coming = refl }
-change-leaves b (Renew k) = record { id = refl; zero = refl; one = refl; limit = refl; alone = refl; stage = refl; begun = refl; named = refl; coming = refl }
-change-leaves b (Drop k) = record { id = refl; zero = refl; one = refl; limit = refl; alone = refl; stage = refl; begun = refl; named = refl; coming = refl }
-change-leaves b (Yield q p) = record { id = refl; zero = refl; one = refl; limit = refl; alone = refl; stage = refl; begun = refl; named = refl; coming = refl }
-change-leaves b Want = record { id = refl; zero = refl; one = refl; limit = refl; alone = refl; stage = refl; begun = refl; named = refl; coming = refl }
-change-leaves b (Give g) = record { id = refl; zero = refl; one = refl; limit = refl; alone = refl; stage = refl; begun = refl; named = refl; coming = refl }
+change-leaves b (Add e) = record { id = refl; zero = refl; one = refl; limit = refl; alone = refl; choice = refl; ahead = refl; stage = refl; begun = refl; named = refl; coming = refl }
+change-leaves b (Turn k s) = record { id = refl; zero = refl; one = refl; limit = refl; alone = refl; choice = refl; ahead = refl; stage = refl; begun = refl; named = refl; coming = refl }
+change-leaves b (Renew k) = record { id = refl; zero = refl; one = refl; limit = refl; alone = refl; choice = refl; ahead = refl; stage = refl; begun = refl; named = refl; coming = refl }
+change-leaves b (Drop k) = record { id = refl; zero = refl; one = refl; limit = refl; alone = refl; choice = refl; ahead = refl; stage = refl; begun = refl; named = refl; coming = refl }
+change-leaves b (Yield q p) = record { id = refl; zero = refl; one = refl; limit = refl; alone = refl; choice = refl; ahead = refl; stage = refl; begun = refl; named = refl; coming = refl }
+change-leaves b Want = record { id = refl; zero = refl; one = refl; limit = refl; alone = refl; choice = refl; ahead = refl; stage = refl; begun = refl; named = refl; coming = refl }
+change-leaves b (Give g) = record { id = refl; zero = refl; one = refl; limit = refl; alone = refl; choice = refl; ahead = refl; stage = refl; begun = refl; named = refl; coming = refl }
 change-leaves b (Gain g) =
     let is = gained-is b (numbers_of g) in
-    record { id = ap (λ (x : Book). x.id) is; zero = ap (λ (x : Book). x.zero) is; one = ap (λ (x : Book). x.one) is; limit = ap (λ (x : Book). x.limit) is; alone = ap (λ (x : Book). x.alone) is; stage = ap (λ (x : Book). x.stage) is; begun = ap (λ (x : Book). x.begun) is; named = ap (λ (x : Book). x.named) is; coming = ap (λ (x : Book). x.coming) is }
+    record { id = ap (λ (x : Book). x.id) is; zero = ap (λ (x : Book). x.zero) is; one = ap (λ (x : Book). x.one) is; limit = ap (λ (x : Book). x.limit) is; alone = ap (λ (x : Book). x.alone) is; choice = ap (λ (x : Book). x.choice) is; ahead = ap (λ (x : Book). x.ahead) is; stage = ap (λ (x : Book). x.stage) is; begun = ap (λ (x : Book). x.begun) is; named = ap (λ (x : Book). x.named) is; coming = ap (λ (x : Book). x.coming) is }
 
 -- ---- answers
 
@@ -272,7 +272,7 @@ module _ (b : Book) where
   known-stays p state.Alone = same-batch b
   known-stays p state.Held = same-batch b
 
-  none-stays : (full : Bool) → IsSameBatch b (after b (none_row b full))
+  none-stays : (full : Bool) → IsSameBatch b (after b (wanting_row b full))
   none-stays full = at (may_want b full)
     where
       at : (t : Bool) → IsSameBatch b (after b (let r : Transition = cond t (row Want (Some rec.Want) None) quiet in r))

@@ -20,4 +20,6 @@ mod Accounting
 mod Staying
 mod Settling
 mod Serving
+mod Ahead
+mod Choosing
 pub mod Offered

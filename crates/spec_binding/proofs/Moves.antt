@@ -44,7 +44,7 @@ low-bound z o az ao = omega arith
 
 chosen-spare : (b : Book) (p : ℕ) → has p (granted b) ≡ true → is_spare b.entries b.owned p ≡ true
 chosen-spare b p h =
-    let chosen = has-take p (share (length (spares b))) (spares b) h in
+    let chosen = has-take p (share (length (spares b) - b.ahead)) (spares b) h in
     (and_parts (is_spare b.entries b.owned p) (has p (ports_down b)) (sym (has-filter (is_spare b.entries b.owned) p (ports_down b)) ∙ chosen)).0
 
 all-ports : (ps : List ℕ) → ((p : ℕ) → is_listed p ps ≡ true → IsPort p) → ArePorts (map (λ p. (let q : Port = record { 0 = p } in q)) ps)
@@ -58,9 +58,9 @@ pub may-give : (b : Book) → IsBook b → MayGive b (as_ports (granted b))
 may-give b is =
     let back : numbers_of (as_ports (granted b)) ≡ granted b = numbers-back (granted b) in
     let apart : AreDistinct (granted b) =
-    distinct-take (share (length (spares b))) (spares b) (distinct-filter (is_spare b.entries b.owned) (ports_down b)
+    distinct-take (share (length (spares b) - b.ahead)) (spares b) (distinct-filter (is_spare b.entries b.owned) (ports_down b)
     (distinct-falling (highest_of b.zero b.one) (highest_of b.zero b.one + 1 - lowest_of b.zero b.one) (low-bound b.zero b.one is.zero is.one))) in
-    let most : length (as_ports (granted b)).ports ≤ 16 = subst (λ n. n ≤ 16) (sym (length-map (granted b) (λ p. (let q : Port = record { 0 = p } in q)))) (few (length (spares b)) (spares b)) in
+    let most : length (as_ports (granted b)).ports ≤ 16 = subst (λ n. n ≤ 16) (sym (length-map (granted b) (λ p. (let q : Port = record { 0 = p } in q)))) (few (length (spares b) - b.ahead) (spares b)) in
     let spare : (p : ℕ) → is_listed p (granted b) ≡ true → is_spare b.entries b.owned p ≡ true = λ p h. chosen-spare b p (has-listed p (granted b) ∙ h) in
     record {
       most = most;

@@ -1,11 +1,15 @@
 -- The lemmas that proofs of other crates may cite.
 
+-- Ports that are asked for ahead.
+pub use Rattle.spec_binding.proofs.Ahead.{ahead-fits, ahead-keeps, ahead-stays, ahead-entries, ahead-accounts, works-behind}
+-- Where no port is drawn, no port may be given out.
+pub use Rattle.spec_binding.proofs.Choosing.{drawn-busy}
 -- A list reversed and joined, in the order of a trace.
 pub use Rattle.spec_binding.proofs.Accounting.{reversed-join}
 -- The records that a datagram gives come in their turn.
 pub use Rattle.spec_binding.proofs.Comes.{turn-comes}
 -- A book stays a book after each change, row and reset.
-pub use Rattle.spec_binding.proofs.Keeping.{wish-keeps, idle-keeps, taken-keeps, alone-row-keeps, empty-keeps, restart-keeps, lone-keeps, fed-keeps, founded-keeps}
+pub use Rattle.spec_binding.proofs.Keeping.{change-keeps, wish-keeps, idle-keeps, taken-keeps, alone-row-keeps, empty-keeps, restart-keeps, lone-keeps, fed-keeps, founded-keeps}
 -- What rows leave as it is.
 pub use Rattle.spec_binding.proofs.Leaving.{change-leaves, taken-together}
 -- Gaining ports changes only the owned ports.
@@ -30,7 +34,9 @@ pub use Rattle.spec_binding.proofs.Slots.{was-there}
 pub use Rattle.spec_binding.proofs.Staying.{turned-place}
 -- A wish for a port, an idle pair or one that is marked or told at a tick, and a packet that is translated, as acts of
 -- the machine.
-pub use Rattle.spec_binding.proofs.Wishing.{chosen-says, at-key, wish-works, idle-works, carry-works, alone-works}
+pub use Rattle.spec_binding.proofs.Wishing.{ahead-silent, ahead-works, chosen-says, port-says, at-key, wish-works, idle-works, carry-works, alone-works}
+-- A gateway that is synced and not lone is Paired.
+pub use Rattle.spec_binding.proofs.Fitting.{paired-is}
 -- A record that is taken is a part of a step.
 pub use Rattle.spec_binding.proofs.Working.{record-works}
 -- where no pair of a rank has an endpoint, no entry is one

@@ -52,7 +52,7 @@ same-house b b2 now x y letters words t t2 m m2 same step =
     (subst (λ (z : PortBounds). IsStep (moving_in z b2.one) b2.id now x y letters words t t2 m m2) same.zero step))
 
 pub own-house : (b : Book) → IsSameHouse b b
-own-house b = record { id = refl; zero = refl; one = refl; limit = refl; alone = refl }
+own-house b = record { id = refl; zero = refl; one = refl; limit = refl; alone = refl; choice = refl; ahead = refl }
 
 -- ---- parts in which the machine sees nothing
 
@@ -120,7 +120,7 @@ module _ (now : ℕ) (b : Book) (e : Link) (n : ℕ) (h records rest : List Reco
   -- feeding records that aren't the last is no act of the machine
   unseen : promised_of (with_fed e records) ≡ promised_of e → Works now [] [] b e n (record b { coming = rest }) (with_fed e records) n [] h
   unseen same = record {
-    house = record { id = refl; zero = refl; one = refl; limit = refl; alone = refl };
+    house = record { id = refl; zero = refl; one = refl; limit = refl; alone = refl; choice = refl; ahead = refl };
     history = h;
     agrees = fed-stands;
     step = rests (ranges_of b) b.id now (box_at b e h n) (box_at (record b { coming = rest }) (with_fed e records) h n) [] [] [] []
@@ -134,7 +134,7 @@ module _ (now : ℕ) (b : Book) (e : Link) (n : ℕ) (h records rest : List Reco
       let all : (e.promised - length records == 0) ≡ true = eq-eqb (e.promised - length records) 0 (omega (arith, total, none)) in
       let any : is_any b.coming ≡ true = some-any b.coming (λ z. some (sym stands.coming ∙ z)) in
       record {
-        house = record { id = refl; zero = refl; one = refl; limit = refl; alone = refl };
+        house = record { id = refl; zero = refl; one = refl; limit = refl; alone = refl; choice = refl; ahead = refl };
         history = h;
         agrees = fed-stands;
         step = act-step (ranges_of b) b.id now (box_at b e h n) (box_at (record b { coming = rest }) (with_fed e records) h n) HandIn [] [] []
@@ -184,7 +184,7 @@ works-join now letters words b b2 b3 e e2 e3 n n2 n3 ns ns2 h a c =
     let step : IsStep r b.id now (box_at b2 e2 a.history n2) (box_at b3 e3 c.history n3) letters words [] (reverse ns2) [] [] =
     same-house b b2 now (box_at b2 e2 a.history n2) (box_at b3 e3 c.history n3) letters words [] (reverse ns2) [] [] a.house c.step in
     record {
-      house = record { id = c.house.id ∙ a.house.id; zero = c.house.zero ∙ a.house.zero; one = c.house.one ∙ a.house.one; limit = c.house.limit ∙ a.house.limit; alone = c.house.alone ∙ a.house.alone };
+      house = record { id = c.house.id ∙ a.house.id; zero = c.house.zero ∙ a.house.zero; one = c.house.one ∙ a.house.one; limit = c.house.limit ∙ a.house.limit; alone = c.house.alone ∙ a.house.alone; choice = c.house.choice ∙ a.house.choice; ahead = c.house.ahead ∙ a.house.ahead };
       history = c.history;
       agrees = c.agrees;
       step = subst (λ (t : List Note). IsStep r b.id now (box_at b e h n) (box_at b3 e3 c.history n3) letters words [] t [] []) (sym (reverse-append ns ns2))

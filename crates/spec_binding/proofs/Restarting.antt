@@ -30,7 +30,7 @@ use Rattle.spec_pair.specs.Step.{IsStep}
 use Rattle.spec_pair.specs.Talk as machine
 use Rattle.spec_pair.specs.Talk.{MachineRecord}
 use Rattle.spec_pair.proofs.Offered.{batch_new, batch_mirrored, runs_leave}
-use Rattle.spec_binding.specs.Books.{Book, IsBook, empty_book, in_ranges, is_synced, owns}
+use Rattle.spec_binding.specs.Books.{Book, IsBook, emptied, in_ranges, is_synced, owns}
 use Rattle.spec_binding.specs.Machine.{box_at, machine_records, machine_slot, promised_of, ranges_of, slots_of, Works}
 use Rattle.spec_binding.specs.Resets.{back_in, begun_anew, put_lone, restart_batch, restart_link, restart_notes, restarted, retaken}
 use Rattle.spec_binding.proofs.Loads.{lone-not}
@@ -200,9 +200,9 @@ hears now c e e1 h n l is synced bare boot greater from =
 
 -- an unsynced gateway that hears a greater boot does the act HearAnew
 hears-anew : (now : ℕ) (c : Book) (e e1 : Link) (h : List Record) (n : ℕ) (l : Letter) → is_synced c.stage ≡ false → Agrees [] [] e1 → e.boot ≡ e1.boot → e.known < e1.known → l.boot ≡ e1.known
-    → IsStep (ranges_of c) c.id now (box_at c e h n) (box_at (empty_book c.id c.zero c.one c.limit c.alone) e1 [] 0) (l ∷ []) [] [] [] [] []
+    → IsStep (ranges_of c) c.id now (box_at c e h n) (box_at (emptied c) e1 [] 0) (l ∷ []) [] [] [] [] []
 hears-anew now c e e1 h n l unsynced bare boot greater from =
-    act-step (ranges_of c) c.id now (box_at c e h n) (box_at (empty_book c.id c.zero c.one c.limit c.alone) e1 [] 0) (HearAnew l) (l ∷ []) [] []
+    act-step (ranges_of c) c.id now (box_at c e h n) (box_at (emptied c) e1 [] 0) (HearAnew l) (l ∷ []) [] []
     (refl, unsynced, subst (λ b. e.known < b) (sym from) greater)
     (λ m i. i, tt)
     (record { up = refl; boot = sym boot; synced = sym unsynced; lone = sym (lone-not c.stage unsynced); peer = sym from; table = λ k. refl; sent = refl; taken = refl; loading = refl; owned = λ p. refl; wants = refl; named = refl; promised = no-promise e1 bare })
@@ -214,7 +214,7 @@ pub restart-works : (now : ℕ) (b : Book) (e e1 : Link) (n : ℕ) (h : List Rec
 restart-works now b e e1 n h l is bare boot greater from = at (is_synced b.stage) refl
   where
     at : (t : Bool) → is_synced b.stage ≡ t
-        → Works now (l ∷ []) [] b e n (let b2 : Book = cond t (begun_anew b) (empty_book b.id b.zero b.one b.limit b.alone) in b2)
+        → Works now (l ∷ []) [] b e n (let b2 : Book = cond t (begun_anew b) (emptied b) in b2)
         (let e2 : Link = cond t (with_promised e1 (length (restart_batch b))) e1 in e2) 0 (let ns : List Note = cond t (retaken b.id now (back_in b.entries)) [] in ns) h
     at true synced =
         let none = is-bare e1 bare in
@@ -223,18 +223,18 @@ restart-works now b e e1 n h l is bare boot greater from = at (is_synced b.stage
         let waiting = none.waiting in
         let room : occupied e1 ≡ 0 = omega (arith, total, promised, waiting) in
         record {
-          house = record { id = refl; zero = refl; one = refl; limit = refl; alone = refl };
+          house = record { id = refl; zero = refl; one = refl; limit = refl; alone = refl; choice = refl; ahead = refl };
           history = restart_batch b;
           agrees = promised_agrees [] [] (restart_batch b) e1 (length (restart_batch b)) room refl bare;
           step = hears now b e e1 h n l is synced bare boot greater from;
         }
-    at false unsynced = record { house = record { id = refl; zero = refl; one = refl; limit = refl; alone = refl }; history = []; agrees = bare; step = hears-anew now b e e1 h n l unsynced bare boot greater from }
+    at false unsynced = record { house = record { id = refl; zero = refl; one = refl; limit = refl; alone = refl; choice = refl; ahead = refl }; history = []; agrees = bare; step = hears-anew now b e e1 h n l unsynced bare boot greater from }
 
 -- the operator's word is the act PeerOff
 pub word-works : (now : ℕ) (b : Book) (e e1 : Link) (n number : ℕ) (h : List Record) → IsBook b → is_synced b.stage ≡ true → Agrees [] [] e1 → e.boot ≡ e1.boot → e1.known ≡ number
     → Works now [] (number ∷ []) b e n (put_lone b) e1 0 (retaken b.id now (back_in b.entries)) h
 word-works now b e e1 n number h is synced bare boot known = record {
-  house = record { id = refl; zero = refl; one = refl; limit = refl; alone = refl };
+  house = record { id = refl; zero = refl; one = refl; limit = refl; alone = refl; choice = refl; ahead = refl };
   history = [];
   agrees = bare;
   step = act-step (ranges_of b) b.id now (box_at b e h n) (box_at (put_lone b) e1 [] 0) (PeerOff number (reverse (back_in b.entries))) [] (number ∷ []) (retaken b.id now (back_in b.entries))

@@ -29,11 +29,11 @@ use Rattle.spec_binding.specs.declared.changes.Change.TheVariants as change_of
 use Rattle.spec_binding.specs.declared.changes.Transition.{Transition}
 use Rattle.spec_binding.specs.declared.changes.PortRequest.{PortRequest}
 use Rattle.spec_binding.specs.declared.changes.Want.TheVariants as want
-use Rattle.spec_binding.specs.Books.{Book, IsBook, empty_book, is_lone, is_paired, is_promised, is_synced}
+use Rattle.spec_binding.specs.Books.{Book, IsBook, emptied, is_lone, is_paired, is_promised, is_synced}
 use Rattle.spec_binding.specs.WellFormed.{IsWellFormedEndpoint}
 use Rattle.spec_binding.specs.Resets.{begun_anew, put_lone, restarted}
 use Rattle.spec_binding.specs.Serving.{serving, serving_by, Stays}
-use Rattle.spec_binding.specs.Rows.{accept_row, accepted_row, after, alone_row, answering, ask_row, asked_row, changed, ending, gives_way, grant_row, idle_row, install_row, is_at_limit, is_takeable, known_wish, left_row, marked_row, may_want, new_pair, new_wish, no_row, none_row, numbers_of, paired_wish, port_for, proposed_row, quiet, refuse_row, refused_row, release_row, released_row, row, row_of, sought_row, stayed_row, synced_row, taken_book, taken_what, taking, telling_row, told_row, unsynced_after, unsynced_what, wish, wish_by, wish_of, yes_row}
+use Rattle.spec_binding.specs.Rows.{accept_row, accepted_row, after, alone_row, answering, ask_row, asked_row, changed, ending, gives_way, grant_row, idle_row, install_row, is_at_limit, is_takeable, known_wish, left_row, marked_row, may_want, new_pair, new_wish, no_row, wanting_row, numbers_of, paired_wish, port_for, proposed_row, quiet, refuse_row, refused_row, release_row, released_row, row, row_of, sought_row, stayed_row, synced_row, taken_book, taken_what, taking, telling_row, told_row, unsynced_after, unsynced_what, wish, wish_by, wish_of, yes_row}
 use Rattle.spec_binding.proofs.Keeping.{alone-row-keeps, idle-keeps, taken-keeps, wish-keeps}
 use Rattle.spec_binding.proofs.Knowing.{translating-pair}
 use Rattle.spec_binding.proofs.Members.{gained-is}
@@ -346,7 +346,7 @@ module _ (b : Book) (x : Endpoint) (p : Pair) (y : Entry) (s : Serves b.entries 
   paired-goes false true q free unlike = (y, s, mine)
   paired-goes false false q free unlike = (y, adds-other (entry_in (state.Pending false) q) free (λ own same. unlike same), mine)
 
-  none-goes : (full : Bool) → GoesOn b x p (none_row b full)
+  none-goes : (full : Bool) → GoesOn b x p (wanting_row b full)
   none-goes full = at (may_want b full)
     where
       at : (t : Bool) → GoesOn b x p (let r : Transition = cond t (row change_of.Want (Some rec.Want) None) quiet in r)
@@ -519,7 +519,7 @@ revived-serves es x p keys one h =
 
 pub restart-moves-none : (b : Book) (x : Endpoint) (p : Pair) → IsBook b → is_synced b.stage ≡ true → serving b x ≡ Some p → serving (restarted b) x ≡ Some p
 restart-moves-none b x p is synced h =
-    ap (λ (c : Book). serving c x) (cond-true (is_synced b.stage) (begun_anew b) (empty_book b.id b.zero b.one b.limit b.alone) synced) ∙ revived-serves b.entries x p is.keys is.endpoints h
+    ap (λ (c : Book). serving c x) (cond-true (is_synced b.stage) (begun_anew b) (emptied b) synced) ∙ revived-serves b.entries x p is.keys is.endpoints h
 
 pub word-moves-none : (b : Book) (x : Endpoint) (p : Pair) → IsBook b → serving b x ≡ Some p → serving (put_lone b) x ≡ Some p
 word-moves-none b x p is h = revived-serves b.entries x p is.keys is.endpoints h

@@ -34,7 +34,7 @@ use Rattle.spec_binding.specs.declared.changes.Change.TheVariants.{Keep}
 use Rattle.spec_binding.specs.declared.changes.Transition.{Transition}
 use Rattle.spec_binding.specs.declared.changes.PortRequest.{PortRequest}
 use Rattle.spec_binding.specs.declared.changes.Want.TheVariants as want
-use Rattle.spec_binding.specs.Books.{Book, IsBook, empty_book, is_lone, is_paired, is_synced, load_of}
+use Rattle.spec_binding.specs.Books.{Book, IsBook, emptied, is_lone, is_paired, is_synced, load_of}
 use Rattle.spec_binding.specs.Ledgers.{Ledger, bare_ledger, lone_ledger, carried_ledger, go_on_all, ledger_after, release_all, lives_after, lives_loaded, may_ask, restarted_ledger, rests_for, taken_ledger}
 use Rattle.spec_binding.specs.Resets.{back_in, begun_anew, restart_notes, retaken}
 use Rattle.spec_binding.specs.Rows.{after, alone_row, answered, changed, idle_row, is_full, sought_row, load_taken, load_what, noted_by, noted_with, quiet, release_row, released_row, row, row_of, taken_what, unsynced_after, unsynced_what, use_row, used_row, wish, wish_by, wish_of}
@@ -244,7 +244,7 @@ pub restarted-accounts : (now : ℕ) (l : Ledger) (h : List Note) → IsBook l.b
 restarted-accounts now l h is a = at (is_synced l.book.stage) refl
   where
     at : (t : Bool) → is_synced l.book.stage ≡ t → Accounts now (record l {
-      book = cond t (begun_anew l.book) (empty_book l.book.id l.book.zero l.book.one l.book.limit l.book.alone);
+      book = cond t (begun_anew l.book) (emptied l.book);
       lives = cond t (lives_of_pairs l.book.entries l.lives) [];
     }) (reverse (let ns : List Note = cond t (retaken l.book.id now (back_in l.book.entries)) [] in ns) ++ h)
     at true synced = record { uses = revived-uses now l h is a; none = λ un. absurd (cc); idle = retaken-idle l.book.id now (back_in l.book.entries) h a.idle }

@@ -1,10 +1,11 @@
 -- A wish for a port, an idle pair at a tick, and a packet that is translated, as acts of the machine.
-use Rattle.std.proofs.Common.{◌≡◌, ℕ, zero, suc, ◌+◌, ◌-◌, Bool, true, false, cond, not, ◌&&◌, Option, Some, None, inl, inr, ◌⊎◌, List, [], ◌∷◌, ◌++◌, reverse, refl, sym, ap, ◌∙◌}
+use Rattle.std.proofs.Common.{◌≡◌, ℕ, zero, suc, ◌+◌, ◌-◌, ◌*◌, Bool, true, false, cond, not, ◌&&◌, Option, Some, None, option_and_then, inl, inr, ◌⊎◌, List, [], ◌∷◌, ◌++◌, reverse, refl, sym, ap, subst, ◌∙◌}
 use Rattle.std.proofs.lemmas.Bool.{and_parts, not-true}
 use Rattle.std.proofs.lemmas.List.{map-append, append-nil}
 use Rattle.addresses.specs.declared.transport.Parity.{Parity}
 use Rattle.addresses.specs.declared.transport.Port.{Port}
 use Rattle.addresses.specs.Transport.{parity_of}
+use Rattle.nat_types.specs.declared.notes.NoteKind.{NoteKind}
 use Rattle.nat_types.specs.declared.notes.NoteKind.TheVariants as happens
 use Rattle.nat_types.specs.declared.pairs.EntryState.{EntryState}
 use Rattle.nat_types.specs.declared.pairs.EntryState.TheVariants as state
@@ -15,8 +16,11 @@ use Rattle.nat_types.specs.declared.records.Record.{Record}
 use Rattle.nat_types.specs.declared.records.Record.TheVariants as rec
 use Rattle.bindings.specs.declared.entries.Entry.{Entry}
 use Rattle.bindings.specs.Entries.{slot_of, entry_of, entry_in}
+use Rattle.bindings.specs.Numbers.{numbers_of as drawn_numbers}
 use Rattle.bindings.specs.Ports.{is_free_in, is_open_in, key_of, lowest_of, highest_of}
 use Rattle.bindings.proofs.Offered.{none_from_is_none, slot-key}
+use Rattle.port_range.specs.Drawn.{drawn_in, drawn_like, drawn_open, first_from, first_round, open_blocks, owned_in, picked}
+use Rattle.port_range.specs.Marks.{other_parity}
 use Rattle.port_range.specs.Ports.{chosen_open, first_where, fits, is_listed, is_open, lowest_open, or_else}
 use Rattle.link.specs.Link.{Link, with_pushed}
 use Rattle.spec_pair.specs.Acts.{Do, LoneNew, LoneUse, LoneDrop, WantPorts}
@@ -24,16 +28,19 @@ use Rattle.spec_pair.specs.Box.{Letter}
 use Rattle.spec_pair.specs.Mapped.{slot_in, machine_record}
 use Rattle.spec_pair.specs.Step.{IsStep}
 use Rattle.spec_pair.specs.Talk as machine
+use Rattle.spec_binding.specs.declared.changes.Change.{Change}
 use Rattle.spec_binding.specs.declared.changes.Change.TheVariants.{Keep, Add, Drop, Turn}
 use Rattle.spec_binding.specs.declared.changes.Change.TheVariants as change_of
 use Rattle.spec_binding.specs.declared.changes.Transition.{Transition}
 use Rattle.spec_binding.specs.declared.changes.PortRequest.{PortRequest}
 use Rattle.spec_binding.specs.declared.changes.Want.TheVariants as want
+use Rattle.spec_binding.specs.declared.setups.Choice.{Choice}
+use Rattle.spec_binding.specs.declared.setups.Choice.TheVariants.{Lowest, Drawn}
 use Rattle.spec_binding.specs.declared.setups.Stage.{Stage}
 use Rattle.spec_binding.specs.declared.setups.Stage.TheVariants.{Unsynced, Paired, Lone}
 use Rattle.spec_binding.specs.Books.{Book, is_synced, is_lone, is_paired, owns}
 use Rattle.spec_binding.specs.Machine.{box_at, machine_records, ranges_of, slots_of, Stands, Works}
-use Rattle.spec_binding.specs.Rows.{after, alone_row, answered, asking, marked_row, paired_wish, sought_row, telling_row, carry_row, idle_row, is_at_limit, known_wish, may_want, new_pair, new_wish, none_row, noted_by, noted_with, port_for, proposal, pushed_by, quiet, release_row, released_row, row, use_row, used_row, wish, wish_by, wish_of}
+use Rattle.spec_binding.specs.Rows.{after, ahead_row, alone_row, answered, asking, changed, is_cause, is_short_after, marked_row, paired_wish, sought_row, telling_row, carry_row, idle_row, is_at_limit, known_wish, may_want, new_pair, new_wish, wanting_row, noted_by, noted_with, port_by, port_for, proposal, pushed_by, quiet, release_row, released_row, row, use_row, used_row, wish, wish_by, wish_of}
 use Rattle.spec_binding.proofs.Parts.{act-step}
 use Rattle.spec_binding.proofs.Slots.{slots-at, slots-drop, slots-none, slots-put, slots-turn}
 use Rattle.spec_binding.proofs.Taking.{is-unbound}
@@ -59,14 +66,49 @@ open-says test low high parity p h = at (lowest_open test low high (Some parity)
     at None is h = lowest-says test low high None p h
     at (Some x) is h = lowest-says test low high (Some parity) p (is ∙ h)
 
+-- ---- of a drawn port too
+
+round-says : (test : ℕ → Bool) (parity : Parity) (block place : ℕ) (p : Port) → first_round test parity block place ≡ Some p → test p.0 ≡ true
+round-says test parity block place p h = at (first_from test parity block place) refl h
+  where
+    at : (o : Option Port) → first_from test parity block place ≡ o → or_else o (first_from test parity block (block * 64)) ≡ Some p → test p.0 ≡ true
+    at None is h = lowest-says test (block * 64) (block * 64 + 63) (Some parity) p h
+    at (Some x) is h = lowest-says test place (block * 64 + 63) (Some parity) p (is ∙ h)
+
+in-says : (test owned : ℕ → Bool) (parity : Parity) (y block : ℕ) (p : Port) → drawn_in test owned parity y block ≡ Some p → test p.0 ≡ true
+in-says test owned parity y block p h = at (picked (owned_in owned parity block) y) h
+  where
+    at : (o : Option ℕ) → option_and_then (first_round test parity block) o ≡ Some p → test p.0 ≡ true
+    at None h = absurd (cc)
+    at (Some place) h = round-says test parity block place p h
+
+like-says : (test owned : ℕ → Bool) (parity : Parity) (x y : ℕ) (p : Port) → drawn_like test owned parity x y ≡ Some p → test p.0 ≡ true
+like-says test owned parity x y p h = at (picked (open_blocks test parity) x) h
+  where
+    at : (o : Option ℕ) → option_and_then (drawn_in test owned parity y) o ≡ Some p → test p.0 ≡ true
+    at None h = absurd (cc)
+    at (Some block) h = in-says test owned parity y block p h
+
+drawn-says : (test owned : ℕ → Bool) (parity : Parity) (x y : ℕ) (p : Port) → drawn_open test owned parity x y ≡ Some p → test p.0 ≡ true
+drawn-says test owned parity x y p h = at (drawn_like test owned parity x y) refl h
+  where
+    at : (o : Option Port) → drawn_like test owned parity x y ≡ o → or_else o (drawn_like test owned (other_parity parity) x y) ≡ Some p → test p.0 ≡ true
+    at None is h = like-says test owned (other_parity parity) x y p h
+    at (Some q) is h = like-says test owned parity x y p (is ∙ h)
+
+-- by each choice
+pub port-says : (b : Book) (e : Endpoint) (choice : Choice) (p : Port) → port_by choice b e ≡ Some p → is_open_in b.entries b.owned e.protocol p.0 ≡ true
+port-says b e Lowest p h = open-says (is_open_in b.entries b.owned e.protocol) (lowest_of b.zero b.one) (highest_of b.zero b.one) (parity_of e.port.0) p h
+port-says b e (Drawn key) p h =
+    drawn-says (is_open_in b.entries b.owned e.protocol) (λ q. is_listed q b.owned) (parity_of e.port.0) (drawn_numbers key e).0 (drawn_numbers key e).1 p h
+
 pub record IsOpen (b : Book) (e : Endpoint) (port : Port) : Type 0 where
   pub owned : owns b port.0 ≡ true
   pub free : slot_of b.entries (new_pair e port).key ≡ None
 
 pub chosen-says : (b : Book) (e : Endpoint) (port : Port) → port_for b e ≡ Some port → IsOpen b e port
 chosen-says b e port h =
-    let test = is_open_in b.entries b.owned e.protocol in
-    let parts = and_parts (is_listed port.0 b.owned) (is_free_in b.entries e.protocol port.0) (open-says test (lowest_of b.zero b.one) (highest_of b.zero b.one) (parity_of e.port.0) port h) in
+    let parts = and_parts (is_listed port.0 b.owned) (is_free_in b.entries e.protocol port.0) (port-says b e b.choice port h) in
     record { owned = parts.0; free = none_from_is_none (slot_of b.entries (key_of e.protocol port.0)) parts.1 }
 
 pub at-key : (es : List Entry) (k : Key) (x : Entry) → slot_of es k ≡ Some x → slot_of es x.pair.key ≡ Some x
@@ -148,18 +190,28 @@ module _ (now : ℕ) (c : Book) (e : Link) (h : List Record) (n : ℕ) (letters 
   known-steps p state.Alone = rest-row
   known-steps p state.Held = rest-row
 
-  none-steps : is_synced c.stage ≡ true → (full : Bool) → WishSteps (none_row c full)
-  none-steps synced full = at (may_want c full) refl
+  paired-stage : (s : Stage) → is_paired s ≡ true → (is_synced s ≡ true) × (is_lone s ≡ false)
+  paired-stage Unsynced h = cc
+  paired-stage Paired h = (refl, refl)
+  paired-stage Lone h = cc
+
+  none-steps : (full : Bool) → WishSteps (wanting_row c full)
+  none-steps full = at (may_want c full) refl
     where
       at : (t : Bool) → may_want c full ≡ t → WishSteps (let r : Transition = cond t (row change_of.Want (Some rec.Want) None) quiet in r)
       at true may =
-          let one = and_parts (not (is_lone c.stage)) (not c.wants && not full) may in
-          let two = and_parts (not c.wants) (not full) one.1 in
-          want-row synced (not-true (is_lone c.stage) one.0) (not-true c.wants two.0)
+          let one = and_parts (is_paired c.stage) (not c.wants && not full) may in
+          let stage = paired-stage c.stage one.0 in
+          want-row stage.0 stage.1 (not-true c.wants (and_parts (not c.wants) (not full) one.1).0)
       at false may = rest-row
 
+  -- ports asked for ahead
+  ahead-steps : (t full : Bool) → WishSteps (let r : Transition = cond t (wanting_row c full) quiet in r)
+  ahead-steps true full = none-steps full
+  ahead-steps false full = rest-row
+
   new-steps : is_synced c.stage ≡ true → (apart full : Bool) (x : Endpoint) → entry_of c.entries x ≡ None → (o : Option Port) → port_for c x ≡ o → WishSteps (new_wish c apart full x o).row
-  new-steps synced apart full x none None found = none-steps synced full
+  new-steps synced apart full x none None found = none-steps full
   new-steps synced apart full x none (Some port) found = at (is_lone c.stage) refl
     where
       begins : MayBegin (new_pair x port)
@@ -318,11 +370,6 @@ module _ (now : ℕ) (c : Book) (e : Link) (h : List Record) (n : ℕ) (letters 
   telling-steps false x state.Alone synced lone is found = tells x synced lone found (slot x state.Alone is found)
   telling-steps full x state.Held synced lone is found = rest-row
 
-  paired-stage : (s : Stage) → is_paired s ≡ true → (is_synced s ≡ true) × (is_lone s ≡ false)
-  paired-stage Unsynced h = cc
-  paired-stage Paired h = (refl, refl)
-  paired-stage Lone h = cc
-
   alone-steps : (apart full : Bool) (k : Key) → WishSteps (alone_row c apart full k)
   alone-steps apart full k = at (is_paired c.stage) refl apart (slot_of c.entries k) refl
     where
@@ -348,3 +395,27 @@ carry-works now b e n h counts k stands = row-works counts now b e n h (carry_ro
 
 pub alone-works : (now : ℕ) (b : Book) (e : Link) (n : ℕ) (h : List Record) (apart full : Bool) (k : Key) → Stands b e h → Works now [] [] b e n (after b (alone_row b apart full k)) (answered e (alone_row b apart full k).answer) n (noted_by b.id now (alone_row b apart full k).what) h
 alone-works now b e n h apart full k stands = row-works true now b e n h (alone_row b apart full k) stands (alone-steps now b e h n [] [] apart full k)
+
+-- ---- ports asked for ahead
+
+wanting-silent : (b : Book) (full : Bool) → ((wanting_row b full).what ≡ None) × ((wanting_row b full).ended ≡ None)
+wanting-silent b full = at (may_want b full)
+  where
+    at : (t : Bool) → let r : Transition = cond t (row change_of.Want (Some rec.Want) None) quiet in (r.what ≡ None) × (r.ended ≡ None)
+    at true = (refl, refl)
+    at false = (refl, refl)
+
+pub ahead-silent : (b : Book) (full : Bool) (ch : Change) → ((ahead_row b full ch).what ≡ None) × ((ahead_row b full ch).ended ≡ None)
+ahead-silent b full ch = at (is_cause b ch && is_short_after (changed ch b) ch)
+  where
+    at : (t : Bool) → let r : Transition = cond t (wanting_row (changed ch b) full) quiet in (r.what ≡ None) × (r.ended ≡ None)
+    at true = wanting-silent (changed ch b) full
+    at false = (refl, refl)
+
+pub ahead-works : (now : ℕ) (b : Book) (e : Link) (n : ℕ) (h : List Record) (full : Bool) (ch : Change) → Stands (changed ch b) e h → Works now [] [] (changed ch b) e n (after (changed ch b) (ahead_row b full ch)) (answered e (ahead_row b full ch).answer) n [] h
+ahead-works now b e n h full ch stands =
+    let c : Book = changed ch b in
+    let r : Transition = ahead_row b full ch in
+    subst (λ (o : Option NoteKind). Works now [] [] c e n (after c r) (answered e r.answer) n (noted_with true c.id now o) h)
+    (ahead-silent b full ch).0
+    (row-works true now c e n h r stands (ahead-steps now c e h n [] [] (is_cause b ch && is_short_after c ch) full))

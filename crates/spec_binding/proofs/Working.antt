@@ -23,24 +23,24 @@ pub record Keeps (b b2 : Book) : Type 0 where
   pub coming : b2.coming ≡ b.coming
 
 pub same-keeps : (b : Book) → Keeps b b
-same-keeps b = record { house = record { id = refl; zero = refl; one = refl; limit = refl; alone = refl }; coming = refl }
+same-keeps b = record { house = record { id = refl; zero = refl; one = refl; limit = refl; alone = refl; choice = refl; ahead = refl }; coming = refl }
 
 pub changed-keeps : (ch : Change) (b : Book) → Keeps b (changed ch b)
 changed-keeps Keep b = same-keeps b
-changed-keeps (Add e) b = record { house = record { id = refl; zero = refl; one = refl; limit = refl; alone = refl }; coming = refl }
-changed-keeps (Turn k s) b = record { house = record { id = refl; zero = refl; one = refl; limit = refl; alone = refl }; coming = refl }
-changed-keeps (Renew k) b = record { house = record { id = refl; zero = refl; one = refl; limit = refl; alone = refl }; coming = refl }
-changed-keeps (Drop k) b = record { house = record { id = refl; zero = refl; one = refl; limit = refl; alone = refl }; coming = refl }
-changed-keeps (Yield q p) b = record { house = record { id = refl; zero = refl; one = refl; limit = refl; alone = refl }; coming = refl }
-changed-keeps Want b = record { house = record { id = refl; zero = refl; one = refl; limit = refl; alone = refl }; coming = refl }
-changed-keeps (Give g) b = record { house = record { id = refl; zero = refl; one = refl; limit = refl; alone = refl }; coming = refl }
+changed-keeps (Add e) b = record { house = record { id = refl; zero = refl; one = refl; limit = refl; alone = refl; choice = refl; ahead = refl }; coming = refl }
+changed-keeps (Turn k s) b = record { house = record { id = refl; zero = refl; one = refl; limit = refl; alone = refl; choice = refl; ahead = refl }; coming = refl }
+changed-keeps (Renew k) b = record { house = record { id = refl; zero = refl; one = refl; limit = refl; alone = refl; choice = refl; ahead = refl }; coming = refl }
+changed-keeps (Drop k) b = record { house = record { id = refl; zero = refl; one = refl; limit = refl; alone = refl; choice = refl; ahead = refl }; coming = refl }
+changed-keeps (Yield q p) b = record { house = record { id = refl; zero = refl; one = refl; limit = refl; alone = refl; choice = refl; ahead = refl }; coming = refl }
+changed-keeps Want b = record { house = record { id = refl; zero = refl; one = refl; limit = refl; alone = refl; choice = refl; ahead = refl }; coming = refl }
+changed-keeps (Give g) b = record { house = record { id = refl; zero = refl; one = refl; limit = refl; alone = refl; choice = refl; ahead = refl }; coming = refl }
 changed-keeps (Gain g) b =
     let is = gained-is b (numbers_of g) in
-    record { house = record { id = ap (λ (x : Book). x.id) is; zero = ap (λ (x : Book). x.zero) is; one = ap (λ (x : Book). x.one) is; limit = ap (λ (x : Book). x.limit) is; alone = ap (λ (x : Book). x.alone) is }; coming = ap (λ (x : Book). x.coming) is }
+    record { house = record { id = ap (λ (x : Book). x.id) is; zero = ap (λ (x : Book). x.zero) is; one = ap (λ (x : Book). x.one) is; limit = ap (λ (x : Book). x.limit) is; alone = ap (λ (x : Book). x.alone) is; choice = ap (λ (x : Book). x.choice) is; ahead = ap (λ (x : Book). x.ahead) is }; coming = ap (λ (x : Book). x.coming) is }
 
 pub loaded-keeps : (b : Book) (r : Record) (o : Option Load) → Keeps b (load_taken b r o)
 loaded-keeps b r None = same-keeps b
-loaded-keeps b r (Some l) = record { house = record { id = refl; zero = refl; one = refl; limit = refl; alone = refl }; coming = refl }
+loaded-keeps b r (Some l) = record { house = record { id = refl; zero = refl; one = refl; limit = refl; alone = refl; choice = refl; ahead = refl }; coming = refl }
 
 pub stands-answer : (b b2 : Book) (e : Link) (h : List Record) (o : Option Record) → Keeps b b2 → Stands b e h → Stands b2 (answered e o) (h ++ pushed_by o)
 stands-answer b b2 e h o keeps stands = subst (λ (rs : List Record). Agrees (h ++ pushed_by o) rs (answered e o)) (sym keeps.coming) (agrees-answer h b.coming e o stands)

@@ -16,19 +16,24 @@ use Rattle.link.specs.Grammar.{IsWellFormedPair, IsWellFormedRecord}
 use Rattle.link.specs.Link.{Link}
 use Rattle.resync.specs.Batch.{AreHeldElsewhere}
 use Rattle.resync.specs.Loading.{Load}
+use Rattle.spec_binding.specs.declared.setups.Choice.{Choice}
+use Rattle.spec_binding.specs.declared.setups.Rules.{Rules}
 use Rattle.spec_binding.specs.declared.setups.Stage.{Stage}
 use Rattle.spec_binding.specs.declared.setups.Stage.TheVariants.{Unsynced, Paired, Lone}
 
 -- The book of a gateway: who it is, the ranges of both gateways, the most pairs that one inside address may have, after
--- how many centiseconds without an answer of the peer it is apart (0: never), its stage, whether it has taken Begin and
--- not yet Done, the last port that an Owner named, its entries, the ports that it owns (while it loads, the ports that it
--- is to own), whether it has a Want open, and the records of a promised batch that aren't fed to the link yet.
+-- how many centiseconds without an answer of the peer it is apart (0: never), by which choice an endpoint gets its port,
+-- how many free ports the gateway asks for ahead and keeps for itself, its stage, whether it has taken Begin and not yet
+-- Done, the last port that an Owner named, its entries, the ports that it owns (while it loads, the ports that it is to
+-- own), whether it has a Want open, and the records of a promised batch that aren't fed to the link yet.
 pub record Book : Type 0 where
   pub id : GatewayId
   pub zero : PortBounds
   pub one : PortBounds
   pub limit : Option ℕ
   pub alone : ℕ
+  pub choice : Choice
+  pub ahead : ℕ
   pub stage : Stage
   pub begun : Bool
   pub named : ℕ
@@ -77,13 +82,15 @@ abbrev pub owns : Book → ℕ → Bool
 owns b port = is_listed port b.owned
 
 -- the book of a gateway without a table
-abbrev pub empty_book : GatewayId → PortBounds → PortBounds → Option ℕ → ℕ → Book
-empty_book id zero one limit alone = record {
+abbrev pub empty_book : GatewayId → PortBounds → PortBounds → Rules → Book
+empty_book id zero one rules = record {
   id = id;
   zero = zero;
   one = one;
-  limit = limit;
-  alone = alone;
+  limit = rules.limit;
+  alone = rules.alone;
+  choice = rules.choice;
+  ahead = rules.ahead;
   stage = Unsynced;
   begun = false;
   named = 0;
@@ -93,13 +100,17 @@ empty_book id zero one limit alone = record {
   coming = [];
 }
 
+-- the book of the same gateway without its table
+abbrev pub emptied : Book → Book
+emptied b = record b { stage = Unsynced; begun = false; named = 0; entries = []; owned = []; wants = false; coming = [] }
+
 -- the ports of a range, in rising order
 abbrev pub ports_of : PortBounds → List ℕ
 ports_of range = range_with_len range.lowest.0 (range.highest.0 + 1 - range.lowest.0)
 
 -- the book of gateway 0 as it is founded: lone, with the ports of range zero
-abbrev pub founded_book : PortBounds → PortBounds → Option ℕ → ℕ → Book
-founded_book zero one limit alone = record (empty_book Zero zero one limit alone) { stage = Lone; owned = ports_of zero }
+abbrev pub founded_book : PortBounds → PortBounds → Rules → Book
+founded_book zero one rules = record (empty_book Zero zero one rules) { stage = Lone; owned = ports_of zero }
 
 -- the table that is being loaded, as a part of the book
 abbrev pub load_of : Book → Load

@@ -80,6 +80,8 @@ pub record IsSameHouse (b b2 : Book) : Type 0 where
   pub one : b2.one ≡ b.one
   pub limit : b2.limit ≡ b.limit
   pub alone : b2.alone ≡ b.alone
+  pub choice : b2.choice ≡ b.choice
+  pub ahead : b2.ahead ≡ b.ahead
 
 -- A part of a step, from book `b` and end `e`, where `h` was pushed and `n` records of the peer are taken, to book
 -- `b2`, end `e2` and `n2`. There is a list of records with which `e2` agrees, and acts of the machine that make exactly

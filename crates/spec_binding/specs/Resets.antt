@@ -11,7 +11,7 @@ use Rattle.bindings.specs.Revivals.{revived_entries, comes_back}
 use Rattle.link.specs.Link.{Link, with_promised}
 use Rattle.resync.specs.Batch.{batch_of}
 use Rattle.spec_binding.specs.declared.setups.Stage.TheVariants.{Paired, Lone}
-use Rattle.spec_binding.specs.Books.{Book, is_synced, empty_book}
+use Rattle.spec_binding.specs.Books.{Book, emptied, is_synced}
 
 -- the pairs that become Live by a reset: those that waited for an answer, marked or not, and those made alone
 abbrev pub back_in : List Entry → List Pair
@@ -39,7 +39,7 @@ abbrev pub restarted : Book → Book
 restarted b =
     if is_synced b.stage
     then begun_anew b
-    else empty_book b.id b.zero b.one b.limit b.alone
+    else emptied b
 
 -- the notes made when a greater boot of the peer is heard
 abbrev pub restart_notes : Book → ℕ → List Note

@@ -1,9 +1,11 @@
 -- The record table: what a record, a wish of the own side, an idle pair or a packet makes of a book, what is answered
 -- and what is noted. A row is the decision on one of these (`Transition`).
-use Rattle.std.specs.Prelude.{ℕ, ◌+◌, ◌-◌, ◌/◌, zero, suc, min, Bool, true, false, ◌&&◌, not, is_none, nat_le, nat_lt, Option, Some, None, List, [], ◌∷◌, length, take, map, if◌then◌else◌}
-use Rattle.std.specs.List.{filter}
+use Rattle.std.specs.Prelude.{ℕ, ◌+◌, ◌-◌, ◌/◌, zero, suc, min, Bool, true, false, ◌&&◌, ◌||◌, not, is_none, nat_le, nat_lt, Option, Some, None, List, [], ◌∷◌, length, take, map, if◌then◌else◌}
+use Rattle.std.specs.List.{filter, list_any}
 use Rattle.addresses.specs.declared.internet.Ip.{Ip}
 use Rattle.addresses.specs.declared.transport.Port.{Port}
+use Rattle.addresses.specs.declared.transport.Protocol.{Protocol}
+use Rattle.addresses.specs.declared.transport.Protocol.TheVariants.{Icmp, Tcp, Udp}
 use Rattle.addresses.specs.Transport.{parity_of}
 use Rattle.nat_types.specs.Same.{same}
 use Rattle.nat_types.specs.Granted.{Granted}
@@ -24,11 +26,14 @@ use Rattle.nat_types.specs.declared.records.Record.TheVariants.{Install, Accept,
 use Rattle.bindings.specs.declared.entries.Entry.{Entry}
 use Rattle.bindings.specs.Entries.{slot_of, entry_of, held_entry_of, entry_in, pairs_of}
 use Rattle.bindings.specs.Lists.{put_in, with_state, without}
-use Rattle.bindings.specs.Ports.{chosen_port, is_vacant, is_spare, lowest_of, highest_of}
+use Rattle.bindings.specs.Numbers.{numbers_of as drawn_numbers}
+use Rattle.bindings.specs.Ports.{chosen_port, drawn_port, is_vacant, is_spare, lowest_of, highest_of, open_ports}
 use Rattle.bindings.specs.Runs.{own_in}
 use Rattle.port_range.specs.Ports.{is_listed}
 use Rattle.link.specs.Link.{Link, with_pushed, free_places}
 use Rattle.resync.specs.Loading.{Load, loaded}
+use Rattle.spec_binding.specs.declared.setups.Choice.{Choice}
+use Rattle.spec_binding.specs.declared.setups.Choice.TheVariants.{Lowest, Drawn}
 use Rattle.spec_binding.specs.declared.setups.Stage.{Stage}
 use Rattle.spec_binding.specs.declared.setups.Stage.TheVariants.{Paired}
 use Rattle.spec_binding.specs.declared.changes.Change.{Change}
@@ -200,9 +205,9 @@ spares b = filter (is_spare b.entries b.owned) (ports_down b)
 abbrev pub share : ℕ → ℕ
 share f = min 16 (f / 2)
 
--- the ports that are granted: the greatest spare ones, in falling order
+-- the ports that are granted: the greatest spare ones, in falling order; the gateway keeps `ahead` of them for itself
 abbrev pub granted : Book → List ℕ
-granted b = take (share (length (spares b))) (spares b)
+granted b = take (share (length (spares b) - b.ahead)) (spares b)
 
 -- port numbers as the ports of a Grant
 abbrev pub as_ports : List ℕ → Granted
@@ -263,13 +268,13 @@ known_wish p Held = wish (want.TheVariants.Port p.key.port) quiet
 abbrev pub new_pair : Endpoint → Port → Pair
 new_pair e port = record { key = record { protocol = e.protocol; port = port }; endpoint = e }
 
--- whether ports are asked for where no port is free: the gateway isn't lone, no Want is open and the link isn't full
+-- whether the peer may be asked for ports: the gateway is synced and not lone, no Want is open and the link isn't full
 abbrev pub may_want : Book → Bool → Bool
-may_want b full = not (is_lone b.stage) && (not b.wants && not full)
+may_want b full = is_paired b.stage && (not b.wants && not full)
 
--- the row where no port is free
-abbrev pub none_row : Book → Bool → Transition
-none_row b full = (if may_want b full then row change_of.Want (Some record_of.Want) None else quiet)
+-- the row that asks the peer for ports, where it may be asked: where no port is free, and where ports are asked for ahead
+abbrev pub wanting_row : Book → Bool → Transition
+wanting_row b full = (if may_want b full then row change_of.Want (Some record_of.Want) None else quiet)
 
 -- the row that proposes the pair to the peer
 abbrev pub proposal : Pair → Transition
@@ -287,15 +292,22 @@ paired_wish apart full p =
 
 -- the wish of a packet whose endpoint has no pair, with the port that is free for it, or none
 abbrev pub new_wish : Book → Bool → Bool → Endpoint → Option Port → PortRequest
-new_wish b apart full e None = wish want.TheVariants.NoPort (none_row b full)
+new_wish b apart full e None = wish want.TheVariants.NoPort (wanting_row b full)
 new_wish b apart full e (Some port) =
     if is_lone b.stage
     then wish (want.TheVariants.Port port) (row (Add (entry_in Live (new_pair e port))) None (Some (Retaken (new_pair e port))))
     else paired_wish apart full (new_pair e port)
 
+-- the port that an endpoint without a pair gets by a choice, if one is free: the lowest one, or the one that is drawn by
+-- the two numbers of the endpoint; of the inside port's parity, where one of it is free
+abbrev pub port_by : Choice → Book → Endpoint → Option Port
+port_by Lowest b e = chosen_port b.entries b.owned b.zero b.one e.protocol (parity_of e.port.0)
+port_by (Drawn key) b e =
+    drawn_port b.entries b.owned e.protocol (parity_of e.port.0) (drawn_numbers key e).0 (drawn_numbers key e).1
+
 -- the port that an endpoint without a pair gets, if one is free
 abbrev pub port_for : Book → Endpoint → Option Port
-port_for b e = chosen_port b.entries b.owned b.zero b.one e.protocol (parity_of e.port.0)
+port_for b e = port_by b.choice b e
 
 -- whether a number of pairs is the limit or more
 abbrev pub reached : Option ℕ → ℕ → Bool
@@ -466,6 +478,57 @@ noted_with counts i now (Some what) = (record { by = i; at = now; what = what; c
 abbrev pub noted_by : GatewayId → ℕ → Option NoteKind → List Note
 noted_by = noted_with true
 
+-- ---- ports that are asked for ahead
+
+-- whether the gateway is short in a protocol: fewer than `ahead` of its owned ports are free in it
+abbrev pub is_short : Book → Protocol → Bool
+is_short b protocol = nat_lt (length (open_ports b.entries b.owned protocol)) b.ahead
+
+-- whether the gateway is short in some protocol
+abbrev pub is_short_in_any : Book → Bool
+is_short_in_any b = is_short b Icmp || (is_short b Tcp || is_short b Udp)
+
+-- whether a pair in this state is one that the gateway has just made
+abbrev pub is_made : EntryState → Bool
+is_made (Pending marked) = true
+is_made Doomed = false
+is_made Live = true
+is_made (Closing marked) = false
+is_made Alone = true
+is_made Held = false
+
+-- whether a change of this book is a cause to ask for ports ahead: a pair is made, or a granted port becomes owned
+abbrev pub is_cause : Book → Change → Bool
+is_cause b Keep = false
+is_cause b (Add e) = is_made e.state
+is_cause b (Turn k s) = false
+is_cause b (Renew k) = false
+is_cause b (Drop k) = false
+is_cause b (Yield q p) = false
+is_cause b change_of.Want = false
+is_cause b (Give g) = false
+is_cause b (Gain g) = list_any (is_gained b) (numbers_of g)
+
+-- whether the gateway is short after a change: of a pair in its protocol, and else in some protocol
+abbrev pub is_short_after : Book → Change → Bool
+is_short_after b Keep = is_short_in_any b
+is_short_after b (Add e) = is_short b e.pair.key.protocol
+is_short_after b (Turn k s) = is_short_in_any b
+is_short_after b (Renew k) = is_short_in_any b
+is_short_after b (Drop k) = is_short_in_any b
+is_short_after b (Yield q p) = is_short_in_any b
+is_short_after b change_of.Want = is_short_in_any b
+is_short_after b (Give g) = is_short_in_any b
+is_short_after b (Gain g) = is_short_in_any b
+
+-- the row behind the change of a book: ports are asked for, where the change is a cause and the gateway is short after it
+abbrev pub ahead_row : Book → Bool → Change → Transition
+ahead_row b full c = (if is_cause b c && is_short_after (changed c b) c then wanting_row (changed c b) full else quiet)
+
+-- the row behind a row, once the row's answer is pushed
+abbrev pub behind : Book → Link → Transition → Transition
+behind b e r = ahead_row b (is_full (answered e r.answer)) r.change
+
 -- ---- a record at a gateway that isn't synced
 
 -- the stage after a record that loads: by Done the gateway is synced, and the peer has to agree to new pairs
@@ -506,6 +569,10 @@ taken_answer b rests r = (if is_synced b.stage then (row_of b rests r).answer el
 -- the note that is made, if any
 abbrev pub taken_what : Book → Bool → Record → Option NoteKind
 taken_what b rests r = (if is_synced b.stage then (row_of b rests r).what else unsynced_what b r)
+
+-- the row behind a record: ports are asked for behind a Grant by which a port became owned, where the gateway is short
+abbrev pub taken_behind : Book → Link → Bool → Record → Transition
+taken_behind b e rests r = (if is_synced b.stage then behind b e (row_of b rests r) else quiet)
 
 -- the endpoint whose packets needn't wait any more, if any
 abbrev pub taken_ended : Book → Bool → Record → Option Endpoint

@@ -58,14 +58,15 @@ pub record MayGive (b : Book) (g : Granted) : Type 0 where
   pub spare : (port : ℕ) → is_listed port (numbers_of g) ≡ true → is_spare b.entries b.owned port ≡ true
   pub formed : IsWellFormedGrant g
 
--- the identity, the ranges, both limits, the stage, what was loaded and what of a batch is to come
--- are the same
+-- the identity, the ranges, the rules, the stage, what was loaded and what of a batch is to come are the same
 pub record IsBeside (b b2 : Book) : Type 0 where
   pub id : b2.id ≡ b.id
   pub zero : b2.zero ≡ b.zero
   pub one : b2.one ≡ b.one
   pub limit : b2.limit ≡ b.limit
   pub alone : b2.alone ≡ b.alone
+  pub choice : b2.choice ≡ b.choice
+  pub ahead : b2.ahead ≡ b.ahead
   pub stage : b2.stage ≡ b.stage
   pub begun : b2.begun ≡ b.begun
   pub named : b2.named ≡ b.named

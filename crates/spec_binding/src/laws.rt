@@ -24,6 +24,7 @@ ghost use Rattle.resync.specs.Batch.{is_settled};
 ghost use Rattle.spec_pair.specs.Box.{In, Letter, booted, founder};
 ghost use Rattle.spec_pair.specs.Step.{IsStep, WasSent};
 ghost use Rattle.spec_binding.specs.declared.changes.Change.{Change};
+ghost use Rattle.spec_binding.specs.declared.setups.Rules.{Rules};
 ghost use Rattle.spec_binding.specs.Books.{Book, IsBook, empty_book, founded_book};
 ghost use Rattle.spec_binding.specs.Books.{is_lone, is_paired, is_promised, is_synced};
 ghost use Rattle.spec_binding.specs.WellFormed.{Fits, IsBeside, IsSameBatch, IsWellFormedEndpoint};
@@ -32,7 +33,7 @@ ghost use Rattle.spec_binding.specs.Machine.{IsTurn, Stands, Works};
 ghost use Rattle.spec_binding.specs.Resets.{back_in, put_lone, restart_batch, restart_link};
 ghost use Rattle.spec_binding.specs.Resets.{restart_notes, restarted, retaken};
 ghost use Rattle.spec_binding.specs.Serving.{Stays, serving};
-ghost use Rattle.spec_binding.specs.Rows.{after, alone_row, answered, carry_row, changed, idle_row, noted_by, noted_with};
+ghost use Rattle.spec_binding.specs.Rows.{after, ahead_row, alone_row, answered, carry_row, changed, idle_row, noted_by, noted_with};
 ghost use Rattle.spec_binding.specs.Rows.{row_of, taken_answer, taken_book, taken_ended, taken_what, wish_of};
 ghost use Rattle.spec_binding.specs.Waits.{is_waiting};
 ghost use Rattle.nat_types.specs.declared.pairs.Pair.{Pair};
@@ -123,17 +124,17 @@ pub fn books_keep()
 /// The book of a gateway without a table and the founded one are books, and are the boxes with which the machine
 /// begins.
 pub fn books_begin()
-    ensures empty { (id : GatewayId) (zero one : PortBounds) (limit : Option ℕ) (alone : ℕ)
+    ensures empty { (id : GatewayId) (zero one : PortBounds) (rules : Rules)
         → AreBounds zero → AreBounds one → IsPort zero.highest.0 → IsPort one.highest.0
-        → IsBook (empty_book id zero one limit alone) }
-    ensures founded { (zero one : PortBounds) (limit : Option ℕ) (alone : ℕ) → AreBounds zero
+        → IsBook (empty_book id zero one rules) }
+    ensures founded { (zero one : PortBounds) (rules : Rules) → AreBounds zero
         → AreBounds one → IsPort zero.highest.0 → IsPort one.highest.0
-        → IsBook (founded_book zero one limit alone) }
-    ensures booted { (id : GatewayId) (zero one : PortBounds) (limit : Option ℕ)
-        (alone boot capacity : ℕ)
-        → box_at (empty_book id zero one limit alone) (fresh id boot capacity) [] 0 ≡ booted boot }
-    ensures founder { (zero one : PortBounds) (limit : Option ℕ) (alone capacity : ℕ)
-        → AreBounds zero → let b = founded_book zero one limit alone in let r = ranges_of b in
+        → IsBook (founded_book zero one rules) }
+    ensures booted { (id : GatewayId) (zero one : PortBounds) (rules : Rules)
+        (boot capacity : ℕ)
+        → box_at (empty_book id zero one rules) (fresh id boot capacity) [] 0 ≡ booted boot }
+    ensures founder { (zero one : PortBounds) (rules : Rules) (capacity : ℕ)
+        → AreBounds zero → let b = founded_book zero one rules in let r = ranges_of b in
         box_at b (fresh Zero 1 capacity) [] 0 ≡ founder (λ p. r.in_ranges p && r.at_start p) }
 {}
 
@@ -208,6 +209,31 @@ pub fn alone_waits_for_nobody()
         → is_paired l.book.stage ≡ true
         → let after = (go_on_all true now (sought_keys true l.book.entries) l e).ledger in
         is_waiting after.book x ≡ false }
+{}
+
+/// What is asked for behind a change (`ahead_row`, of the book before it): its own change fits the book after the change,
+/// which stays a book, with the same entries and owned ports, and what is pushed is well-formed. It notes nothing, and
+/// ends no wait.
+pub fn ahead_rows()
+    ensures fit { (b : Book) (full : Bool) (c : Change)
+        → Fits (changed c b) (ahead_row b full c).change }
+    ensures answer { (b : Book) (full : Bool) (c : Change)
+        → IfSome (ahead_row b full c).answer IsWellFormedRecord }
+    ensures book { (b : Book) (full : Bool) (c : Change) → IsBook (changed c b)
+        → IsBook (after (changed c b) (ahead_row b full c)) }
+    ensures batch { (b : Book) (full : Bool) (c : Change)
+        → IsSameBatch (changed c b) (after (changed c b) (ahead_row b full c)) }
+    ensures entries { (b : Book) (full : Bool) (c : Change)
+        → (after (changed c b) (ahead_row b full c)).entries ≡ (changed c b).entries }
+    ensures silent { (b : Book) (full : Bool) (c : Change)
+        → ((ahead_row b full c).what ≡ None) × ((ahead_row b full c).ended ≡ None) }
+{}
+
+/// What is asked for behind a change is an act of the machine, or none.
+pub fn ahead_works()
+    ensures { (now : ℕ) (b : Book) (e : Link) (n : ℕ) (h : List Record) (full : Bool)
+        (c : Change) → Stands (changed c b) e h → let w = ahead_row b full c in
+        Works now [] [] (changed c b) e n (after (changed c b) w) (answered e w.answer) n [] h }
 {}
 
 /// A pair that is its endpoint's pair and translates is so after each row and each reset of a synced gateway, unless
@@ -342,14 +368,14 @@ pub fn records_come()
 /// loose segments and, where `inward_refresh` is false, of packets of UDP and ICMP inward. A ledger accounts for the
 /// trace at each boot of the gateway (`begun`, `founded`).
 pub fn accounts_kept()
-    ensures begun { (now : ℕ) (id : GatewayId) (zero one : PortBounds) (limit : Option ℕ)
-        (alone : ℕ) (refresh : Bool) (hashers : Hashers) (h : List Note)
+    ensures begun { (now : ℕ) (id : GatewayId) (zero one : PortBounds) (rules : Rules)
+        (hashers : Hashers) (h : List Note)
         → ((p : Pair) → uses_of id h p ≡ []) → Idle h
-        → Accounts now (bare_ledger (empty_book id zero one limit alone) refresh hashers) h }
-    ensures founded { (now : ℕ) (zero one : PortBounds) (limit : Option ℕ) (alone : ℕ)
-        (refresh : Bool) (hashers : Hashers) (h : List Note)
+        → Accounts now (bare_ledger (empty_book id zero one rules) rules.inward_refresh hashers) h }
+    ensures founded { (now : ℕ) (zero one : PortBounds) (rules : Rules)
+        (hashers : Hashers) (h : List Note)
         → ((p : Pair) → uses_of Zero h p ≡ []) → Idle h
-        → Accounts now (bare_ledger (founded_book zero one limit alone) refresh hashers) h }
+        → Accounts now (bare_ledger (founded_book zero one rules) rules.inward_refresh hashers) h }
     ensures later { (since now : ℕ) (l : Ledger) (h : List Note) → since ≤ now
         → Accounts since l h → Accounts now l h }
     // The notes `ns` are the other gateway's.
@@ -363,6 +389,9 @@ pub fn accounts_kept()
         → IsBook l.book → Accounts now l h → let w = (wish_of l.book apart full e).row in
         Accounts now (ledger_after now w.change l)
         (reverse (noted_by l.book.id now w.what) ++ h) }
+    // Ports that are asked for ahead change nothing of this.
+    ensures ahead { (now : ℕ) (l : Ledger) (h : List Note) (b : Book) (full : Bool) (c : Change)
+        → Accounts now l h → Accounts now (ledger_after now (ahead_row b full c).change l) h }
     ensures taken { (now : ℕ) (l : Ledger) (h : List Note) (r : Record) → IsBook l.book
         → Accounts now l h → Accounts now (taken_ledger now l r)
         (reverse (noted_by l.book.id now (taken_what l.book (rests_for now l r) r)) ++ h) }

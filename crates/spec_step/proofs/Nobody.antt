@@ -29,7 +29,7 @@ use Rattle.spec_binding.specs.declared.changes.Want.{Want}
 use Rattle.spec_binding.specs.declared.changes.Want.TheVariants as want
 use Rattle.spec_binding.specs.Books.{Book, IsBook, is_lone, is_synced}
 use Rattle.spec_binding.specs.Ledgers.{Ledger, sought_keys}
-use Rattle.spec_binding.specs.Rows.{after, is_at_limit, is_full, known_wish, may_want, new_pair, new_wish, none_row, paired_wish, port_for, quiet, row, wish, wish_by, wish_of}
+use Rattle.spec_binding.specs.Rows.{after, is_at_limit, is_full, known_wish, may_want, new_pair, new_wish, wanting_row, paired_wish, port_for, quiet, row, wish, wish_by, wish_of}
 use Rattle.spec_binding.specs.WellFormed.{IsWellFormedEndpoint}
 use Rattle.spec_binding.proofs.Offered.{all-translate, chosen-says, wish-keeps}
 use Rattle.waiting.specs.declared.waits.Ended.TheVariants.{AllPairs}
@@ -87,7 +87,7 @@ known-settled b p (state.Closing false) = λ h. h
 known-settled b p state.Alone = λ h. h
 known-settled b p state.Held = λ h. h
 
-none-settled : (b : Book) (full : Bool) → RowSettled b (none_row b full)
+none-settled : (b : Book) (full : Bool) → RowSettled b (wanting_row b full)
 none-settled b full = at (may_want b full)
   where
     at : (t : Bool) → RowSettled b (let r : Transition = cond t (row change_of.Want (Some record_of.Want) None) quiet in r)

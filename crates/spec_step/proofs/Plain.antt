@@ -27,7 +27,7 @@ use Rattle.spec_binding.specs.declared.changes.Want.TheVariants as want
 use Rattle.spec_binding.specs.Books.{Book, empty_book, is_apart as is_book_apart, is_lone, is_paired, is_promised, is_synced, load_of}
 use Rattle.spec_binding.specs.Ledgers.{Ledger, go_on_all, ledger_after, may_ask, release_all}
 use Rattle.spec_binding.specs.Resets.{back_in, begun_anew, restart_notes, restarted, retaken}
-use Rattle.spec_binding.specs.Rows.{accept_row, accepted_row, after, alone_row, answered, answering, ask_row, asked_row, carry_row, ending, gives_way, grant_row, idle_row, install_row, is_at_limit, is_full, is_takeable, known_wish, left_row, load_taken, load_what, may_want, new_pair, new_wish, no_row, none_row, noted_by, paired_wish, port_for, proposal, proposed_row, quiet, refuse_row, refused_row, release_row, released_row, row, row_of, sought_row, stayed_row, synced_row, taken_book, taken_what, taking, telling_row, told_row, unsynced_after, unsynced_what, use_row, used_row, wish as wish_with, wish_by, wish_of, yes_row, noted_with}
+use Rattle.spec_binding.specs.Rows.{accept_row, accepted_row, after, alone_row, answered, answering, ask_row, asked_row, carry_row, ending, gives_way, grant_row, idle_row, install_row, is_at_limit, is_full, is_takeable, known_wish, left_row, load_taken, load_what, may_want, new_pair, new_wish, no_row, wanting_row, noted_by, paired_wish, port_for, proposal, proposed_row, quiet, refuse_row, refused_row, release_row, released_row, row, row_of, sought_row, stayed_row, synced_row, taken_book, taken_what, taking, telling_row, told_row, unsynced_after, unsynced_what, use_row, used_row, wish as wish_with, wish_by, wish_of, yes_row, noted_with}
 use Rattle.spec_binding.proofs.Offered.{change-leaves}
 use Rattle.spec_step.specs.Shown.{Shown, is_apart}
 
@@ -88,7 +88,7 @@ known-plain p (state.Closing false) = λ i now. refl
 known-plain p state.Alone = λ i now. refl
 known-plain p state.Held = λ i now. refl
 
-none-plain : (b : Book) (full : Bool) → IsPlainRow (none_row b full)
+none-plain : (b : Book) (full : Bool) → IsPlainRow (wanting_row b full)
 none-plain b full = either-row (may_want b full) (row change_of.Want (Some rec.Want) None) quiet (λ i now. refl) (λ i now. refl)
 
 paired-plain : (full : Bool) (p : Pair) → IsPlainRow (paired_wish false full p).row

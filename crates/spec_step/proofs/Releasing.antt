@@ -32,7 +32,7 @@ use Rattle.spec_binding.specs.declared.changes.Transition.{Transition}
 use Rattle.spec_binding.specs.declared.changes.Want.TheVariants as want
 use Rattle.spec_binding.specs.Books.{Book, IsBook, is_lone, is_paired, is_synced}
 use Rattle.spec_binding.specs.Ledgers.{Ledger, is_reached, may_ask, sought_keys}
-use Rattle.spec_binding.specs.Rows.{after, alone_row, carry_row, idle_row, is_at_limit, is_full, known_wish, marked_row, may_want, new_pair, new_wish, none_row, noted_by, paired_wish, port_for, quiet, release_row, released_row, row, sought_row, use_row, used_row, wish, wish_by, wish_of, noted_with}
+use Rattle.spec_binding.specs.Rows.{after, alone_row, carry_row, idle_row, is_at_limit, is_full, known_wish, marked_row, may_want, new_pair, new_wish, wanting_row, noted_by, paired_wish, port_for, quiet, release_row, released_row, row, sought_row, use_row, used_row, wish, wish_by, wish_of, noted_with}
 use Rattle.spec_binding.specs.WellFormed.{IsWellFormedEndpoint}
 use Rattle.spec_binding.proofs.Offered.{at-key}
 use Rattle.waiting.specs.declared.waits.Ended.TheVariants.{AllPairs}
@@ -87,7 +87,7 @@ known-mute p (state.Closing false) = quiet-mute
 known-mute p state.Alone = quiet-mute
 known-mute p state.Held = quiet-mute
 
-none-mute : (b : Book) (full : Bool) → IsMute (none_row b full)
+none-mute : (b : Book) (full : Bool) → IsMute (wanting_row b full)
 none-mute b full = at (may_want b full)
   where
     at : (t : Bool) → IsMute (let r : Transition = cond t (row change_of.Want (Some record_of.Want) None) quiet in r)

@@ -32,7 +32,7 @@ use Rattle.spec_binding.specs.declared.changes.PortRequest.{PortRequest}
 use Rattle.spec_binding.specs.declared.changes.Want.TheVariants as want
 use Rattle.spec_binding.specs.Books.{Book, empty_book, is_lone, is_paired, is_promised, is_synced, load_of}
 use Rattle.spec_binding.specs.Resets.{back_in, begun_anew, put_lone, restart_notes, restarted, retaken}
-use Rattle.spec_binding.specs.Rows.{accept_row, accepted_row, after, alone_row, answering, ask_row, asked_row, asking, ending, gives_way, grant_row, idle_row, install_row, is_at_limit, is_takeable, is_theirs, known_wish, marked_row, left_row, load_taken, load_what, may_want, new_pair, new_wish, no_row, none_row, noted_by, numbers_of, paired_wish, port_for, proposal, proposed_row, quiet, refuse_row, refused_row, release_row, released_row, row, row_of, sought_row, stayed_row, synced_row, taken_book, taken_what, taking, telling_row, told_row, unsynced_after, unsynced_what, wish, wish_by, wish_of, yes_row}
+use Rattle.spec_binding.specs.Rows.{accept_row, accepted_row, after, alone_row, answering, ask_row, asked_row, asking, ending, gives_way, grant_row, idle_row, install_row, is_at_limit, is_takeable, is_theirs, known_wish, marked_row, left_row, load_taken, load_what, may_want, new_pair, new_wish, no_row, wanting_row, noted_by, numbers_of, paired_wish, port_for, proposal, proposed_row, quiet, refuse_row, refused_row, release_row, released_row, row, row_of, sought_row, stayed_row, synced_row, taken_book, taken_what, taking, telling_row, told_row, unsynced_after, unsynced_what, wish, wish_by, wish_of, yes_row}
 use Rattle.spec_binding.specs.Uses.{IsTranslated}
 use Rattle.spec_binding.proofs.Offered.{gained-is, was-there, at-key, chosen-says}
 use Rattle.spec_step.specs.Others.{MayGoBy, retaken_in, retaken_pairs}
@@ -163,7 +163,7 @@ known-roots b p (state.Closing false) = quiet-roots b
 known-roots b p state.Alone = quiet-roots b
 known-roots b p state.Held = quiet-roots b
 
-none-roots : (b : Book) (full : Bool) → RowRoots b (none_row b full)
+none-roots : (b : Book) (full : Bool) → RowRoots b (wanting_row b full)
 none-roots b full = either-roots b (may_want b full) (row change_of.Want (Some rec.Want) None) quiet (λ t i now. same-rooted b.entries b.entries [] refl) (λ t. quiet-roots b)
 
 new-roots : (b : Book) (apart full : Bool) (e : Endpoint) (o : Option Port) → port_for b e ≡ o → RowRoots b (new_wish b apart full e o).row

@@ -20,7 +20,7 @@ use Rattle.spec_binding.specs.declared.changes.Transition.{Transition}
 use Rattle.spec_binding.specs.declared.changes.PortRequest.{PortRequest}
 use Rattle.spec_binding.specs.declared.changes.Want.TheVariants as want
 use Rattle.spec_binding.specs.Books.{Book, is_lone, is_synced}
-use Rattle.spec_binding.specs.Rows.{is_at_limit, known_wish, may_want, new_pair, new_wish, none_row, noted_by, paired_wish, port_for, proposal, quiet, row, wish, wish_by, wish_of}
+use Rattle.spec_binding.specs.Rows.{is_at_limit, known_wish, may_want, new_pair, new_wish, wanting_row, noted_by, paired_wish, port_for, proposal, quiet, row, wish, wish_by, wish_of}
 use Rattle.waiting.specs.declared.waits.WaitsFor.{WaitsFor}
 use Rattle.waiting.specs.declared.waits.WaitsFor.TheVariants as wait
 use Rattle.waiting.specs.Packets.{HeldPacket, hop_count, with_room, without_first_hop}
@@ -63,7 +63,7 @@ either-wish : (t : Bool) (x y : PortRequest) → IsUseless x.row → IsUseless y
 either-wish true x y a b = a
 either-wish false x y a b = b
 
-none-useless : (b : Book) (full : Bool) → IsUseless (none_row b full)
+none-useless : (b : Book) (full : Bool) → IsUseless (wanting_row b full)
 none-useless b full = either-row (may_want b full) (row change_of.Want (Some record_of.Want) None) quiet (λ i now. refl) (λ i now. refl)
 
 paired-useless : (apart full : Bool) (p : Pair) → IsUseless (paired_wish apart full p).row

@@ -27,7 +27,7 @@ use Rattle.spec_binding.specs.declared.changes.Transition.{Transition}
 use Rattle.spec_binding.specs.declared.changes.Want.TheVariants as want
 use Rattle.spec_binding.specs.declared.changes.PortRequest.{PortRequest}
 use Rattle.spec_binding.specs.Books.{Book, IsBook, is_lone, is_synced}
-use Rattle.spec_binding.specs.Rows.{after, carry_row, is_at_limit, known_wish, may_want, new_pair, new_wish, none_row, paired_wish, port_for, quiet, row, use_row, used_row, wish, wish_by, wish_of, noted_with}
+use Rattle.spec_binding.specs.Rows.{after, carry_row, is_at_limit, known_wish, may_want, new_pair, new_wish, wanting_row, paired_wish, port_for, quiet, row, use_row, used_row, wish, wish_by, wish_of, noted_with}
 use Rattle.spec_binding.specs.Serving.{serving}
 use Rattle.spec_binding.specs.WellFormed.{IsWellFormedEndpoint}
 use Rattle.spec_binding.proofs.Offered.{at-key, chosen-says, wish-keeps}
@@ -245,7 +245,7 @@ module _ (b : Book) (apart full : Bool) (e : Endpoint) (is : IsBook b) where
     known-still q state.Alone = same-still
     known-still q state.Held = same-still
 
-    none-still : Translates (after b (none_row b full)) p
+    none-still : Translates (after b (wanting_row b full)) p
     none-still = at (may_want b full)
       where
         at : (c : Bool) → Translates (after b (let r : Transition = cond c (row change_of.Want (Some record_of.Want) None) quiet in r)) p

@@ -9,7 +9,7 @@ loop-count-preserved c = record {
 }
 
 pub returns-in-None : goal.returns-in-None
-returns-in-None c = counted-all _ c.loop-count.count _ c.loop-count-test.true c.in-None.ensures.none c.loop-count.invariant.counted
+returns-in-None c = counted-all _ c.loop-count.count c.args.most _ c.loop-count-test.true c.in-None.ensures.none c.loop-count.invariant.counted
 
 pub returns : goal.returns
 returns c =

@@ -1,4 +1,4 @@
-use Rattle.std.proofs.Common.{ℕ, Bool, ◌==◌, nat_lt, ◌∙◌, cond, arith}
+use Rattle.std.proofs.Common.{ℕ, Bool, ◌==◌, nat_lt, ◌∙◌, arith}
 use Rattle.std.proofs.lemmas.Bool.{cond-true, cond-false, eq-eqb, ne_eqb}
 use Rattle.std.proofs.Common.{refl, ◌≡◌}
 use Rattle.port_range.specs.Words.{has_bit}

@@ -1,4 +1,4 @@
-use Rattle.std.proofs.Common.{◌-◌, arith}
+use Rattle.std.proofs.Common.{arith}
 use Rattle.port_range.proofs.Searching.{next-here, next-later}
 use Rattle.port_range.proofs.words.next_bit.Goals as goal
 

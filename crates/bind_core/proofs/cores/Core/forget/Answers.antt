@@ -1,8 +1,8 @@
 use Rattle.std.proofs.Common.{subst, sym, ap, ◌∙◌, arith}
 use Rattle.bindings.specs.Table.{Table}
 use Rattle.resync.specs.Loading.{Progress}
-use Rattle.spec_binding.specs.Books.{IsBook, empty_book}
-use Rattle.bind_core.specs.Cores.{Core}
+use Rattle.spec_binding.specs.Books.{IsBook, emptied}
+use Rattle.bind_core.specs.Cores.{Core, book_of}
 use Rattle.bind_core.specs.View.{core_of}
 use Rattle.bind_core.proofs.Performing.{forgotten, still-between}
 use Rattle.bind_core.proofs.cores.Core.forget.Goals as goal
@@ -17,7 +17,7 @@ invariant_of-self c =
     let between = c.self.invariant.bounds in
     record {
       book = subst IsBook (sym (forgotten (core_of c.self.inside) c.clear.new.self c.new-self-inside.result _ _ same between.zero between.one c.new-self-inside.ensures))
-          (subst (λ (k : Core). IsBook (empty_book k.id k.table.zero k.table.one k.limit k.alone)) (sym c.self.view_is) c.requires.kept);
+          (subst (λ (k : Core). IsBook (emptied (book_of k))) (sym c.self.view_is) c.requires.kept);
       bounds = still-between c.self.inside.table c.clear.new.self c.self.inside.bounds zero one between;
       zero = ap (λ (p : Progress). p.zero) c.new-self-inside.ensures ∙ sym between.zero ∙ sym zero;
       one = ap (λ (p : Progress). p.one) c.new-self-inside.ensures ∙ sym between.one ∙ sym one;

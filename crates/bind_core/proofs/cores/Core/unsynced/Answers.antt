@@ -16,8 +16,8 @@ invariant_of-result c =
     let order1 = c.requires.one.order in
     let exact = c.in_ok-idle.ensures.capacity in
     record {
-      book = subst IsBook (sym (empty-is c.args.id c.args.zero c.args.one c.args.limit c.args.alone c.in_ok-table.table c.new-2.result t.zero t.one t.entries t.owned c.new-2.ensures))
-          (c.books_begin.ensures.empty c.args.id c.args.zero c.args.one c.args.limit c.args.alone c.requires.zero c.requires.one (omega (arith, low0, order0), c.recall_port.ensures) (omega (arith, low1, order1), c.recall_port-2.ensures));
+      book = subst IsBook (sym (empty-is c.args.id c.args.bounds.zero c.args.bounds.one c.args.rules c.in_ok-table.table c.new-2.result t.zero t.one t.entries t.owned c.new-2.ensures))
+          (c.books_begin.ensures.empty c.args.id c.args.bounds.zero c.args.bounds.one c.args.rules c.requires.zero c.requires.one (omega (arith, low0, order0), c.recall_port.ensures) (omega (arith, low1, order1), c.recall_port-2.ensures));
       bounds = record { zero = t.zero; one = t.one };
       zero = ap (λ (p : Progress). p.zero) c.new-2.ensures ∙ sym t.zero;
       one = ap (λ (p : Progress). p.one) c.new-2.ensures ∙ sym t.one;
@@ -27,8 +27,8 @@ invariant_of-result c =
 pub returns-clause-ledger : goal.returns-clause-ledger
 returns-clause-ledger c =
     let t = c.in_ok-table.ensures in
-    ap (λ (b : Book). let l : Ledger = record { book = b; lives = c.in_ok-table.table.lives; inward_refresh = c.args.inward_refresh; hashers = c.in_ok-table.table.hashers } in l) (empty-is c.args.id c.args.zero c.args.one c.args.limit c.args.alone c.in_ok-table.table c.new-2.result t.zero t.one t.entries t.owned c.new-2.ensures)
-    ∙ ap (λ (u : Table). let l : Ledger = record { book = empty_book c.args.id c.args.zero c.args.one c.args.limit c.args.alone; lives = u.lives; inward_refresh = c.args.inward_refresh; hashers = u.hashers } in l) t.empty
+    ap (λ (b : Book). let l : Ledger = record { book = b; lives = c.in_ok-table.table.lives; inward_refresh = c.args.rules.inward_refresh; hashers = c.in_ok-table.table.hashers } in l) (empty-is c.args.id c.args.bounds.zero c.args.bounds.one c.args.rules c.in_ok-table.table c.new-2.result t.zero t.one t.entries t.owned c.new-2.ensures)
+    ∙ ap (λ (u : Table). let l : Ledger = record { book = empty_book c.args.id c.args.bounds.zero c.args.bounds.one c.args.rules; lives = u.lives; inward_refresh = c.args.rules.inward_refresh; hashers = u.hashers } in l) t.empty
 
 pub returns-clause-hashers : goal.returns-clause-hashers
 returns-clause-hashers c = c.in_ok-table.ensures.hashers

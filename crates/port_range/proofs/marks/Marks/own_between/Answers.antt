@@ -2,6 +2,7 @@ use Rattle.std.proofs.Common.{ℕ, ◌≡◌, ◌/◌, false, length, ap, ◌∙
 use Rattle.std.specs.List.{slice_index}
 use Rattle.addresses.specs.declared.transport.Parity.TheVariants.{Even, Odd}
 use Rattle.port_range.specs.Ports.{is_within}
+use Rattle.port_range.specs.Marks.{open_count}
 use Rattle.port_range.proofs.Summing.{summary-ranged, written}
 use Rattle.port_range.proofs.marks.Marks.own_between.Goals as goal
 
@@ -25,4 +26,5 @@ invariant_of-self c =
           c.deref.ensures.value (c.deref-2.ensures.value ∙ back) c.deref_mut-2.ensures.value c.self.invariant.summed_even others c.sum_up_between.ensures.size c.sum_up_between.ensures.bits;
       summed_odd = summary-ranged Odd i.free.items i.owned.items i.odd.items new odd first last c.deref-3.result.now c.deref-4.result.now c.deref_mut-3.result.now
           c.deref-3.ensures.value (c.deref-4.ensures.value ∙ back) c.deref_mut-3.ensures.value c.self.invariant.summed_odd others c.sum_up_between-2.ensures.size c.sum_up_between-2.ensures.bits;
+      counted = c.count_both-self-inside.ensures ∙ ap (λ words. open_count words c.deref-6.result.now) c.deref-5.ensures.value ∙ ap (open_count i.free.items) (c.deref-6.ensures.value ∙ back);
     }
