@@ -1,7 +1,7 @@
 //! The calls of a gateway that are measured.
 
 use cases_words::Case;
-use gateway::{Event, Gateway, Hashers, Out, Outcome};
+use gateway::{Event, Gateway, Out, Outcome, Secrets};
 use nat_types::GatewayId;
 use settings::Settings;
 use std::alloc::Global;
@@ -28,7 +28,7 @@ pub(crate) trait Gate: Sized {
 impl Gate for Gateway {
     fn begun(alloc: Global, settings: &Settings, id: GatewayId) -> Option<Gateway> {
         let founds = id == GatewayId::Zero;
-        Gateway::new(alloc, settings, id, 1, founds, Hashers::fixed()).ok()
+        Gateway::new(alloc, settings, id, 1, founds, Secrets::fixed()).ok()
     }
 
     fn step(&mut self, event: Event<'_>, out: &mut Out, case: &mut Case) -> Outcome {

@@ -4,6 +4,7 @@
 use crate::batches::bounds;
 use crate::side::Side;
 use crate::telling::{begin_part, end_parts, refuse, tell_endpoint};
+use bind_core::{Bounds, Choice, Rules};
 use cases_words::{Actor, Case};
 use nat_types::GatewayId;
 use std::alloc::Global;
@@ -24,7 +25,7 @@ impl Cores {
     /// Begins a new core, in place of the one before, by a line such as `0 founder 20000 20003 40000 40003 200 2 100
     /// outward`: its gateway, how it begins, both ranges, the places of the link, the most pairs that an inside address
     /// may have, if there is a limit, after how many centiseconds without an answer it is apart, if ever, and whether
-    /// what comes inward keeps no pair.
+    /// what comes inward keeps no pair. The lowest port is chosen, and none is asked for ahead.
     fn begin(&mut self, case: &mut Case) {
         let id = case.gateway();
         let is_founder = case.is_first("founder", "unsynced");
@@ -41,17 +42,15 @@ impl Cores {
         if is_founder && id == GatewayId::One {
             return refuse("no beginning founder", case);
         }
-        let side = Side::new(
-            case.alloc,
-            id,
-            is_founder,
-            zero,
-            one,
-            capacity,
+        let rules = Rules {
             limit,
             alone,
             inward_refresh,
-        );
+            choice: Choice::Lowest,
+            ahead: 0,
+        };
+        let bounds = Bounds { zero, one };
+        let side = Side::new(case.alloc, id, is_founder, bounds, rules, capacity);
         self.put(side, case);
     }
 

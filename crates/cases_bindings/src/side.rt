@@ -3,6 +3,7 @@ ghost use Rattle.std.specs.Prelude.{◌≡◌, ◌<◌, ◌+◌, ◌≤◌, leng
 ghost use Rattle.bindings.specs.Ports.{AreBounds};
 ghost use Rattle.link.specs.Grammar.{IsWellFormedRecord};
 ghost use Rattle.link.specs.Link.{free_places, occupied};
+ghost use Rattle.spec_binding.specs.declared.changes.Want.TheVariants.{Port as PortOf};
 ghost use Rattle.spec_binding.specs.Resets.{restart_batch};
 ghost use Rattle.bind_core.specs.Cores.{book_of};
 
@@ -11,13 +12,14 @@ use crate::spelled::{is_spelled, is_spelled_endpoint};
 use crate::telling::{
     begin_part, refuse, tell_endpoint, tell_entry, tell_notes, tell_owned, tell_pushed, tell_want,
 };
+use addresses::Port;
 use arrayvec::ArrayVec;
-use bind_core::{Core, Hashers};
-use bindings::{PortBounds, Table};
+use bind_core::{Bounds, Core, Hashers, Rules};
+use bindings::Table;
 use cases_words::{Case, beside};
 use link::{Datagram, Link, write};
 use nat_types::{Endpoint, EntryState, GatewayId, Key, Note, Record};
-use spec_binding::rows_leave;
+use spec_binding::{Want, rows_leave};
 use std::alloc::Global;
 
 /// A core of boot 1, its end of the link, and its clock.
@@ -52,20 +54,27 @@ fn begin_core(
     alloc: Global,
     id: GatewayId,
     is_founder: bool,
-    zero: PortBounds,
-    one: PortBounds,
-    limit: Option<u16>,
-    alone: u16,
-    inward_refresh: bool,
+    bounds: Bounds,
+    rules: Rules,
 ) -> Option<Core>
-    requires zero { AreBounds zero }
-    requires one { AreBounds one }
+    requires zero { AreBounds bounds.zero }
+    requires one { AreBounds bounds.one }
 {
     let hashers = Hashers::fixed();
     if is_founder {
-        return Core::founder(alloc, zero, one, limit, alone, inward_refresh, hashers).ok();
+        return Core::founder(alloc, bounds, rules, hashers).ok();
     }
-    Core::unsynced(alloc, id, zero, one, limit, alone, inward_refresh, hashers).ok()
+    Core::unsynced(alloc, id, bounds, rules, hashers).ok()
+}
+
+/// Returns the port that a wish is answered with, if it is.
+fn port_of(want: Want) -> Option<Port>
+    ensures { IfSome result (λ port. want ≡ PortOf port) }
+{
+    match want {
+        Want::Port(port) => Some(port),
+        _ => None,
+    }
 }
 
 /// Returns how many ports a table's gateway owns, or None where there is no memory for their list.
@@ -107,26 +116,14 @@ impl Side {
         alloc: Global,
         id: GatewayId,
         is_founder: bool,
-        zero: PortBounds,
-        one: PortBounds,
+        bounds: Bounds,
+        rules: Rules,
         capacity: usize,
-        limit: Option<u16>,
-        alone: u16,
-        inward_refresh: bool,
     ) -> Option<Side>
-        requires zero { AreBounds zero }
-        requires one { AreBounds one }
+        requires zero { AreBounds bounds.zero }
+        requires one { AreBounds bounds.one }
     {
-        let core = begin_core(
-            alloc,
-            id,
-            is_founder,
-            zero,
-            one,
-            limit,
-            alone,
-            inward_refresh,
-        )?;
+        let core = begin_core(alloc, id, is_founder, bounds, rules)?;
         let (core, link) = beside(core, Link::new(alloc, id, 1, capacity)).ok()?;
         Some(Side {
             alloc,
@@ -185,9 +182,10 @@ impl Side {
             return case.fault();
         };
         let looked = self.core.look(&self.link, endpoint, self.clock);
+        let port = port_of(looked);
         let want = self
             .core
-            .want(endpoint, &mut self.link, self.clock, &mut notes);
+            .want(endpoint, port, &mut self.link, self.clock, &mut notes);
         if looked != want {
             case.fault();
         }

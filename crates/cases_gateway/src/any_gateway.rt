@@ -7,7 +7,7 @@ use crate::shown::{Shown, observe_once};
 use crate::wires::StepClock;
 use anyhow::Result;
 use cases_words::Case;
-use gateway::{Event, Gateway, Hashers, NoMemory, Out, Outcome};
+use gateway::{Event, Gateway, NoMemory, Out, Outcome, Secrets};
 use journal::{EventLog, Format, Mappings, Sink};
 use nat_types::{GatewayId, Key};
 use reports::{GatewayReport, Page, Sides};
@@ -24,7 +24,7 @@ pub(crate) trait AnyGateway: Sized {
     fn begun(
         alloc: Global,
         settings: &Settings,
-        hashers: Hashers,
+        secrets: Secrets,
         id: GatewayId,
         boot: u64,
         found: bool,
@@ -89,7 +89,7 @@ impl AnyGateway for Gateway {
     fn begun(
         alloc: Global,
         settings: &Settings,
-        hashers: Hashers,
+        secrets: Secrets,
         id: GatewayId,
         boot: u64,
         found: bool,
@@ -97,7 +97,7 @@ impl AnyGateway for Gateway {
         if boot == 0 || (found && id == GatewayId::One) {
             return None;
         }
-        Gateway::new(alloc, settings, id, boot, found, hashers).ok()
+        Gateway::new(alloc, settings, id, boot, found, secrets).ok()
     }
 
     fn step(&mut self, event: Event<'_>, out: &mut Out, case: &mut Case) -> Outcome {

@@ -4,7 +4,7 @@
 use crate::any_gateway::AnyGateway;
 use crate::retries::Retrier;
 use anyhow::Result;
-use gateway::{Gateway, Hashers};
+use gateway::{Gateway, Hashers, Secrets};
 use slots::SystemDraws;
 use std::alloc::Global;
 use std::fs;
@@ -19,9 +19,12 @@ pub(crate) fn try_all(rt: &HostRuntime) -> Result<()> {
     let mut draws = SystemDraws(rt);
     let drawn = Hashers::drawn(&mut draws);
     let SystemDraws(_) = draws;
-    let hashers = drawn?;
+    let secrets = Secrets {
+        hashers: drawn?,
+        key: [0; 32],
+    };
     for name in &FILES {
-        play_file(rt, name, hashers, &mut output)?;
+        play_file(rt, name, secrets, &mut output)?;
     }
     Ok(())
 }
@@ -30,11 +33,11 @@ pub(crate) fn try_all(rt: &HostRuntime) -> Result<()> {
 fn play_file<R: Files + AllocGlobal, O: Write>(
     rt: &R,
     name: &str,
-    hashers: Hashers,
+    secrets: Secrets,
     output: &mut O,
 ) -> Result<()> {
     let text = text_of(rt, name)?;
-    let played = play(rt.alloc(), hashers, name, text.as_str(), output);
+    let played = play(rt.alloc(), secrets, name, text.as_str(), output);
     drop(text);
     played
 }
@@ -50,13 +53,13 @@ fn text_of<R: Files + AllocGlobal>(rt: &R, name: &str) -> Result<String> {
 /// Plays the lines of a text at a founded gateway, and prints the text's name before them.
 fn play<O: Write>(
     alloc: Global,
-    hashers: Hashers,
+    secrets: Secrets,
     name: &str,
     text: &str,
     output: &mut O,
 ) -> Result<()> {
     writeln!(output, "== {name}")?;
-    let mut retrier = Retrier::<Gateway>::new(alloc, hashers)?;
+    let mut retrier = Retrier::<Gateway>::new(alloc, secrets)?;
     let played = play_lines(&mut retrier, text, output);
     retrier.end();
     played

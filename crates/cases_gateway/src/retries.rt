@@ -3,7 +3,7 @@
 use crate::any_gateway::AnyGateway;
 use crate::shown::{Shown, observe};
 use anyhow::{Context, Result, bail};
-use gateway::{Event, Hashers, NoMemory, Out, Outcome};
+use gateway::{Event, NoMemory, Out, Outcome, Secrets};
 use nat_types::{GatewayId, Side};
 use settings::Settings;
 use std::alloc::Global;
@@ -28,9 +28,9 @@ pub(crate) struct Retrier<G> {
 
 impl<G: AnyGateway> Retrier<G> {
     /// Returns gateway 0 of the sample settings, founded in boot 1.
-    pub(crate) fn new(alloc: Global, hashers: Hashers) -> Result<Retrier<G>> {
+    pub(crate) fn new(alloc: Global, secrets: Secrets) -> Result<Retrier<G>> {
         let settings = sample(alloc)?;
-        let started = started(alloc, &settings, hashers);
+        let started = started(alloc, &settings, secrets);
         drop(settings);
         Ok(Retrier {
             alloc,
@@ -172,10 +172,10 @@ fn sample(alloc: Global) -> Result<Settings> {
 }
 
 /// Returns a founded gateway; asks once more where memory is refused.
-fn started<G: AnyGateway>(alloc: Global, settings: &Settings, hashers: Hashers) -> Option<G> {
-    match G::begun(alloc, settings, hashers, GatewayId::Zero, 1, true) {
+fn started<G: AnyGateway>(alloc: Global, settings: &Settings, secrets: Secrets) -> Option<G> {
+    match G::begun(alloc, settings, secrets, GatewayId::Zero, 1, true) {
         Some(gateway) => Some(gateway),
-        None => G::begun(alloc, settings, hashers, GatewayId::Zero, 1, true),
+        None => G::begun(alloc, settings, secrets, GatewayId::Zero, 1, true),
     }
 }
 

@@ -5,7 +5,7 @@ use crate::lines::Lines;
 use crate::managers::CountingManager;
 use crate::wires::{Datagram, Limit, MemoryWire, Outage, StepClock};
 use cases_words::Case;
-use gateway::Hashers;
+use gateway::Secrets;
 use nat_types::{GatewayId, NoMemory, Side};
 use rounds::{Identity, Options};
 use settings::Settings;
@@ -63,7 +63,7 @@ impl<G: AnyGateway> TestBox<G> {
         boot: u64,
         found: bool,
     ) -> Option<TestBox<G>> {
-        let gateway = G::begun(alloc, settings, Hashers::fixed(), id, boot, found)?;
+        let gateway = G::begun(alloc, settings, Secrets::fixed(), id, boot, found)?;
         let digest = DIGEST;
         Some(TestBox {
             gateway,

@@ -5,7 +5,7 @@ use crate::changing::{Trial, change};
 use crate::datagrams::spelled;
 use crate::printing::print_step;
 use cases_words::Case;
-use gateway::{Event, Hashers, Out, Outcome, Reason};
+use gateway::{Event, Out, Outcome, Reason, Secrets};
 use nat_types::GatewayId;
 use packet_rules::Networks;
 use sendings::pieces_of;
@@ -27,7 +27,7 @@ impl<G: AnyGateway> TestGateway<G> {
         let id = case.gateway();
         let boot = after("boot", case);
         let found = case.left() == 1;
-        match G::begun(case.alloc, settings, Hashers::fixed(), id, boot, found) {
+        match G::begun(case.alloc, settings, Secrets::fixed(), id, boot, found) {
             Some(gateway) => Some(TestGateway {
                 id,
                 networks: Networks::of_gateway(settings, id),

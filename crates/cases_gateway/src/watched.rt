@@ -4,7 +4,7 @@ use crate::any_gateway::AnyGateway;
 use crate::values::blank;
 use crate::words::state_of;
 use cases_words::{Actor, Case};
-use gateway::{Event, Hashers, Out};
+use gateway::{Event, Out, Secrets};
 use nat_types::{GatewayId, Key, Side};
 use reports::{GatewayReport, Page, PairFilter, PairLines, PlainText, Sides};
 use settings::Settings;
@@ -34,7 +34,7 @@ impl<G: AnyGateway> Watched<G> {
     /// Returns such a gateway, or None where there is no memory.
     pub(crate) fn new(alloc: Global) -> Option<Watched<G>> {
         let settings = Settings::sample(alloc).ok()?;
-        let begun = G::begun(alloc, &settings, Hashers::fixed(), GatewayId::Zero, 1, true);
+        let begun = G::begun(alloc, &settings, Secrets::fixed(), GatewayId::Zero, 1, true);
         drop(settings);
         let gateway = begun?;
         Some(Watched {

@@ -2,7 +2,7 @@
 
 use crate::telling::write_pairs;
 use cases_words::Case;
-use gateway::{Event, Gateway, Hashers, Out, Outcome};
+use gateway::{Event, Gateway, Out, Outcome, Secrets};
 use nat_types::{EntryState, GatewayId, Pair, Side};
 use settings::Settings;
 use std::alloc::Global;
@@ -74,7 +74,7 @@ impl Gate for Gateway {
         if boot == 0 || (found && id == GatewayId::One) {
             return None;
         }
-        Gateway::new(alloc, settings, id, boot, found, Hashers::fixed()).ok()
+        Gateway::new(alloc, settings, id, boot, found, Secrets::fixed()).ok()
     }
 
     fn step(&mut self, event: Event<'_>, out: &mut Out, case: &mut Case) -> Outcome {

@@ -97,9 +97,9 @@ fn port_warnings(settings: &Settings) -> [Option<Warning>; 8] {
 }
 
 /// Whether a number of ports is above a quarter of a range.
-fn exceeds_quarter(ports: u32, range: PortRange) -> bool {
+fn exceeds_quarter(ports: u16, range: PortRange) -> bool {
     let size = u32::from(range.highest.0 - range.lowest.0) + 1;
-    ports > size / 4
+    u32::from(ports) > size / 4
 }
 
 /// The most bytes that a network's longest packet may have.

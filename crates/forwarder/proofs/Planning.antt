@@ -30,7 +30,7 @@ use Rattle.spec_step.specs.declared.plans.Reply.TheVariants as reply
 use Rattle.spec_step.specs.Shown.{Shown, station_on}
 use Rattle.spec_step.specs.Verdict.{exit_by, fits_at, hop_back, if_fits, if_reply_fits, next_back, reply_to, reply_via, hop_to, look_for, next_to, plan_by, plan_from, plan_of, plan_on, plan_to, plan_via, target_pair, error_by, error_on, error_plan, pair_in_of, pair_out}
 use Rattle.icmp.specs.declared.packets.ErrorFlow.{ErrorFlow}
-use Rattle.forwarder.specs.Plans.{IsOwn}
+use Rattle.forwarder.specs.Plans.{IsOwn, looked_at}
 
 -- a packet whose next hop isn't known waits for it, where there is a place
 pub plan-waits : (g : Shown) (to : Ip) (by : Translation) (hop : Ip) (place : Bool) → hop ≡ hop_to g by to → next_to g by to ≡ None → has_place g.kept (wait.Hop (exit_by by) hop) ≡ place
@@ -45,13 +45,13 @@ plan-waits g to by hop place is none at =
 -- a packet that is planned to wait has a place, and waits for its own pair or for its next hop; a packet that leaves the inside
 -- does so by its own pair
 abbrev pub Holds : Shown → Flow → Result Plan Reason → Type 0
-Holds g flow (Ok (Send by next)) = IsOwn flow by
-Holds g flow (Ok (Ask by hop)) = IsOwn flow by × (has_place g.kept (wait.Hop (exit_by by) hop) ≡ true)
+Holds g flow (Ok (Send by next)) = IsOwn g flow by
+Holds g flow (Ok (Ask by hop)) = IsOwn g flow by × (has_place g.kept (wait.Hop (exit_by by) hop) ≡ true)
 Holds g flow (Ok (AskAgain by hop)) = Unit {0}
 Holds g flow (Ok (WaitFor e)) = (has_place g.kept (wait.Pair e) ≡ true) × (e ≡ source_of flow)
 Holds g flow (Err reason) = Unit {0}
 
-to-holds : (g : Shown) (flow : Flow) (by : Translation) (hop : Ip) (next : Option Mac) → IsOwn flow by → Holds g flow (plan_to g by hop next)
+to-holds : (g : Shown) (flow : Flow) (by : Translation) (hop : Ip) (next : Option Mac) → IsOwn g flow by → Holds g flow (plan_to g by hop next)
 to-holds g flow by hop (Some next) own = own
 to-holds g flow by hop None own = at (has_place g.kept (wait.Hop (exit_by by) hop)) refl
   where
@@ -59,19 +59,19 @@ to-holds g flow by hop None own = at (has_place g.kept (wait.Hop (exit_by by) ho
     at true is = (own, is)
     at false is = tt
 
-from-holds : (g : Shown) (flow : Flow) (by : Pair → Translation) (w : Wanted) → ((own : Pair) → own.endpoint ≡ source_of flow → IsOwn flow (by own)) → Holds g flow (plan_from g flow by w)
-from-holds g flow by (want.Port port) own = to-holds g flow _ _ _ (own (new_pair (source_of flow) port) refl)
-from-holds g flow by want.Wait own = at (has_place g.kept (wait.Pair (source_of flow))) refl
+from-holds : (g : Shown) (flow : Flow) (by : Pair → Translation) (w : Wanted) → look_for g flow ≡ w → ((own : Pair) → own.endpoint ≡ source_of flow → looked_at g own.endpoint ≡ want.Port own.key.port → IsOwn g flow (by own)) → Holds g flow (plan_from g flow by w)
+from-holds g flow by (want.Port port) look own = to-holds g flow _ _ _ (own (new_pair (source_of flow) port) refl look)
+from-holds g flow by want.Wait look own = at (has_place g.kept (wait.Pair (source_of flow))) refl
   where
     at : (b : Bool) → has_place g.kept (wait.Pair (source_of flow)) ≡ b → Holds g flow (let r : Result Plan Reason = cond b (Ok (WaitFor (source_of flow))) (Err CannotWait) in r)
     at true is = (is, refl)
     at false is = tt
-from-holds g flow by want.NoPort own = tt
-from-holds g flow by want.NotNow own = tt
-from-holds g flow by want.HostLimit own = tt
+from-holds g flow by want.NoPort look own = tt
+from-holds g flow by want.NotNow look own = tt
+from-holds g flow by want.HostLimit look own = tt
 
 on-holds : (g : Shown) (flow : Flow) (w : Direction) → Holds g flow (plan_on g flow w)
-on-holds g flow way.Outward = from-holds g flow Outward (look_for g flow) (λ own is. is)
+on-holds g flow way.Outward = from-holds g flow Outward (look_for g flow) refl (λ own is look. (is, look))
 on-holds g flow way.Inward = at (target_pair g flow)
   where
     at : (r : Result Pair Reason) → Holds g flow (and_then r (λ p. plan_by g flow (Inward p)))
@@ -80,7 +80,7 @@ on-holds g flow way.Inward = at (target_pair g flow)
 on-holds g flow way.Hairpin = at (target_pair g flow)
   where
     at : (r : Result Pair Reason) → Holds g flow (and_then r (λ p. plan_from g flow (λ own. Hairpin own p) (look_for g flow)))
-    at (Ok p) = from-holds g flow (λ own. Hairpin own p) (look_for g flow) (λ own is. is)
+    at (Ok p) = from-holds g flow (λ own. Hairpin own p) (look_for g flow) refl (λ own is look. (is, look))
     at (Err reason) = tt
 
 -- the refusal of a packet that is too long has the properties of a plan

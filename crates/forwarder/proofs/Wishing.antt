@@ -14,13 +14,14 @@ use Rattle.nat_types.specs.declared.records.Record.TheVariants as record_of
 use Rattle.bindings.specs.declared.entries.Entry.{Entry}
 use Rattle.bindings.specs.Entries.{entry_in, entry_of}
 use Rattle.link.specs.Link.{Link, free_places, with_pushed}
+use Rattle.spec_binding.specs.declared.changes.Change.{Change}
 use Rattle.spec_binding.specs.declared.changes.Change.TheVariants as change_of
 use Rattle.spec_binding.specs.declared.changes.PortRequest.{PortRequest}
 use Rattle.spec_binding.specs.declared.changes.Transition.{Transition}
 use Rattle.spec_binding.specs.declared.changes.Want.TheVariants as want
-use Rattle.spec_binding.specs.Books.{Book, is_lone, is_synced}
-use Rattle.spec_binding.specs.Rows.{answered, is_at_limit, is_full, known_wish, new_pair, new_wish, wanting_row, paired_wish, port_for, quiet, row, wish, wish_by, wish_of}
-use Rattle.spec_step.specs.Parts.{by_row, wanted_by}
+use Rattle.spec_binding.specs.Books.{Book, is_lone, is_paired, is_synced}
+use Rattle.spec_binding.specs.Rows.{ahead_row, answered, behind, changed, is_at_limit, is_cause, is_full, is_short_after, known_wish, new_pair, new_wish, wanting_row, paired_wish, port_for, quiet, row, wish, wish_by, wish_of}
+use Rattle.spec_step.specs.Parts.{by_row, by_row_and_behind, wanted_by}
 use Rattle.spec_step.specs.Shown.{GatewayAndOutput, is_apart, scene}
 
 -- ---- nothing is pushed where the link is full
@@ -36,12 +37,12 @@ known-mute p state.Alone = refl
 known-mute p state.Held = refl
 
 none-mute : (b : Book) → (wanting_row b true).answer ≡ None
-none-mute b = at (is_lone b.stage) b.wants
+none-mute b = at (is_paired b.stage) b.wants
   where
-    at : (lone wants : Bool) → (let r : Transition = cond (not lone && (not wants && false)) (row change_of.Want (Some record_of.Want) None) quiet in r).answer ≡ None
-    at true wants = refl
-    at false true = refl
-    at false false = refl
+    at : (paired wants : Bool) → (let r : Transition = cond (paired && (not wants && false)) (row change_of.Want (Some record_of.Want) None) quiet in r).answer ≡ None
+    at false wants = refl
+    at true true = refl
+    at true false = refl
 
 paired-mute : (apart : Bool) (p : Pair) → (paired_wish apart true p).row.answer ≡ None
 paired-mute true p = refl
@@ -86,12 +87,32 @@ mute-leaves : (e : Link) (a : Option Record) → a ≡ None → min 64 (free_pla
 mute-leaves e None mute = omega arith
 mute-leaves e (Some r) mute = cc
 
-pub wish-leaves : (b : Book) (apart : Bool) (l : Link) (e : Endpoint) → min 64 (free_places l) ≤ free_places (answered l (wish_of b apart (is_full l) e).row.answer)
-wish-leaves b apart l e = at (is_full l) refl
+-- and nothing is pushed by the row behind where the link is full after the row
+ahead-leaves : (b : Book) (l : Link) (ch : Change) → min 64 (free_places l) ≤ free_places (answered l (ahead_row b (is_full l) ch).answer)
+ahead-leaves b l ch = at (is_full l) refl
+  where
+    mute : (t : Bool) → (let r : Transition = cond t (wanting_row (changed ch b) true) quiet in r).answer ≡ None
+    mute true = none-mute (changed ch b)
+    mute false = refl
+
+    at : (full : Bool) → is_full l ≡ full → min 64 (free_places l) ≤ free_places (answered l (ahead_row b full ch).answer)
+    at true is = mute-leaves l (ahead_row b true ch).answer (mute (is_cause b ch && is_short_after (changed ch b) ch))
+    at false is = answered-leaves l (ahead_row b false ch).answer is
+
+wish-leaves-first : (b : Book) (apart : Bool) (l : Link) (e : Endpoint) → min 64 (free_places l) ≤ free_places (answered l (wish_of b apart (is_full l) e).row.answer)
+wish-leaves-first b apart l e = at (is_full l) refl
   where
     at : (full : Bool) → is_full l ≡ full → min 64 (free_places l) ≤ free_places (answered l (wish_of b apart full e).row.answer)
     at true is = mute-leaves l (wish_of b apart true e).row.answer (wish-mute b apart e)
     at false is = answered-leaves l (wish_of b apart false e).row.answer is
+
+pub wish-leaves : (b : Book) (apart : Bool) (l : Link) (e : Endpoint) → let r = (wish_of b apart (is_full l) e).row in
+    min 64 (free_places l) ≤ free_places (answered (answered l r.answer) (behind b l r).answer)
+wish-leaves b apart l e =
+    let r : Transition = (wish_of b apart (is_full l) e).row in
+    let first = wish-leaves-first b apart l e in
+    let second = ahead-leaves b (answered l r.answer) r.change in
+    omega (arith, first, second)
 
 -- ---- a wish that changes nothing
 
@@ -99,4 +120,4 @@ quiet-done : (s : GatewayAndOutput) → by_row s quiet ≡ s
 quiet-done s = ap (λ (notes : List Note). scene s.shown (record s.told { notes = notes })) (append-nil s.told.notes)
 
 pub still : (s : GatewayAndOutput) (e : Endpoint) → (wish_of s.shown.ledger.book (is_apart s.shown) (is_full s.shown.link) e).row ≡ quiet → wanted_by s e ≡ s
-still s e is = ap (by_row s) is ∙ quiet-done s
+still s e is = ap (by_row_and_behind s) is ∙ quiet-done s

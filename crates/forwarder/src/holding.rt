@@ -53,7 +53,7 @@ impl Forwarder {
         copy: HeldPacket,
     )
         requires formed { IsWellFormedEndpoint (source_of flow) }
-        requires own { IsOwn flow by }
+        requires own { IsOwn (shown_of self.old) flow by }
         requires place { has_place self.old.kept copy.wait ≡ true }
         requires since { copy.since ≡ self.old.moment }
         requires asked { copy.asked ≡ self.old.moment }
@@ -101,7 +101,7 @@ impl Forwarder {
             self.new page.new }
         ensures places { LeavesPlaces self.old self.new }
     {
-        self.wish(page, source_endpoint(flow));
+        self.wish(page, source_endpoint(flow), None);
         self.kept.keep(copy);
     }
 
@@ -125,7 +125,7 @@ impl Forwarder {
         ensures places { LeavesPlaces self.old self.new }
     {
         match reason {
-            Reason::NoPort => self.wish(page, source_endpoint(flow)),
+            Reason::NoPort => self.wish(page, source_endpoint(flow), None),
             Reason::TooLong | Reason::TtlOver => {
                 let exit = exit_for(side, self.way_of(side, flow));
                 self.refuse_whole(page, side, exit, bytes, reason);

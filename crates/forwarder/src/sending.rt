@@ -1,7 +1,8 @@
 //! Packets that go on at once.
-ghost use Rattle.std.specs.Prelude.{◌≡◌, ◌≤◌, ◌+◌, length};
+ghost use Rattle.std.specs.Prelude.{◌≡◌, ◌≤◌, ◌+◌, length, IfSome};
 ghost use Rattle.bind_core.specs.Cores.{packet_at};
 ghost use Rattle.waiting.specs.Packets.{beyond};
+ghost use Rattle.spec_binding.specs.declared.changes.Want.TheVariants.{Port as PortOf};
 ghost use Rattle.spec_binding.specs.WellFormed.{IsWellFormedEndpoint};
 ghost use Rattle.arp.specs.Neighbours.{asks_at};
 ghost use Rattle.nat_types.specs.declared.gateways.Side.{Side as OnSide};
@@ -15,7 +16,7 @@ ghost use Rattle.spec_step.specs.Parts.{remote, wanted_by, wanted_for};
 ghost use Rattle.spec_step.specs.Verdict.{exit_by};
 ghost use Rattle.spec_step.specs.Shown.{station_on};
 ghost use Rattle.forwarder.specs.Forwarder.{scene_on, shown_of};
-ghost use Rattle.forwarder.specs.Plans.{IsOwn};
+ghost use Rattle.forwarder.specs.Plans.{IsOwn, looked_at};
 ghost use Rattle.forwarder.specs.Room.{HasRoomFor, LeavesPlaces, Spends, a_packet, a_wish};
 ghost use Rattle.forwarder.specs.Room.{and_octets, frames_alone, notes_alone};
 
@@ -36,10 +37,12 @@ fn remote_at(address: Ip, port: Port) -> Remote
 
 impl Forwarder {
     /// Asks for a port for an endpoint: its pair is made or proposed, or ports are asked for of the
-    /// peer.
+    /// peer. `looked` is the port that was looked up for it in this state, where one was.
     #[cold]
-    pub(crate) fn wish(&mut self, page: &mut OutputBuffer, endpoint: Endpoint)
+    pub(crate) fn wish(&mut self, page: &mut OutputBuffer, endpoint: Endpoint, looked: Option<Port>)
         requires formed { IsWellFormedEndpoint endpoint }
+        requires looked { IfSome looked (λ port.
+            looked_at (shown_of self.old) endpoint ≡ PortOf port) }
         requires room { HasRoomFor a_wish self.old page.old }
         ensures scene { scene_on self.new page.new
             ≡ wanted_by (scene_on self.old page.old) endpoint }
@@ -51,7 +54,7 @@ impl Forwarder {
         let mut notes = page.take_notes();
         let _given = self
             .core
-            .want(endpoint, &mut self.link, self.moment, &mut notes);
+            .want(endpoint, looked, &mut self.link, self.moment, &mut notes);
         page.put_notes(notes);
     }
 
@@ -60,6 +63,7 @@ impl Forwarder {
     #[inline(always)]
     fn wish_by(&mut self, page: &mut OutputBuffer, own: Pair)
         requires formed { IsWellFormedEndpoint own.endpoint }
+        requires looked { looked_at (shown_of self.old) own.endpoint ≡ PortOf own.key.port }
         requires room { HasRoomFor a_wish self.old page.old }
         ensures scene { scene_on self.new page.new
             ≡ wanted_by (scene_on self.old page.old) own.endpoint }
@@ -69,7 +73,7 @@ impl Forwarder {
         ensures places { LeavesPlaces self.old self.new }
     {
         if !self.core.carries(own) {
-            self.wish(page, own.endpoint);
+            self.wish(page, own.endpoint, Some(own.key.port));
         }
     }
 
@@ -77,7 +81,7 @@ impl Forwarder {
     #[inline(always)]
     pub(crate) fn wish_for(&mut self, page: &mut OutputBuffer, flow: Flow, by: &Translation)
         requires formed { IsWellFormedEndpoint (source_of flow) }
-        requires own { IsOwn flow by.now }
+        requires own { IsOwn (shown_of self.old) flow by.now }
         requires room { HasRoomFor a_wish self.old page.old }
         ensures scene { scene_on self.new page.new
             ≡ wanted_for (scene_on self.old page.old) flow by.now }
@@ -223,7 +227,7 @@ impl Forwarder {
         requires forwardable { IsForwardable bytes.now }
         requires read { packet ≡ packet_in bytes.now }
         requires formed { IsWellFormedEndpoint (source_of packet.flow) }
-        requires own { IsOwn packet.flow by }
+        requires own { IsOwn (shown_of self.old) packet.flow by }
         requires room { HasRoomFor (and_octets a_packet (length bytes.now)) self.old page.old }
         ensures scene { (side : OnSide) → scene_on self.new page.new
             ≡ by_plan (scene_on self.old page.old) side bytes.now packet.flow (Send by next) }

@@ -19,7 +19,7 @@ ghost use Rattle.frame_sim.specs.World.{HaveSameRanges, Holds, IsKeptTogether, I
 use crate::halves::Half;
 use crate::{Step, WorldEvent, WorldFault};
 use addresses::Port;
-use gateway::{Event, Gateway, Hashers, Out, Outcome};
+use gateway::{Event, Gateway, Out, Outcome, Secrets};
 use link::one_spelling;
 use memory::{reserve, with_room};
 use nat_types::{GatewayId, NoMemory, Note, NoteKind, Pair};
@@ -130,8 +130,8 @@ fn room_for_steps(alloc: Global, events: &[WorldEvent]) -> Result<Vec<Step>, NoM
     Ok(with_room(alloc, events.len())?)
 }
 
-/// Returns a gateway as it begins, with the fixed hash keys, so that a script's run is the same each time. NoMemory
-/// from this call, and from no other, is named `WasUnbegun`.
+/// Returns a gateway as it begins, with the fixed secrets, so that a script's run is the same each time. NoMemory from
+/// this call, and from no other, is named `WasUnbegun`.
 #[tactic(auto, unfolding(crate::specs::Lacks::WasUnbegun))]
 fn begin(
     alloc: Global,
@@ -146,7 +146,7 @@ fn begin(
         (if found then founded settings.now boot else begun settings.now id boot)) }
     ensures unbegun { OnErr result (WasUnbegun settings.now id boot) }
 {
-    Gateway::new(alloc, settings, id, boot, found, Hashers::fixed())
+    Gateway::new(alloc, settings, id, boot, found, Secrets::fixed())
 }
 
 impl<'a> World<'a> {

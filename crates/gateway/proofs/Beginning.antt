@@ -6,8 +6,8 @@ use Rattle.nat_types.specs.declared.gateways.GatewayId.TheVariants.{Zero}
 use Rattle.settings.specs.declared.whole.Settings.{Settings}
 use Rattle.packet_rules.specs.Networks.{IsPlaced, networks_of}
 use Rattle.interfaces.specs.Stations.{new_station}
-use Rattle.slots.specs.declared.hashers.Hashers.{Hashers}
-use Rattle.spec_step.specs.Founding.{begun, founded, hashing}
+use Rattle.spec_step.specs.declared.secrets.Secrets.{Secrets}
+use Rattle.spec_step.specs.Founding.{begun, founded, with_secrets}
 use Rattle.spec_step.specs.Machine.{IsStanding}
 use Rattle.spec_step.specs.Settled.{IsSettled}
 use Rattle.spec_step.specs.Shown.{Shown, id_of}
@@ -41,10 +41,28 @@ founded-is settings boot stands settled placed = record {
   settled = settled;
 }
 
--- the invariant doesn't depend on the hashers
-hashing-is : (hashers : Hashers) (g : Shown) → IsInOrder g → IsInOrder (hashing hashers g)
-hashing-is hashers g is = record {
-  book = is.book;
+-- the invariant doesn't depend on what a gateway drew
+secrets-are : (secrets : Secrets) (g : Shown) → IsInOrder g → IsInOrder (with_secrets secrets g)
+secrets-are secrets g is = let b = is.book in record {
+  book = record {
+    zero = b.zero;
+    one = b.one;
+    highest = b.highest;
+    order = b.order;
+    keys = b.keys;
+    endpoints = b.endpoints;
+    within = b.within;
+    formed = b.formed;
+    coming = b.coming;
+    rising = b.rising;
+    owned = b.owned;
+    sides = b.sides;
+    loaded = b.loaded;
+    bare = b.bare;
+    closed = b.closed;
+    promised = b.promised;
+    unnamed = b.unnamed;
+  };
   lone = is.lone;
   bytes = is.bytes;
   moment = is.moment;
@@ -56,12 +74,12 @@ hashing-is hashers g is = record {
 }
 
 -- a gateway that begins has the invariant, founded or not
-pub beginning-is : (settings : Settings) (id : GatewayId) (boot : ℕ) (found : Bool) (hashers : Hashers) (g : Shown) → IsStanding (begun settings id boot) [] → IsStanding (founded settings boot) []
+pub beginning-is : (settings : Settings) (id : GatewayId) (boot : ℕ) (found : Bool) (secrets : Secrets) (g : Shown) → IsStanding (begun settings id boot) [] → IsStanding (founded settings boot) []
     → IsSettled (begun settings id boot) → IsSettled (founded settings boot)
     → IsPlaced (networks_of settings id) → IsPlaced (networks_of settings Zero)
-    → g ≡ hashing hashers (if found then founded settings boot else begun settings id boot) → IsInOrder g
-beginning-is settings id boot true hashers g b f x y placed first is = subst IsInOrder (sym is) (hashing-is hashers _ (founded-is settings boot f y first))
-beginning-is settings id boot false hashers g b f x y placed first is = subst IsInOrder (sym is) (hashing-is hashers _ (begun-is settings id boot b x placed))
+    → g ≡ with_secrets secrets (if found then founded settings boot else begun settings id boot) → IsInOrder g
+beginning-is settings id boot true secrets g b f x y placed first is = subst IsInOrder (sym is) (secrets-are secrets _ (founded-is settings boot f y first))
+beginning-is settings id boot false secrets g b f x y placed first is = subst IsInOrder (sym is) (secrets-are secrets _ (begun-is settings id boot b x placed))
 
 -- ---- the id of a gateway as it begins
 begun-id : (settings : Settings) (id : GatewayId) (boot : ℕ) → id_of (begun settings id boot) ≡ id
@@ -72,7 +90,7 @@ founded-id : (settings : Settings) (boot : ℕ) → id_of (founded settings boot
 unfolding founded begun
 founded-id settings boot = refl
 
-pub id-is : (settings : Settings) (id : GatewayId) (boot : ℕ) (found : Bool) (hashers : Hashers) (g : Shown) → (IsTrue found → id ≡ Zero)
-    → g ≡ hashing hashers (if found then founded settings boot else begun settings id boot) → id ≡ id_of g
-id-is settings id boot true hashers g first is = first refl ∙ sym (founded-id settings boot) ∙ sym (ap id_of is)
-id-is settings id boot false hashers g first is = sym (begun-id settings id boot) ∙ sym (ap id_of is)
+pub id-is : (settings : Settings) (id : GatewayId) (boot : ℕ) (found : Bool) (secrets : Secrets) (g : Shown) → (IsTrue found → id ≡ Zero)
+    → g ≡ with_secrets secrets (if found then founded settings boot else begun settings id boot) → id ≡ id_of g
+id-is settings id boot true secrets g first is = first refl ∙ sym (founded-id settings boot) ∙ sym (ap id_of is)
+id-is settings id boot false secrets g first is = sym (begun-id settings id boot) ∙ sym (ap id_of is)

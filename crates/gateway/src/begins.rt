@@ -9,21 +9,23 @@ ghost use Rattle.bind_core.specs.Cores.{ledger_of};
 ghost use Rattle.packet_rules.specs.Networks.{IsPlaced, networks_of};
 ghost use Rattle.interfaces.specs.Stations.{new_station};
 ghost use Rattle.spec_step.specs.Founding.{HasRanges, begun, bounds_of as bounds_in, founded};
-ghost use Rattle.spec_step.specs.Founding.{hashing, link_places as places_of};
+ghost use Rattle.spec_step.specs.Founding.{choice_of as choice_in, keyed, link_places as places_of};
+ghost use Rattle.spec_step.specs.Founding.{rules_of as rules_in, with_secrets};
 ghost use Rattle.forwarder.specs.Forwarder.{shown_of};
 ghost use Rattle.gateway.specs.Lacks.{LacksGateway, LacksLink, LacksParts, LacksStations};
 
 use crate::NoMemory;
 use crate::routers::start_routers;
 use addresses::Port;
-use bind_core::Core;
-use bindings::{Hashers, PortBounds};
+use bind_core::{Bounds, Choice, Core, Rules};
+use bindings::PortBounds;
 use forwarder::Forwarder;
 use interfaces::Interface;
 use link::{Link, RECORDS_IN_A_DATAGRAM};
 use nat_types::{GatewayId, Side};
 use packet_rules::Networks;
-use settings::{PortRange, Settings};
+use settings::{Choice as Chosen, PortRange, Settings};
+use spec_step::Secrets;
 use std::alloc::Global;
 use waiting::WaitingPackets;
 
@@ -55,6 +57,30 @@ fn bounds_of(range: PortRange) -> PortBounds
     PortBounds {
         lowest: range.lowest,
         highest: range.highest,
+    }
+}
+
+fn choice_of(chosen: Chosen, key: [u8; 32]) -> Choice
+    ensures { result ≡ keyed key (choice_in chosen) }
+{
+    match chosen {
+        Chosen::Lowest => Choice::Lowest,
+        Chosen::Drawn => Choice::Drawn(key),
+    }
+}
+
+/// Returns the rules of the binding protocol by these settings, with the key of the draw.
+fn rules_of(settings: &Settings, key: [u8; 32]) -> Rules
+    ensures { result ≡ record (rules_in settings.now) {
+      choice = keyed key (choice_in settings.now.choice);
+    } }
+{
+    Rules {
+        limit: settings.ports.host_limit,
+        alone: settings.alone,
+        inward_refresh: settings.inward_refresh,
+        choice: choice_of(settings.choice, key),
+        ahead: settings.ahead,
     }
 }
 
@@ -177,28 +203,20 @@ fn begin_unsynced(
     settings: &Settings,
     id: GatewayId,
     boot: u64,
-    hashers: Hashers,
+    secrets: Secrets,
 ) -> Result<Forwarder, NoMemory>
     requires { 0 < boot }
     ensures shown { IfOk result (λ f. shown_of f
-        ≡ hashing hashers (begun settings.now id boot)) }
-    ensures hashers { IfOk result (λ f. f.core.table.hashers ≡ hashers) }
+        ≡ with_secrets secrets (begun settings.now id boot)) }
+    ensures hashers { IfOk result (λ f. f.core.table.hashers ≡ secrets.hashers) }
     ensures refused { OnErr result (LacksGateway settings.now) }
 {
     recall_ranges(settings);
     let zero = bounds_of(settings.ports.zero);
     let one = bounds_of(settings.ports.one);
     let parts = parts_of(alloc, settings, id, boot)?;
-    let core = Core::unsynced(
-        alloc,
-        id,
-        zero,
-        one,
-        settings.ports.host_limit,
-        settings.alone,
-        settings.inward_refresh,
-        hashers,
-    )?;
+    let rules = rules_of(settings, secrets.key);
+    let core = Core::unsynced(alloc, id, Bounds { zero, one }, rules, secrets.hashers)?;
     Ok(joined(settings, id, parts, core))
 }
 
@@ -208,27 +226,20 @@ fn begin_founded(
     alloc: Global,
     settings: &Settings,
     boot: u64,
-    hashers: Hashers,
+    secrets: Secrets,
 ) -> Result<Forwarder, NoMemory>
     requires { 0 < boot }
     ensures shown { IfOk result (λ f. shown_of f
-        ≡ hashing hashers (founded settings.now boot)) }
-    ensures hashers { IfOk result (λ f. f.core.table.hashers ≡ hashers) }
+        ≡ with_secrets secrets (founded settings.now boot)) }
+    ensures hashers { IfOk result (λ f. f.core.table.hashers ≡ secrets.hashers) }
     ensures refused { OnErr result (LacksGateway settings.now) }
 {
     recall_ranges(settings);
     let zero = bounds_of(settings.ports.zero);
     let one = bounds_of(settings.ports.one);
     let parts = parts_of(alloc, settings, GatewayId::Zero, boot)?;
-    let core = Core::founder(
-        alloc,
-        zero,
-        one,
-        settings.ports.host_limit,
-        settings.alone,
-        settings.inward_refresh,
-        hashers,
-    )?;
+    let rules = rules_of(settings, secrets.key);
+    let core = Core::founder(alloc, Bounds { zero, one }, rules, secrets.hashers)?;
     let mut forwarder = joined(settings, GatewayId::Zero, parts, core);
     start_routers(&mut forwarder);
     Ok(forwarder)
@@ -242,23 +253,23 @@ pub(crate) fn begin(
     id: GatewayId,
     boot: u64,
     found: bool,
-    hashers: Hashers,
+    secrets: Secrets,
 ) -> Result<Forwarder, NoMemory>
     requires { 0 < boot }
     ensures ranges { HasRanges settings.now }
     ensures placed { IsPlaced (networks_of settings.now id) }
     ensures first { IsPlaced (networks_of settings.now Zero) }
-    ensures shown { IfOk result (λ f. shown_of f ≡ hashing hashers
+    ensures shown { IfOk result (λ f. shown_of f ≡ with_secrets secrets
         (if found then founded settings.now boot else begun settings.now id boot)) }
-    ensures hashers { IfOk result (λ f. f.core.table.hashers ≡ hashers) }
+    ensures hashers { IfOk result (λ f. f.core.table.hashers ≡ secrets.hashers) }
     ensures refused { OnErr result (LacksGateway settings.now) }
 {
     recall_ranges(settings);
     recall_places(settings, id);
     recall_places(settings, GatewayId::Zero);
     if found {
-        begin_founded(alloc, settings, boot, hashers)
+        begin_founded(alloc, settings, boot, secrets)
     } else {
-        begin_unsynced(alloc, settings, id, boot, hashers)
+        begin_unsynced(alloc, settings, id, boot, secrets)
     }
 }

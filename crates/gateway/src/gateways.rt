@@ -10,7 +10,7 @@ ghost use Rattle.spec_binding.specs.Books.{is_synced};
 ghost use Rattle.spec_binding.specs.Ledgers.{is_heard};
 ghost use Rattle.interfaces.specs.Cables.{is_in};
 ghost use Rattle.interfaces.specs.Stations.{is_active};
-ghost use Rattle.spec_step.specs.Founding.{begun, founded, hashing};
+ghost use Rattle.spec_step.specs.Founding.{begun, founded, with_secrets};
 ghost use Rattle.spec_step.specs.Machine.{HasBytes};
 ghost use Rattle.spec_step.specs.Shown.{is_apart, station_on};
 ghost use Rattle.spec_step.specs.Truly.{IsSetUp};
@@ -37,13 +37,13 @@ use crate::rooms::{PACKET_NOTES, entry_count};
 use crate::steps::{recall_event, recall_set_up};
 use crate::{NoMemory, OutputBuffer};
 use addresses::{Ip, Port};
-use bindings::{Entry, Hashers};
+use bindings::Entry;
 use forwarder::Forwarder;
 use link::RECORDS_IN_A_DATAGRAM;
 use nat_types::{GatewayId, Key, Pair, Side};
 use packet_rules::Networks;
 use settings::Settings;
-use spec_step::{Event, Outcome, beginnings, beginnings_settle};
+use spec_step::{Event, Outcome, Secrets, beginnings, beginnings_settle};
 use std::alloc::Global;
 use std::marker::Model;
 use vrrp_states::State;
@@ -96,25 +96,25 @@ fn recall_address(address: Ip)
 
 impl Gateway {
     /// Returns a gateway in this boot. With `found`, gateway 0 of a pair that is founded anew,
-    /// which is synced at once; otherwise the gateway isn't synced until its table is loaded. The
-    /// table hashes endpoints by the caller's hashers. Fails where there isn't enough memory.
+    /// which is synced at once; otherwise the gateway isn't synced until its table is loaded.
+    /// `secrets` are what the caller drew. Fails where there isn't enough memory.
     pub fn new(
         alloc: Global,
         settings: &Settings,
         id: GatewayId,
         boot: u64,
         found: bool,
-        hashers: Hashers,
+        secrets: Secrets,
     ) -> Result<Gateway, NoMemory>
         requires boot { 0 < boot }
         requires found { IsTrue found → id ≡ Zero }
-        ensures begins { IfOk result (λ g. g ≡ beginning (hashing hashers
+        ensures begins { IfOk result (λ g. g ≡ beginning (with_secrets secrets
             (if found then founded settings.now boot else begun settings.now id boot))) }
         ensures refused { OnErr result (LacksGateway settings.now) }
     {
         beginnings();
         beginnings_settle();
-        let forwarder = begin(alloc, settings, id, boot, found, hashers)?;
+        let forwarder = begin(alloc, settings, id, boot, found, secrets)?;
         let longest = longest_of(&forwarder.networks);
         Ok(Gateway {
             alloc,

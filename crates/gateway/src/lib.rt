@@ -25,4 +25,4 @@ pub use gateways::Gateway;
 pub use nat_types::NoMemory;
 pub use output::{Out, OutputBuffer};
 pub use packet_rules::Reason;
-pub use spec_step::{Event, Outcome};
+pub use spec_step::{Event, Outcome, Secrets};

@@ -117,15 +117,14 @@ pub(crate) fn alone(document: &Table) -> Result<u16, Key>
 }
 
 /// Returns how many ports are asked for ahead: 0 to 1024; the default is 0.
-pub(crate) fn ahead(document: &Table) -> Result<u32, Key>
+pub(crate) fn ahead(document: &Table) -> Result<u16, Key>
     ensures ok { IfOk result
         (λ n. number_or 0 0 1024 (table_view document.now) Ports Ahead ≡ Some n) }
     ensures high { IfOk result (λ n. n ≤ 1024) }
     ensures err { IfErr result
         (IsBadAt Ports Ahead (number_or 0 0 1024 (table_view document.now) Ports Ahead)) }
 {
-    let ahead = number_or(document, Section::Ports, Name::Ahead, AHEAD.low, AHEAD)?;
-    Ok(u32::from(ahead))
+    number_or(document, Section::Ports, Name::Ahead, AHEAD.low, AHEAD)
 }
 
 /// Returns the number of first bits that the addresses of a network share: 8 to 30.

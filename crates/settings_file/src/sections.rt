@@ -26,7 +26,7 @@ pub(crate) struct PortValues {
     pub(crate) alone: u16,
     pub(crate) inward_refresh: bool,
     pub(crate) choice: Choice,
-    pub(crate) ahead: u32,
+    pub(crate) ahead: u16,
     ghost limited: { ForSome host_limit (λ most. 0 < most) },
     ghost alone_late: { alone < 50 → alone ≡ 0 },
     ghost most_ahead: { ahead ≤ 1024 },

@@ -24,7 +24,7 @@ pub(crate) struct Values {
     pub(crate) alone: u16,
     pub(crate) inward_refresh: bool,
     pub(crate) choice: Choice,
-    pub(crate) ahead: u32,
+    pub(crate) ahead: u16,
     pub(crate) inside: InterfaceSettings,
     pub(crate) outside: InterfaceSettings,
     pub(crate) router: Ip,

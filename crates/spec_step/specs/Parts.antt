@@ -33,7 +33,7 @@ use Rattle.spec_binding.specs.declared.changes.Transition.{Transition}
 use Rattle.spec_binding.specs.Books.{is_lone, is_synced}
 use Rattle.spec_binding.specs.Ledgers.{lone_ledger, carried_ledger, ledger_after, may_ask, rests_for, restarted_ledger, sought_keys, taken_ledger}
 use Rattle.spec_binding.specs.Resets.{back_in, restart_link, restart_notes, retaken}
-use Rattle.spec_binding.specs.Rows.{alone_row, answered, idle_row, is_full, noted_by, taken_answer, taken_ended, taken_what, wish_of}
+use Rattle.spec_binding.specs.Rows.{alone_row, answered, behind, idle_row, is_full, noted_by, taken_answer, taken_behind, taken_ended, taken_what, wish_of}
 use Rattle.spec_binding.specs.Uses.{carried_notes}
 use Rattle.waiting.specs.declared.waits.Ended.{Ended}
 use Rattle.waiting.specs.declared.waits.Ended.TheVariants.{One, AllPairs}
@@ -79,9 +79,18 @@ by_row s row = let g = s.shown in
     scene (record g { ledger = ledger_after g.moment row.change g.ledger; link = answered g.link row.answer })
     (with_notes s.told (noted_by (id_of g) g.moment row.what))
 
+-- the scene after the row behind a row: ports are asked for ahead, or nothing happens; nothing is noted
+abbrev pub asked_behind : GatewayAndOutput → Transition → GatewayAndOutput
+asked_behind s row = let g = s.shown in
+    scene (record g { ledger = ledger_after g.moment row.change g.ledger; link = answered g.link row.answer }) s.told
+
+-- the scene after a row, and after the row behind it
+abbrev pub by_row_and_behind : GatewayAndOutput → Transition → GatewayAndOutput
+by_row_and_behind s row = asked_behind (by_row s row) (behind s.shown.ledger.book s.shown.link row)
+
 -- the scene after the endpoint of a packet's source wished for a port
 abbrev pub wanted_by : GatewayAndOutput → Endpoint → GatewayAndOutput
-wanted_by s e = by_row s (wish_of s.shown.ledger.book (is_apart s.shown) (is_full s.shown.link) e).row
+wanted_by s e = by_row_and_behind s (wish_of s.shown.ledger.book (is_apart s.shown) (is_full s.shown.link) e).row
 
 -- the scene after the pair of a key carried a packet
 abbrev pub carried_by : GatewayAndOutput → Key → Carried → GatewayAndOutput
@@ -423,11 +432,16 @@ abbrev pub wait_ended : Option Endpoint → GatewayAndOutput → GatewayAndOutpu
 wait_ended None s = s
 wait_ended (Some e) s = released s (One (wait.Pair e))
 
+-- the scene after a record was taken, and ports were asked for behind it
+abbrev pub record_and_behind : GatewayAndOutput → Record → GatewayAndOutput
+record_and_behind s r = let g = s.shown in
+    asked_behind (scene (record_shown g r) (record_told g r s.told))
+    (taken_behind g.ledger.book g.link (rests_for g.moment g.ledger r) r)
+
 -- the scene after a record was taken, with the packets whose wait it ended
 abbrev pub record_done : GatewayAndOutput → Record → GatewayAndOutput
 record_done s r = let g = s.shown in
-    wait_ended (taken_ended g.ledger.book (rests_for g.moment g.ledger r) r)
-    (scene (record_shown g r) (record_told g r s.told))
+    wait_ended (taken_ended g.ledger.book (rests_for g.moment g.ledger r) r) (record_and_behind s r)
 
 -- the scene after these records were taken, one after another
 abbrev pub records_done : GatewayAndOutput → List Record → GatewayAndOutput

@@ -4,6 +4,7 @@
 mod events;
 mod laws;
 mod plans;
+mod secrets;
 mod turns;
 
 pub use events::{Event, Outcome};
@@ -18,4 +19,5 @@ pub use laws::{
     uses_are_marked, waits_where_there_is_place,
 };
 pub use plans::{Plan, Reply};
+pub use secrets::Secrets;
 pub use turns::Turn;
