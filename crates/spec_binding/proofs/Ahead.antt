@@ -23,7 +23,7 @@ use Rattle.spec_binding.proofs.Parts.{works-join, works-more}
 use Rattle.spec_binding.proofs.Wishing.{ahead-works}
 
 -- what holds of the row that asks for ports, and of none, holds of what is asked for behind a change
-either-ahead : (P : Transition → Type 0) (b : Book) (full : Bool) (ch : Change) → (is_paired (changed ch b).stage ≡ true → P (row Want (Some rec.Want) None)) → P quiet → P (ahead_row b full ch)
+pub either-ahead : (P : Transition → Type 0) (b : Book) (full : Bool) (ch : Change) → (is_paired (changed ch b).stage ≡ true → P (row Want (Some rec.Want) None)) → P quiet → P (ahead_row b full ch)
 either-ahead P b full ch asks none = at (is_cause b ch && is_short_after c ch)
   where
     c : Book

@@ -1,7 +1,7 @@
 -- The lemmas that proofs of other crates may cite.
 
 -- Ports that are asked for ahead.
-pub use Rattle.spec_binding.proofs.Ahead.{ahead-fits, ahead-keeps, ahead-stays, ahead-entries, ahead-accounts, works-behind}
+pub use Rattle.spec_binding.proofs.Ahead.{either-ahead, ahead-fits, ahead-keeps, ahead-stays, ahead-entries, ahead-accounts, works-behind}
 -- Where no port is drawn, no port may be given out.
 pub use Rattle.spec_binding.proofs.Choosing.{drawn-busy}
 -- A list reversed and joined, in the order of a trace.

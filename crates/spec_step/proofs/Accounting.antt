@@ -42,7 +42,7 @@ use Rattle.vrrp_states.specs.Table.{Event as RouterEvent}
 use Rattle.spec_step.specs.declared.events.Event.{Event}
 use Rattle.spec_step.specs.declared.events.Event.TheVariants.{Frame, Datagram as Comes, Tick, Stop, PeerOff, Side as SideIs}
 use Rattle.spec_step.specs.Machine.{AreBytes, HasBytes, KeepsBytes}
-use Rattle.spec_step.specs.Parts.{acted, all_framed, all_idle_done, answered_by, arp_taken, datagram_in, datagram_read, framed, frames_of, handed_in, has_synced, heard_by, heard_unless, idle_done, idle_taken, link_answered, link_ticked, old_dropped, record_done, record_shown, record_told, records_done, released, reset, started, wait_ended, with_link, word_taken, all_sought_done, alone_taken, gone_alone, peer_told, sought_done, waits_for_sender, is_taught}
+use Rattle.spec_step.specs.Parts.{acted, all_framed, all_idle_done, answered_by, arp_taken, datagram_in, datagram_read, framed, frames_of, handed_in, has_synced, heard_by, heard_unless, idle_done, idle_taken, link_answered, link_ticked, old_dropped, record_done, record_shown, record_told, records_done, released, reset, started, wait_ended, with_link, word_taken, all_sought_done, alone_taken, gone_alone, peer_told, sought_done, waits_for_sender, is_taught, record_taken}
 use Rattle.spec_step.specs.Rests.{AreBy, Rests}
 use Rattle.spec_step.specs.Shown.{GatewayAndOutput, Shown, id_of, is_running, scene, station_on, with_notes, with_station, is_apart}
 use Rattle.spec_step.specs.Routers.{BothAct, RouterActs}
@@ -54,8 +54,9 @@ use Rattle.spec_step.proofs.Idle.{idle-at-once, sought-at-once}
 use Rattle.spec_step.proofs.Packets.{Reads, kept-filter, read-formed}
 use Rattle.spec_step.proofs.Passing.{IsSound}
 use Rattle.spec_step.proofs.Plain.{let-go-stays-plain, restarted-stays-plain, retaken-are-plain, taken-stays-plain, went-on-stays-plain}
-use Rattle.spec_step.proofs.Resting.{Rested, Resting, by-join, flow-rests, framed-rests, noted-own, released-rests, resting-noted, resting-nothing, resting-then, resting-unseen, echo-rests, error-rests, refused-rests}
+use Rattle.spec_step.proofs.Resting.{Rested, Resting, by-join, flow-rests, framed-rests, noted-own, released-rests, resting-noted, resting-nothing, resting-then, resting-unseen, echo-rests, error-rests, refused-rests, asking-rests}
 use Rattle.spec_step.proofs.Stepping.{begun_on}
+use Rattle.spec_step.proofs.Ahead.{record-behind, record_alone}
 
 -- ---- interfaces
 
@@ -130,13 +131,14 @@ record-rests reads s r formed =
     let g = s.shown in let b = g.ledger.book in
     let rests = rests_for g.moment g.ledger r in
     let notes = noted_by b.id g.moment (taken_what b rests r) in
-    let g2 : Shown = record g { ledger = taken_ledger g.moment g.ledger r; link = answered g.link (taken_answer b rests r) } in
+    let g2 : Shown = record_taken g r in
     let told = record_told g r s.told in
     let s2 = scene g2 told in
     let s3 = scene (record_shown g r) told in
-    let first : Resting s s2 = resting-noted s (taken_ledger g.moment g.ledger r) (answered g.link (taken_answer b rests r)) notes
+    let alone : Resting s (scene (record_alone g r) told) = resting-noted s (taken_ledger g.moment g.ledger r) (answered g.link (taken_answer b rests r)) notes
     (noted-own b.id g.moment (taken_what b rests r)) (taken-stays-plain b rests r b.id g.moment) (taken-id b rests r) (λ is. taken-keeps b rests r is formed)
     (λ before is a. taken-accounts g.moment g.ledger before r is a) in
+    let first : Resting s s2 = record-behind (Resting s) g r told (asking-rests s) alone in
     resting-then s s3 (record_done s r)
     (resting-then s s2 s3 first (routed-rests g2.moment g2 told (has_synced g g2 && is_running g2)))
     (ended-rests reads s3 (taken_ended b rests r))

@@ -34,6 +34,7 @@ use Rattle.spec_step.proofs.Freeing.{Comes-of, comes-then, filter-all, filter-le
 use Rattle.spec_step.proofs.Limits.{IsByWait, KeepsHops, TakesNone, asks-before, count-noted, hops-stay, limit-count, limit-same, noted-taken, noted-then}
 use Rattle.spec_step.proofs.Rooting.{RowRoots, has-more, has-then, same-rooted, wish-roots}
 use Rattle.spec_step.proofs.Telling.{at_hand, shuffled}
+use Rattle.spec_step.proofs.Ahead.{Keeps, row-behind}
 
 -- the networks of a gateway stay the same
 abbrev pub NetsStay : Shown → Shown → Type 0
@@ -378,12 +379,25 @@ nothing-quiet s = quiet-by s s refl refl refl refl refl ((refl, refl), (refl, re
 pub nothing-asks : (hand : List AtHand) (s : GatewayAndOutput) → Ask-on hand nobody s s
 nothing-asks hand s = quiet-asks hand s s (nothing-quiet s)
 
+-- a part stays quiet where ports are asked for behind it
+pub asking-quiet : (s : GatewayAndOutput) → Keeps (IsQuiet s)
+asking-quiet s m paired q = record {
+  frames = q.frames;
+  notes = q.notes;
+  notes_are = append-nil m.told.notes ∙ q.notes_are;
+  roots = q.roots;
+  kept = q.kept;
+  known = q.known;
+  stations = q.stations;
+  wired = q.wired;
+}
+
 pub wanted-quiet : (s : GatewayAndOutput) (e : Endpoint) → IsQuiet s (wanted_by s e)
 wanted-quiet s e =
     let b = s.shown.ledger.book in
     let apart = is_apart s.shown in
     let full = is_full s.shown.link in
-    row-quiet s (wish_of b apart full e).row (wish-roots b apart full e)
+    row-behind (IsQuiet s) s (wish_of b apart full e).row (asking-quiet s) (row-quiet s (wish_of b apart full e).row (wish-roots b apart full e))
 
 pub wanted-for-quiet : (s : GatewayAndOutput) (flow : Flow) (by : Translation) → IsQuiet s (wanted_for s flow by)
 wanted-for-quiet s flow (Outward p) = wanted-quiet s (source_of flow)

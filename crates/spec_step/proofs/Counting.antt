@@ -1,7 +1,7 @@
 -- How many notes each part of a step makes, how many packets more it keeps, and that no step makes more notes than it
 -- may.
 use Rattle.std.proofs.Common.{◌≡◌, ◌≤◌, ℕ, zero, suc, ◌+◌, ◌-◌, ◌*◌, Bool, true, false, cond, not, ◌&&◌, List, [], ◌∷◌, ◌++◌, length, filter, Option, Some, None, Result, Ok, Err, refl, sym, ap, subst, ◌∙◌, arith, nat_lt}
-use Rattle.std.proofs.lemmas.List.{length-append, length-drop, length-map}
+use Rattle.std.proofs.lemmas.List.{length-append, length-drop, length-map, append-nil}
 use Rattle.std.proofs.lemmas.List.Filters.{length-filter_both}
 use Rattle.addresses.specs.declared.ethernet.Mac.{Mac}
 use Rattle.addresses.specs.declared.transport.TcpFlags.{TcpFlags}
@@ -61,7 +61,7 @@ use Rattle.spec_step.specs.declared.events.Event.TheVariants.{Frame, Datagram as
 use Rattle.spec_step.specs.declared.plans.Plan.{Plan}
 use Rattle.spec_step.specs.declared.plans.Plan.TheVariants.{Send, Ask, AskAgain, Wait as WaitFor}
 use Rattle.spec_step.specs.Machine.{AreBytes, HasBytes}
-use Rattle.spec_step.specs.Parts.{all_framed, all_idle_done, all_taken, answered_by, arp_taken, asked_again, by_plan, by_row, by_verdict, carried_all, carried_by, datagram_in, datagram_read, flags_in, flow_taken, framed, frames_of, handed_in, has_synced, heard_by, heard_unless, idle_done, idle_taken, keeping, link_answered, link_ticked, old_dropped, record_done, record_shown, record_told, records_done, released, renewed_behind, request_by, reset, retaken_by, started, taken_again, wait_ended, waiting, wanted_by, wanted_for, with_link, word_taken, by_error_plan, by_error_verdict, error_taken, echo_taken, size_in, refused, all_sought_done, alone_taken, gone_alone, peer_told, sought_done, waits_for_sender, is_taught}
+use Rattle.spec_step.specs.Parts.{all_framed, all_idle_done, all_taken, answered_by, arp_taken, asked_again, by_plan, by_row, by_verdict, carried_all, carried_by, datagram_in, datagram_read, flags_in, flow_taken, framed, frames_of, handed_in, has_synced, heard_by, heard_unless, idle_done, idle_taken, keeping, link_answered, link_ticked, old_dropped, record_done, record_shown, record_told, records_done, released, renewed_behind, request_by, reset, retaken_by, started, taken_again, wait_ended, waiting, wanted_by, wanted_for, with_link, word_taken, by_error_plan, by_error_verdict, error_taken, echo_taken, size_in, refused, all_sought_done, alone_taken, gone_alone, peer_told, sought_done, waits_for_sender, is_taught, record_taken}
 use Rattle.spec_step.specs.Rests.{most_notes}
 use Rattle.spec_step.specs.Shown.{GatewayAndOutput, Shown, id_of, is_apart, is_running, scene, station_on, with_notes, with_station}
 use Rattle.spec_step.specs.Routers.{BothAct, RouterActs}
@@ -74,6 +74,7 @@ use Rattle.spec_step.proofs.Own.{Said, echo-by, refusal-by, refused-by, said_sce
 use Rattle.icmp.specs.declared.packets.ErrorFlow.{ErrorFlow}
 use Rattle.spec_step.proofs.Behind.{asked_behind}
 use Rattle.spec_binding.specs.Uses.{carried_notes, use_counts}
+use Rattle.spec_step.proofs.Ahead.{Keeps, record-behind, record_alone, row-behind}
 
 -- from one scene to another at most `n` notes are added, and at most `k` packets more are kept
 record Adds (n k : ℕ) (s s2 : GatewayAndOutput) : Type 0 where
@@ -114,8 +115,13 @@ one-with counts id now (Some what) = omega arith
 row-adds : (s : GatewayAndOutput) (row : Transition) → Adds 1 0 s (by_row s row)
 row-adds s row = adds-noted 1 s (by_row s row) (noted_by (id_of s.shown) s.shown.moment row.what) (noted-one (id_of s.shown) s.shown.moment row.what) refl refl
 
+asking-adds : (n k : ℕ) (s : GatewayAndOutput) → Keeps (Adds n k s)
+asking-adds n k s m paired a = record { notes = subst (λ (notes : List Note). length notes ≤ length s.told.notes + n) (sym (append-nil m.told.notes)) a.notes; kept = a.kept }
+
 wanted-adds : (s : GatewayAndOutput) (e : Endpoint) → Adds 1 0 s (wanted_by s e)
-wanted-adds s e = row-adds s (wish_of s.shown.ledger.book (is_apart s.shown) (is_full s.shown.link) e).row
+wanted-adds s e =
+    let row = (wish_of s.shown.ledger.book (is_apart s.shown) (is_full s.shown.link) e).row in
+    row-behind (Adds 1 0 s) s row (asking-adds 1 0 s) (row-adds s row)
 
 carried-adds : (s : GatewayAndOutput) (k : Key) (p : Carried) → Adds 1 0 s (carried_by s k p)
 carried-adds s k p =
@@ -385,11 +391,13 @@ record-within c s r =
     let g = s.shown in let b = g.ledger.book in
     let rests = rests_for g.moment g.ledger r in
     let what = taken_what b rests r in
-    let g2 : Shown = record g { ledger = taken_ledger g.moment g.ledger r; link = answered g.link (taken_answer b rests r) } in
+    let g2 : Shown = record_taken g r in
     let told = record_told g r s.told in
+    let s1 = scene (record_alone g r) told in
     let s2 = scene g2 told in
     let s3 = scene (record_shown g r) told in
-    let first : Adds 1 0 s s2 = adds-noted 1 s s2 (noted_by b.id g.moment what) (noted-one b.id g.moment what) refl refl in
+    let alone : Adds 1 0 s s1 = adds-noted 1 s s1 (noted_by b.id g.moment what) (noted-one b.id g.moment what) refl refl in
+    let first : Adds 1 0 s s2 = record-behind (Adds 1 0 s) g r told (asking-adds 1 0 s) alone in
     within-then c 1 (3 * c) s s3 (record_done s r)
     (within-adds c 1 s s3 (adds-then 1 0 0 0 s s2 s3 first (routed-adds g2.moment g2 told (has_synced g g2 && is_running g2))))
     (ended-within c s3 (taken_ended b rests r))

@@ -1,4 +1,5 @@
 mod Accounting
+mod Ahead
 mod Apart
 mod Asked
 mod Asking

@@ -60,6 +60,7 @@ use Rattle.spec_step.proofs.Packets.{Reads, kept-filter}
 use Rattle.spec_step.proofs.Passing.{IsSound}
 use Rattle.spec_step.proofs.Takes.{IsUnseen, NoneForPair, takes-all}
 use Rattle.spec_step.proofs.WhileApart.{all-sought-apart, apart-paired, apart-same, row-apart}
+use Rattle.spec_step.proofs.Ahead.{Keeps, asking, asking-book, row-behind}
 
 -- ---- entries that don't wait
 
@@ -210,11 +211,20 @@ unseen-still s s2 u = λ n. record {
   settled = subst (λ (l : Ledger). AllSettled l.book.entries) (sym u.ledger) n.settled;
 }
 
+asking-still : Keeps (λ m. Nobody m.shown)
+asking-still m paired n = record {
+  sound = record { book = asking-book m.shown.ledger.book paired n.sound.book; kept = n.sound.kept };
+  apart = row-apart m asking ∙ n.apart;
+  none = n.none;
+  settled = n.settled;
+}
+
 wanted-still : (s : GatewayAndOutput) (e : Endpoint) → IsWellFormedEndpoint e → Still s (wanted_by s e)
 wanted-still s e formed = λ n.
     let g = s.shown in let b = g.ledger.book in
     let full = is_full g.link in
     let row = (wish_of b (is_apart g) full e).row in
+    row-behind (λ m. Nobody m.shown) s row asking-still
     record {
       sound = record { book = wish-keeps b (is_apart g) full e n.sound.book formed; kept = n.sound.kept };
       apart = row-apart s row ∙ n.apart;

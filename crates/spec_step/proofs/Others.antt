@@ -49,7 +49,7 @@ use Rattle.spec_step.specs.declared.turns.Turn.TheVariants.{Leaves, Returns, Sta
 use Rattle.spec_step.specs.GivingWay.{GivingWay, TakesTurn, left, turn_of}
 use Rattle.spec_step.specs.Others.{AreOfBoth, TurnOwes, AreOthers, Asking, FrameOwes, IsDue, IsNew, MayGoBy, Owes, all_noted, answers_by, firsts, free_by, frees_as, frees_for, frees_heard, frees_read, frees_unless, hops_of, is_freed, is_old, other_frames, packet_as, packet_in, packets_asked, requests, retaken_pairs, sent_on, waiting_by, within_limit, is_other, heard_as, heard_in}
 use Rattle.spec_step.specs.Machine.{AreBytes, HasBytes}
-use Rattle.spec_step.specs.Parts.{acted, all_framed, all_idle_done, answered_by, arp_taken, datagram_in, datagram_read, datagram_taken, flow_taken, framed, frames_of, handed_in, has_synced, heard_by, heard_unless, idle_done, idle_taken, link_answered, link_ticked, old_dropped, record_done, record_shown, record_told, records_done, released, reset, side_plugged, started, wait_ended, with_link, word_taken, error_taken, echo_taken, refused, all_sought_done, alone_taken, gone_alone, peer_told, sought_done, waits_for_sender, is_taught, arp_heard}
+use Rattle.spec_step.specs.Parts.{acted, all_framed, all_idle_done, answered_by, arp_taken, datagram_in, datagram_read, datagram_taken, flow_taken, framed, frames_of, handed_in, has_synced, heard_by, heard_unless, idle_done, idle_taken, link_answered, link_ticked, old_dropped, record_done, record_shown, record_told, records_done, released, reset, side_plugged, started, wait_ended, with_link, word_taken, error_taken, echo_taken, refused, all_sought_done, alone_taken, gone_alone, peer_told, sought_done, waits_for_sender, is_taught, arp_heard, record_taken}
 use Rattle.spec_step.specs.Shown.{GatewayAndOutput, Shown, id_of, is_running, is_up, scene, station_on, with_notes, with_station, is_apart}
 use Rattle.spec_step.specs.Routers.{BothAct, RouterActs}
 use Rattle.spec_step.specs.Settled.{AreIdle}
@@ -58,7 +58,7 @@ use Rattle.spec_step.specs.Truly.{AtHand, Known, known_of, packets_of}
 use Rattle.spec_step.specs.Verdict.{reading_on}
 use Rattle.spec_step.proofs.Before.{apart-then}
 use Rattle.spec_step.proofs.Packets.{kept-filter}
-use Rattle.spec_step.proofs.Asking.{Ask-on, Asks, IsFit, IsQuiet, NearStays, NetsStay, Waiting, asking-then, due-more, new-more, nobody, nothing-asks, quiet-asks, quiet-by, requests-same, row-quiet, same-near}
+use Rattle.spec_step.proofs.Asking.{Ask-on, Asks, IsFit, IsQuiet, NearStays, NetsStay, Waiting, asking-then, due-more, new-more, nobody, nothing-asks, quiet-asks, quiet-by, requests-same, row-quiet, same-near, asking-quiet}
 use Rattle.spec_step.proofs.AskingParts.{all-apart, echo-asks, error-asks, one-apart, packet-asks, pairs-ask, refused-asks, released-asks}
 use Rattle.spec_step.proofs.Freeing.{Comes-of, filter-same, filter-both}
 use Rattle.spec_step.proofs.Limits.{count-left, asks-left}
@@ -68,6 +68,7 @@ use Rattle.spec_step.proofs.Sending.{Frames, own-six, answer-other}
 use Rattle.spec_step.proofs.Telling.{at_hand}
 use Rattle.spec_step.proofs.Turning.{back_as}
 use Rattle.spec_step.proofs.Truths.{AllOther, action-frames, after-net, after-wired, routed-wired, set-up-inside, set-up-outside, wired-on}
+use Rattle.spec_step.proofs.Ahead.{record-behind}
 
 -- From a scene to a later one: these frames were sent, none of which is a translation, nothing was noted, and no packet
 -- came to wait.
@@ -465,14 +466,14 @@ record-asks : Frames → (s : GatewayAndOutput) (r : Record) → Ask-on [] (free
 record-asks frames s r =
     let g = s.shown in let b = g.ledger.book in
     let rests = rests_for g.moment g.ledger r in
-    let g2 : Shown = record g { ledger = taken_ledger g.moment g.ledger r; link = answered g.link (taken_answer b rests r) } in
+    let g2 : Shown = record_taken g r in
     let told = record_told g r s.told in
     let s2 = scene g2 told in
     let s3 = scene (record_shown g r) told in
     let o = taken_ended b rests r in
     let notes = noted_by b.id g.moment (taken_what b rests r) in
     asking-then [] [] nobody (frees_for o) s s3 (record_done s r)
-    (asking-then [] [] nobody nobody s s2 s3 (quiet-asks [] s s2 (table-quiet s (taken_ledger g.moment g.ledger r) (answered g.link (taken_answer b rests r)) notes (taken-roots b rests r b.id g.moment))) (routed-asks g2.moment g2 told (has_synced g g2 && is_running g2)))
+    (asking-then [] [] nobody nobody s s2 s3 (quiet-asks [] s s2 (record-behind (IsQuiet s) g r told (asking-quiet s) (table-quiet s (taken_ledger g.moment g.ledger r) (answered g.link (taken_answer b rests r)) notes (taken-roots b rests r b.id g.moment)))) (routed-asks g2.moment g2 told (has_synced g g2 && is_running g2)))
     (ended-asks frames s3 o)
 
 records-ask : Frames → (s : GatewayAndOutput) (rs : List Record) → Ask-on [] (free_by s rs) s (records_done s rs)

@@ -57,12 +57,12 @@ use Rattle.interfaces.specs.Stations.{is_active}
 use Rattle.spec_step.specs.declared.plans.Plan.{Plan}
 use Rattle.spec_step.specs.declared.plans.Plan.TheVariants.{Send, Ask, AskAgain, Wait as WaitFor}
 use Rattle.spec_step.specs.Machine.{AreBytes}
-use Rattle.spec_step.specs.Parts.{all_taken, asked_again, by_plan, by_refusal, by_verdict, carried, carried_all, carried_by, flags_in, flow_taken, framed, keeping, released, remote, renewed_behind, request_by, retaken_by, taken_again, wanted_by, wanted_for, by_error_plan, by_error_verdict, error_taken, echo_taken, size_in, refused}
+use Rattle.spec_step.specs.Parts.{all_taken, asked_again, by_plan, by_refusal, by_verdict, carried, carried_all, carried_by, flags_in, flow_taken, framed, keeping, released, remote, renewed_behind, request_by, retaken_by, taken_again, wanted_by, wanted_for, by_error_plan, by_error_verdict, error_taken, echo_taken, size_in, refused, by_row, by_row_and_behind}
 use Rattle.spec_step.specs.Shown.{GatewayAndOutput, Shown, is_apart, is_up, scene, station_on}
 use Rattle.spec_step.specs.Verdict.{exit_by, hop_by, look_for, plan_by, plan_from, plan_of, plan_on, plan_to, reading_on, target_pair, error_hop, error_plan, fits_at, if_fits}
 use Rattle.spec_step.proofs.Fitting.{fitted}
 use Rattle.spec_step.proofs.Own.{Said, echo-by, refusal-by, refused-by, said_scene}
-use Rattle.spec_step.proofs.Passing.{Going, given, going-then, going-unseen, nothing, row-goes}
+use Rattle.spec_step.proofs.Passing.{Going, given, going-then, going-unseen, nothing, row-goes, ahead-goes}
 use Rattle.icmp.specs.declared.packets.ErrorFlow.{ErrorFlow}
 use Rattle.spec_step.proofs.Behind.{asked_behind}
 use Rattle.spec_binding.specs.Uses.{use_counts}
@@ -186,7 +186,12 @@ module _ (letters : List Letter) (words : List ℕ) where
       let b = s.shown.ledger.book in
       let apart = is_apart s.shown in
       let full = is_full s.shown.link in
-      row-goes letters words s (wish_of b apart full e).row n h is (wish-keeps b apart full e is.book formed) (wish-works s.shown.moment b s.shown.link n h apart full e stands)
+      let link = s.shown.link in
+      let row = (wish_of b apart full e).row in
+      let mid = by_row s row in
+      let first = row-goes letters words s row n h is (wish-keeps b apart full e is.book formed) (wish-works s.shown.moment b link n h apart full e stands) in
+      goes-then letters words s mid (by_row_and_behind s row) n n n h first
+      (ahead-goes letters words mid b (is_full (answered link row.answer)) row.change n first.passes.works.history refl first.passes.works.agrees first.passes.sound)
 
   carried-goes : (s : GatewayAndOutput) (k : Key) (r : Remote) (w : Way) (flags : TcpFlags) → Going letters words s (carried_by s k (carried s.shown r w flags))
   carried-goes s k r w flags = λ n h stands is.

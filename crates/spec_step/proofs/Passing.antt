@@ -1,6 +1,6 @@
 -- Parts of a step as parts of a step of the machine: a part of one act, a part of none, and two parts one after the
 -- other.
-use Rattle.std.proofs.Common.{◌≡◌, ℕ, true, List, [], ◌++◌, Option, Some, None, refl, sym, ap, subst, ◌∙◌, append_assoc}
+use Rattle.std.proofs.Common.{◌≡◌, ℕ, true, List, [], ◌++◌, Option, Some, None, refl, sym, ap, subst, ◌∙◌, append_assoc, Bool}
 use Rattle.std.proofs.lemmas.List.{append-nil}
 use Rattle.nat_types.specs.declared.notes.Note.{Note}
 use Rattle.nat_types.specs.declared.records.Record.{Record}
@@ -9,11 +9,12 @@ use Rattle.spec_pair.specs.Box.{Letter}
 use Rattle.spec_binding.specs.declared.changes.Transition.{Transition}
 use Rattle.spec_binding.specs.Books.{Book, IsBook, is_lone}
 use Rattle.spec_binding.specs.Machine.{Stands, Works}
-use Rattle.spec_binding.specs.Rows.{after, answered, noted_by}
-use Rattle.spec_binding.proofs.Offered.{change-leaves, works-join, works-more, works-nothing}
+use Rattle.spec_binding.specs.Rows.{after, answered, noted_by, ahead_row, changed}
+use Rattle.spec_binding.proofs.Offered.{change-leaves, works-join, works-more, works-nothing, ahead-works, ahead-keeps}
 use Rattle.spec_step.specs.Machine.{KeepsBytes}
-use Rattle.spec_step.specs.Parts.{by_row}
+use Rattle.spec_step.specs.Parts.{by_row, by_row_behind}
 use Rattle.spec_step.specs.Shown.{GatewayAndOutput, Shown}
+use Rattle.spec_binding.specs.declared.changes.Change.{Change}
 
 -- what holds of a gateway between the parts of a step
 pub record IsSound (g : Shown) : Type 0 where
@@ -57,6 +58,23 @@ pub record Goes-on (letters : List Letter) (words : List ℕ) (s : GatewayAndOut
 
 abbrev pub Going : List Letter → List ℕ → GatewayAndOutput → GatewayAndOutput → Type 0
 Going letters words s s2 = (n : ℕ) (h : List Record) → Stands s.shown.ledger.book s.shown.link h → IsSound s.shown → Goes-on letters words s n s2 n h
+
+-- an answer that is pushed, or none, leaves the session of the link
+pub at-boot : (e : Link) (o : Option Record) → (answered e o).boot ≡ e.boot
+at-boot e None = refl
+at-boot e (Some r) = refl
+
+pub at-known : (e : Link) (o : Option Record) → (answered e o).known ≡ e.known
+at-known e None = refl
+at-known e (Some r) = refl
+
+pub at-closed : (e : Link) (o : Option Record) → (answered e o).closed ≡ e.closed
+at-closed e None = refl
+at-closed e (Some r) = refl
+
+pub at-taken : (e : Link) (o : Option Record) → (answered e o).taken ≡ e.taken
+at-taken e None = refl
+at-taken e (Some r) = refl
 
 module _ (letters : List Letter) (words : List ℕ) where
   -- two parts, one after the other, make one
@@ -141,26 +159,38 @@ module _ (letters : List Letter) (words : List ℕ) where
           sound = record { book = book; kept = is.kept };
         };
         stays = record {
-          boot = at_boot row.answer;
-          known = at_known row.answer;
-          closed = at_closed row.answer;
-          taken = at_taken row.answer;
+          boot = at-boot e row.answer;
+          known = at-known e row.answer;
+          closed = at-closed e row.answer;
+          taken = at-taken e row.answer;
           lone = λ t. ap is_lone (sym beside.stage) ∙ t;
         };
       }
-    where
-      at_boot : (o : Option Record) → (answered s.shown.link o).boot ≡ s.shown.link.boot
-      at_boot None = refl
-      at_boot (Some r) = refl
 
-      at_known : (o : Option Record) → (answered s.shown.link o).known ≡ s.shown.link.known
-      at_known None = refl
-      at_known (Some r) = refl
-
-      at_closed : (o : Option Record) → (answered s.shown.link o).closed ≡ s.shown.link.closed
-      at_closed None = refl
-      at_closed (Some r) = refl
-
-      at_taken : (o : Option Record) → (answered s.shown.link o).taken ≡ s.shown.link.taken
-      at_taken None = refl
-      at_taken (Some r) = refl
+  -- what is asked for behind a change is a part of a step of the machine
+  pub ahead-goes : (s : GatewayAndOutput) (b : Book) (full : Bool) (c : Change) (n : ℕ) (h : List Record) → s.shown.ledger.book ≡ changed c b → Stands s.shown.ledger.book s.shown.link h → IsSound s.shown
+      → Goes-on letters words s n (by_row_behind s (ahead_row b full c)) n h
+  ahead-goes s b full c n h same stands is =
+      let now = s.shown.moment in
+      let b2 = s.shown.ledger.book in
+      let e = s.shown.link in
+      let row = ahead_row b full c in
+      let works = subst (λ (x : Book). Works now [] [] x e n (after x row) (answered e row.answer) n [] h) (sym same)
+          (ahead-works now b e n h full c (subst (λ (x : Book). Stands x e h) same stands)) in
+      record {
+        passes = record {
+          notes = [];
+          notes_are = sym (append-nil s.told.notes);
+          datagrams = refl;
+          moment = refl;
+          works = given now b2 (after b2 row) e (answered e row.answer) n n [] h works;
+          sound = record { book = subst (λ (x : Book). IsBook (after x row)) (sym same) (ahead-keeps b full c (subst IsBook same is.book)); kept = is.kept };
+        };
+        stays = record {
+          boot = at-boot e row.answer;
+          known = at-known e row.answer;
+          closed = at-closed e row.answer;
+          taken = at-taken e row.answer;
+          lone = λ t. ap is_lone (sym (change-leaves b2 row.change).stage) ∙ t;
+        };
+      }

@@ -1,22 +1,24 @@
 -- What a step does with the records of a datagram, as the machine sees it.
-use Rattle.std.proofs.Common.{◌≡◌, ℕ, suc, ◌+◌, Bool, true, false, cond, ◌&&◌, List, [], ◌∷◌, length, Option, Some, None, refl, sym, subst, ◌∙◌, arith}
+use Rattle.std.proofs.Common.{◌≡◌, ℕ, suc, ◌+◌, Bool, true, false, cond, ◌&&◌, List, [], ◌∷◌, length, Option, Some, None, refl, sym, subst, ◌∙◌, arith, cond-true}
 use Rattle.nat_types.specs.declared.pairs.Endpoint.{Endpoint}
 use Rattle.nat_types.specs.declared.records.Record.{Record}
 use Rattle.link.specs.Grammar.{IsWellFormedRecord}
 use Rattle.link.specs.Link.{Link}
 use Rattle.spec_pair.specs.Box.{Letter}
-use Rattle.spec_binding.specs.Books.{is_lone}
+use Rattle.spec_binding.specs.Books.{is_lone, Book, is_synced}
 use Rattle.spec_binding.specs.Ledgers.{rests_for, taken_ledger}
 use Rattle.spec_binding.specs.Machine.{IsTurn, Stands}
-use Rattle.spec_binding.specs.Rows.{answered, noted_by, taken_answer, taken_book, taken_ended, taken_what}
+use Rattle.spec_binding.specs.Rows.{answered, noted_by, taken_answer, taken_book, taken_ended, taken_what, behind, after, row_of, quiet, is_full, unsynced_after}
 use Rattle.spec_binding.proofs.Offered.{taken-keeps, taken-together, works-more, record-works}
 use Rattle.waiting.specs.declared.waits.Ended.TheVariants.{One}
 use Rattle.waiting.specs.declared.waits.WaitsFor.TheVariants as wait
 use Rattle.output.specs.Output.{Output}
-use Rattle.spec_step.specs.Parts.{has_synced, record_done, record_shown, record_told, records_done, started, wait_ended}
+use Rattle.spec_step.specs.Parts.{has_synced, record_done, record_shown, record_told, records_done, started, wait_ended, record_taken, by_row_behind}
 use Rattle.spec_step.specs.Shown.{GatewayAndOutput, Shown, is_running, scene}
-use Rattle.spec_step.proofs.Passing.{Going, Goes-on, IsSound, goes-then, going-unseen}
+use Rattle.spec_step.proofs.Passing.{Going, Goes-on, IsSound, goes-then, going-unseen, nothing, at-boot, at-known, at-closed, at-taken}
 use Rattle.spec_step.proofs.Packets.{Reads, here, released-goes}
+use Rattle.spec_step.proofs.Ahead.{record_alone}
+use Rattle.spec_binding.specs.declared.changes.Transition.{Transition}
 
 -- the record is the next after the `n` that are taken, at any end with these boots, and is
 -- well-formed
@@ -56,9 +58,7 @@ module _ (l : Letter) (words : List ℕ) where
 
   -- a record alone is a part of a step of the machine
   row-takes : (s : GatewayAndOutput) (n : ℕ) (r : Record) → Comes l s.shown.link.boot s.shown.link.known n r
-      → (let g = s.shown in let book = g.ledger.book in
-      let g2 : Shown = record g { ledger = taken_ledger g.moment g.ledger r; link = answered g.link (taken_answer book (rests_for g.moment g.ledger r) r) } in
-      Takes s n (scene g2 (record_told g r s.told)) (suc n))
+      → Takes s n (scene (record_alone s.shown r) (record_told s.shown r s.told)) (suc n)
   row-takes s n r comes = λ h stands is lone.
       let g = s.shown in let b = g.ledger.book in let e = g.link in
       let rests = rests_for g.moment g.ledger r in
@@ -77,29 +77,33 @@ module _ (l : Letter) (words : List ℕ) where
           sound = record { book = taken-keeps b rests r is.book comes.1; kept = is.kept };
         };
         stays = record {
-          boot = at_boot e o;
-          known = at_known e o;
-          closed = at_closed e o;
-          taken = at_taken e o;
+          boot = at-boot e o;
+          known = at-known e o;
+          closed = at-closed e o;
+          taken = at-taken e o;
           lone = λ t. alone-not (is_lone b2.stage) (is_lone b.stage ≡ true) (taken-together b rests r lone) t;
         };
       }
+
+  -- what is asked for behind a record is a part of a step of the machine
+  behind-goes : (g : Shown) (r : Record) (told : Output) (n : ℕ) (h : List Record) → Stands (record_alone g r).ledger.book (record_alone g r).link h → IsSound (record_alone g r)
+      → Goes-on (l ∷ []) words (scene (record_alone g r) told) n (scene (record_taken g r) told) n h
+  behind-goes g r told n h stands is = at (is_synced b.stage) refl
     where
-      at_boot : (e : Link) (o : Option Record) → (answered e o).boot ≡ e.boot
-      at_boot e None = refl
-      at_boot e (Some r) = refl
+      b : Book
+      b = g.ledger.book
 
-      at_known : (e : Link) (o : Option Record) → (answered e o).known ≡ e.known
-      at_known e None = refl
-      at_known e (Some r) = refl
+      first : Transition
+      first = row_of b (rests_for g.moment g.ledger r) r
 
-      at_closed : (e : Link) (o : Option Record) → (answered e o).closed ≡ e.closed
-      at_closed e None = refl
-      at_closed e (Some r) = refl
+      s : GatewayAndOutput
+      s = scene (record_alone g r) told
 
-      at_taken : (e : Link) (o : Option Record) → (answered e o).taken ≡ e.taken
-      at_taken e None = refl
-      at_taken e (Some r) = refl
+      at : (t : Bool) → is_synced b.stage ≡ t → Goes-on (l ∷ []) words s n (by_row_behind s (let x : Transition = cond t (behind b g.link first) quiet in x)) n h
+      at true synced =
+          ahead-goes (l ∷ []) words s b (is_full (answered g.link first.answer)) first.change n h
+          (cond-true (is_synced b.stage) (after b first) (unsynced_after b r) synced) stands is
+      at false synced = nothing (l ∷ []) words s n h stands is
 
   -- a record, with the routers that it may start and the packets whose wait it ends, is a part of a
   -- step of the machine
@@ -107,11 +111,14 @@ module _ (l : Letter) (words : List ℕ) where
   record-takes reads s n r comes = λ h stands is lone.
       let g = s.shown in let b = g.ledger.book in
       let rests = rests_for g.moment g.ledger r in
-      let g2 : Shown = record g { ledger = taken_ledger g.moment g.ledger r; link = answered g.link (taken_answer b rests r) } in
+      let g2 : Shown = record_taken g r in
       let told = record_told g r s.told in
+      let s1 = scene (record_alone g r) told in
       let s2 = scene g2 told in
       let s3 = scene (record_shown g r) told in
-      let first = row-takes s n r comes h stands is lone in
+      let alone = row-takes s n r comes h stands is lone in
+      let asked = behind-goes g r told (suc n) alone.passes.works.history alone.passes.works.agrees alone.passes.sound in
+      let first = goes-then (l ∷ []) words s s1 s2 n (suc n) (suc n) h alone asked in
       let second : Goes-on (l ∷ []) words s2 (suc n) s3 (suc n) first.passes.works.history = routed (l ∷ []) words g2.moment g2 told (has_synced g g2 && is_running g2) (suc n) first.passes.works.history first.passes.works.agrees first.passes.sound in
       let both = goes-then (l ∷ []) words s s2 s3 n (suc n) (suc n) h first second in
       let third = ended-goes (l ∷ []) words reads s3 (taken_ended b rests r) (suc n) both.passes.works.history both.passes.works.agrees both.passes.sound in

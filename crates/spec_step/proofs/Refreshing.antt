@@ -48,7 +48,7 @@ use Rattle.spec_step.specs.declared.turns.Turn.{Turn}
 use Rattle.spec_step.specs.declared.turns.Turn.TheVariants.{Leaves, Returns, Stays}
 use Rattle.spec_step.specs.Founding.{begun, founded}
 use Rattle.spec_step.specs.GivingWay.{TakesTurn, turn_of}
-use Rattle.spec_step.specs.Parts.{all_framed, all_idle_done, all_sought_done, all_taken, alone_taken, answered_by, arp_taken, asked_again, by_error_plan, by_error_verdict, by_plan, by_verdict, carried_all, datagram_in, datagram_read, echo_taken, error_taken, flags_in, flow_taken, frames_of, framed, gone_alone, handed_in, has_synced, heard_by, heard_unless, idle_done, idle_taken, is_taught, link_ticked, old_dropped, peer_told, record_done, record_shown, record_told, records_done, refused, released, renewed_behind, request_by, reset, retaken_by, routers_started, side_plugged, size_in, sought_done, taken_again, waits_for_sender, wait_ended, wanted_for, with_link}
+use Rattle.spec_step.specs.Parts.{all_framed, all_idle_done, all_sought_done, all_taken, alone_taken, answered_by, arp_taken, asked_again, by_error_plan, by_error_verdict, by_plan, by_verdict, carried_all, datagram_in, datagram_read, echo_taken, error_taken, flags_in, flow_taken, frames_of, framed, gone_alone, handed_in, has_synced, heard_by, heard_unless, idle_done, idle_taken, is_taught, link_ticked, old_dropped, peer_told, record_done, record_shown, record_told, records_done, refused, released, renewed_behind, request_by, reset, retaken_by, routers_started, side_plugged, size_in, sought_done, taken_again, waits_for_sender, wait_ended, wanted_for, with_link, record_taken}
 use Rattle.spec_step.specs.Routers.{BothAct, RouterActs}
 use Rattle.spec_step.specs.Shown.{GatewayAndOutput, Shown, id_of, is_apart, is_running, is_up, scene, station_on, with_notes, with_station}
 use Rattle.spec_step.specs.Steps.{Does, FrameDoes, IsStepOn, ended_on, ticked, word_by, word_refusal}
@@ -196,7 +196,7 @@ module _ (r : Bool) where
   record-has s x is =
       let g = s.shown in let b = g.ledger.book in
       let rests = rests_for g.moment g.ledger x in
-      let g2 : Shown = record g { ledger = taken_ledger g.moment g.ledger x; link = answered g.link (taken_answer b rests x) } in
+      let g2 : Shown = record_taken g x in
       ended-has (scene (record_shown g x) (record_told g x s.told)) (taken_ended b rests x) (started-has (has_synced g g2 && is_running g2) g2 is)
 
   records-have : (s : GatewayAndOutput) (xs : List Record) → Has r s → Has r (records_done s xs)

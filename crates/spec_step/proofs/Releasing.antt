@@ -52,6 +52,7 @@ use Rattle.spec_step.proofs.Packets.{Reads}
 use Rattle.spec_step.proofs.Takes.{IsUnseen, releases}
 use Rattle.spec_step.proofs.WhileApart.{all-sought-apart, apart-paired, idle-apart, paired-is, row-apart}
 use Rattle.spec_binding.specs.Uses.{carried_notes, use_counts}
+use Rattle.spec_step.proofs.Ahead.{asking, row-behind}
 
 -- ---- notes that release nothing
 
@@ -179,7 +180,10 @@ pub row-quiet : (s : GatewayAndOutput) (r : Transition) → IsMute r → Quiet s
 row-quiet s r mute = record { notes = noted_by (id_of s.shown) s.shown.moment r.what; notes_are = refl; none = mute (id_of s.shown) s.shown.moment }
 
 wanted-quiet : (s : GatewayAndOutput) (e : Endpoint) → Quiet s (wanted_by s e)
-wanted-quiet s e = row-quiet s (wish_of s.shown.ledger.book (is_apart s.shown) (is_full s.shown.link) e).row (wish-mute s.shown.ledger.book (is_apart s.shown) (is_full s.shown.link) e)
+wanted-quiet s e =
+    let b = s.shown.ledger.book in
+    let row = (wish_of b (is_apart s.shown) (is_full s.shown.link) e).row in
+    row-behind (Quiet s) s row (λ m paired first. quiet-then s m (by_row m asking) first (row-quiet m asking (λ i now. tt))) (row-quiet s row (wish-mute b (is_apart s.shown) (is_full s.shown.link) e))
 
 carried-quiet : (s : GatewayAndOutput) (k : Key) (p : Carried) → Quiet s (carried_by s k p)
 carried-quiet s k p =

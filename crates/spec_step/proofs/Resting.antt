@@ -40,7 +40,7 @@ use Rattle.arp.specs.Neighbours.{asks_at}
 use Rattle.spec_step.specs.declared.plans.Plan.{Plan}
 use Rattle.spec_step.specs.declared.plans.Plan.TheVariants.{Send, Ask, AskAgain, Wait as WaitFor}
 use Rattle.spec_step.specs.Machine.{AreBytes, KeepsBytes}
-use Rattle.spec_step.specs.Parts.{all_taken, asked_again, by_plan, by_verdict, carried, carried_all, carried_by, flags_in, flow_taken, framed, keeping, released, remote, renewed_behind, request_by, retaken_by, taken_again, wanted_by, wanted_for, by_error_plan, by_error_verdict, error_taken, echo_taken, size_in, refused}
+use Rattle.spec_step.specs.Parts.{all_taken, asked_again, by_plan, by_verdict, carried, carried_all, carried_by, flags_in, flow_taken, framed, keeping, released, remote, renewed_behind, request_by, retaken_by, taken_again, wanted_by, wanted_for, by_error_plan, by_error_verdict, error_taken, echo_taken, size_in, refused, by_row}
 use Rattle.spec_step.specs.Rests.{AreBy}
 use Rattle.spec_step.specs.Shown.{GatewayAndOutput, id_of, is_apart, scene, station_on, with_notes}
 use Rattle.spec_step.specs.Verdict.{exit_by, hop_by, plan_of, reading_on, error_hop, error_plan}
@@ -50,6 +50,7 @@ use Rattle.spec_step.proofs.Passing.{IsSound}
 use Rattle.spec_step.proofs.Plain.{StaysPlain, carried-stays-plain, plain-join, wanted-stays-plain}
 use Rattle.icmp.specs.declared.packets.ErrorFlow.{ErrorFlow}
 use Rattle.spec_step.proofs.Behind.{asked_behind}
+use Rattle.spec_step.proofs.Ahead.{Keeps, asking, asking-book, row-behind}
 
 -- the notes from one scene to another, all at one time; a trace that the ledger accounted for before is accounted for
 -- with these notes
@@ -134,15 +135,25 @@ own-with counts id now (Some what) = ((refl, refl), tt)
 
 -- ---- one packet
 
+-- the ledger accounts for a part where ports are asked for behind it
+pub asking-rests : (s : GatewayAndOutput) → Keeps (Resting s)
+asking-rests s m paired first =
+    let g = m.shown in
+    resting-then s m (by_row m asking) first
+    (resting-noted m (ledger_after g.moment asking.change g.ledger) (answered g.link asking.answer) []
+    tt (record { alone = refl; plain = λ never. tt }) refl (λ is. asking-book g.ledger.book paired is)
+    (λ before is a. record { uses = a.uses; none = a.none; idle = a.idle }))
+
 pub wanted-rests : (s : GatewayAndOutput) (e : Endpoint) → IsWellFormedEndpoint e → Resting s (wanted_by s e)
 wanted-rests s e formed =
     let g = s.shown in let b = g.ledger.book in
     let apart = is_apart g in
     let full = is_full g.link in
     let row = (wish_of b apart full e).row in
-    resting-noted s (ledger_after g.moment row.change g.ledger) (answered g.link row.answer) (noted_by b.id g.moment row.what)
+    row-behind (Resting s) s row (asking-rests s)
+    (resting-noted s (ledger_after g.moment row.change g.ledger) (answered g.link row.answer) (noted_by b.id g.moment row.what)
     (noted-own b.id g.moment row.what) (wanted-stays-plain g e) (change-leaves b row.change).id (λ is. wish-keeps b apart full e is formed)
-    (λ before is a. wished-accounts g.moment g.ledger before apart full e is a)
+    (λ before is a. wished-accounts g.moment g.ledger before apart full e is a))
 
 carried-rests : (s : GatewayAndOutput) (k : Key) (r : Remote) (w : Way) (flags : TcpFlags) → Resting s (carried_by s k (carried s.shown r w flags))
 carried-rests s k r w flags =

@@ -163,6 +163,10 @@ known-roots b p (state.Closing false) = quiet-roots b
 known-roots b p state.Alone = quiet-roots b
 known-roots b p state.Held = quiet-roots b
 
+-- asking for ports makes no pair
+pub asking-roots : (b : Book) → RowRoots b (row change_of.Want (Some rec.Want) None)
+asking-roots b i now = same-rooted b.entries b.entries [] refl
+
 none-roots : (b : Book) (full : Bool) → RowRoots b (wanting_row b full)
 none-roots b full = either-roots b (may_want b full) (row change_of.Want (Some rec.Want) None) quiet (λ t i now. same-rooted b.entries b.entries [] refl) (λ t. quiet-roots b)
 

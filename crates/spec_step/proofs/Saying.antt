@@ -57,12 +57,13 @@ use Rattle.spec_step.proofs.Takings.{IsUseless, keeping-tells, wanted-for-known,
 use Rattle.spec_step.proofs.Telling.{Told, at_hand, framed-tells, own-tells, split-kept, tells-nothing, tells-quietly, tells-then, tells-unseen}
 use Rattle.spec_step.proofs.Erring.{ErrorSays, IsErrorGoing, error-says, error-serves}
 use Rattle.spec_step.proofs.Passed.{is-passed, passed-tells}
-use Rattle.spec_step.proofs.Rooting.{RowRoots, wish-roots}
+use Rattle.spec_step.proofs.Rooting.{RowRoots, asking-roots, wish-roots}
 use Rattle.std.proofs.lemmas.List.Sorted.{IsPermutation-sym, IsPermutation-trans, IsPermutation-refl}
 use Rattle.std.proofs.lemmas.List.{append-nil}
 use Rattle.icmp.specs.declared.packets.ErrorFlow.{ErrorFlow}
 use Rattle.icmp.specs.declared.packets.ErrorPacket.{ErrorPacket}
 use Rattle.spec_step.proofs.Behind.{asked_behind, sent_to, known-sent, wired-sent}
+use Rattle.spec_step.proofs.Ahead.{Keeps, asking, asking-book, row-behind}
 
 -- what is told from one scene to another is true, and what that requires holds afterwards
 pub record Says (hand : List AtHand) (s s2 : GatewayAndOutput) : Type 0 where
@@ -108,13 +109,21 @@ row-says s row useless roots keeps stays = λ is w. (
   refl,
 )
 
+pub asking-says : (s : GatewayAndOutput) → Keeps (Saying [] s)
+asking-says s m paired first =
+    let b = m.shown.ledger.book in
+    saying-then [] [] s m (by_row m asking) first
+    (row-says m asking (λ i now. refl) (asking-roots b) (λ is. asking-book b paired is) (λ is x p p_is. inl p_is))
+
 pub wanted-says : (s : GatewayAndOutput) (e : Endpoint) → IsWellFormedEndpoint e → Saying [] s (wanted_by s e)
 wanted-says s e formed =
     let b = s.shown.ledger.book in
     let apart = is_apart s.shown in
     let full = is_full s.shown.link in
-    row-says s (wish_of b apart full e).row (wish-useless b apart full e) (wish-roots b apart full e) (λ is. wish-keeps b apart full e is formed)
-    (λ is x p p_is. inl (wish-moves-none b apart full e x p is formed p_is))
+    let row = (wish_of b apart full e).row in
+    row-behind (Saying [] s) s row (asking-says s)
+    (row-says s row (wish-useless b apart full e) (wish-roots b apart full e) (λ is. wish-keeps b apart full e is formed)
+    (λ is x p p_is. inl (wish-moves-none b apart full e x p is formed p_is)))
 
 wanted-for-says : (s : GatewayAndOutput) (flow : Flow) (by : Translation) → IsWellFormedEndpoint (source_of flow) → Saying [] s (wanted_for s flow by)
 wanted-for-says s flow (Outward p) formed = wanted-says s (source_of flow) formed

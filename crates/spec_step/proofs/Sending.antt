@@ -18,7 +18,7 @@ use Rattle.frames.specs.Frame.{frame_of}
 use Rattle.activity.specs.declared.packets.Way.TheVariants as goes
 use Rattle.ipv4.specs.declared.flows.Flow.{Flow}
 use Rattle.spec_binding.specs.Books.{Book, IsBook, is_synced}
-use Rattle.spec_binding.specs.Rows.{carry_row, is_full, wish_of, noted_with}
+use Rattle.spec_binding.specs.Rows.{carry_row, is_full, wish_of, noted_with, after, new_pair}
 use Rattle.spec_binding.specs.Serving.{serving}
 use Rattle.spec_binding.specs.WellFormed.{IsWellFormedEndpoint}
 use Rattle.spec_binding.proofs.Offered.{change-leaves}
@@ -46,7 +46,7 @@ use Rattle.interfaces.specs.Tallies.{IsWithin, complained, may_complain, may_rep
 use Rattle.output.specs.Output.{Sent}
 use Rattle.spec_step.specs.Others.{IsEcho, is_other, retaken_pairs}
 use Rattle.spec_step.specs.Machine.{AreBytes}
-use Rattle.spec_step.specs.Parts.{carried, carried_all, framed, remote, sender_in, wanted_for}
+use Rattle.spec_step.specs.Parts.{carried, carried_all, framed, remote, sender_in, wanted_for, by_row_and_behind}
 use Rattle.spec_step.specs.OwnAnswers.{Answers, Complains, IsOwnOf, OwnFrame, own_frames}
 use Rattle.spec_step.specs.PassedOn.{error_frames}
 use Rattle.spec_step.specs.Shown.{GatewayAndOutput, Shown, id_of, is_apart, is_up, station_on}
@@ -62,6 +62,8 @@ use Rattle.spec_step.proofs.Telling.{SameSaid, Told, at_hand, within-by}
 use Rattle.spec_step.proofs.Translating.{Translates, carry-note, target-translates, wish-owns, wish-serves, wish-still}
 use Rattle.spec_binding.specs.Uses.{use_counts}
 use Rattle.spec_binding.specs.Ledgers.{carried_ledger}
+use Rattle.spec_step.proofs.Ahead.{row-behind}
+use Rattle.spec_binding.specs.declared.changes.Transition.{Transition}
 
 -- the contract by which a tally stays within its limits
 pub record Limited : Type 0 where
@@ -142,13 +144,24 @@ AllTranslate b (Outward p) = Translates b p
 AllTranslate b (Inward p) = Translates b p
 AllTranslate b (Hairpin own other) = Translates b own × Translates b other
 
+-- a pair that translates after a row does so after what is asked for behind it
+translates-behind : (s : GatewayAndOutput) (r : Transition) (p : Pair) → Translates (after s.shown.ledger.book r) p → Translates (by_row_and_behind s r).shown.ledger.book p
+translates-behind s r p is =
+    row-behind (λ m. Translates m.shown.ledger.book p) s r
+    (λ m paired t. record { synced = t.synced; entry = t.entry; found = t.found; pair = t.pair; live = t.live })
+    is
+
 own-translates : (s : GatewayAndOutput) (flow : Flow) (p : Pair) → IsBook s.shown.ledger.book → IsOwn s.shown flow p
     → Translates (wanted_for s flow (Outward p)).shown.ledger.book p × (p.endpoint ≡ source_of flow)
-own-translates s flow p is own = (
-  subst (λ (q : Pair). Translates (wanted_for s flow (Outward p)).shown.ledger.book q) (sym own.1.1)
-      (wish-owns s.shown.ledger.book (is_apart s.shown) (is_full s.shown.link) (source_of flow) is own.0 own.1.0),
-  ap (λ (q : Pair). q.endpoint) own.1.1,
-)
+own-translates s flow p is own =
+    let b = s.shown.ledger.book in
+    let apart = is_apart s.shown in
+    let full = is_full s.shown.link in
+    let e = source_of flow in (
+      subst (λ (q : Pair). Translates (wanted_for s flow (Outward p)).shown.ledger.book q) (sym own.1.1)
+          (translates-behind s (wish_of b apart full e).row (new_pair e own.0) (wish-owns b apart full e is own.0 own.1.0)),
+      ap (λ (q : Pair). q.endpoint) own.1.1,
+    )
 
 pub found-translate : (s : GatewayAndOutput) (flow : Flow) (by : Translation) → IsBook s.shown.ledger.book → is_synced s.shown.ledger.book.stage ≡ true → AreFound s.shown flow by
     → AllTranslate (wanted_for s flow by).shown.ledger.book by × AreItsPairs flow by
@@ -157,7 +170,8 @@ found-translate s flow (Inward p) is synced found = target-translates s.shown fl
 found-translate s flow (Hairpin own other) is synced found =
     let first = own-translates s flow own is found.0 in
     let second = target-translates s.shown flow other synced found.1 in (
-      (first.0, wish-still s.shown.ledger.book (is_apart s.shown) (is_full s.shown.link) (source_of flow) is other second.0),
+      (first.0, translates-behind s (wish_of s.shown.ledger.book (is_apart s.shown) (is_full s.shown.link) (source_of flow)).row other
+          (wish-still s.shown.ledger.book (is_apart s.shown) (is_full s.shown.link) (source_of flow) is other second.0)),
       (first.1, second.1),
     )
 
@@ -167,10 +181,12 @@ source-serves : (s : GatewayAndOutput) (flow : Flow) (p : Pair) → IsBook s.sho
 source-serves s flow p is formed synced own =
     let b = s.shown.ledger.book in
     let apart = is_apart s.shown in
-    let full = is_full s.shown.link in (
-      ap is_synced (change-leaves b (wish_of b apart full (source_of flow)).row.change).stage ∙ synced,
+    let full = is_full s.shown.link in
+    let e = source_of flow in
+    let row = (wish_of b apart full e).row in (
+      row-behind (λ m. is_synced m.shown.ledger.book.stage ≡ true) s row (λ m paired x. x) (ap is_synced (change-leaves b row.change).stage ∙ synced),
       subst (λ (q : Pair). serving (wanted_for s flow (Outward p)).shown.ledger.book q.endpoint ≡ Some q) (sym own.1.1)
-          (wish-serves b apart full (source_of flow) is formed own.0 own.1.0),
+          (row-behind (λ m. serving m.shown.ledger.book e ≡ Some (new_pair e own.0)) s row (λ m paired x. x) (wish-serves b apart full e is formed own.0 own.1.0)),
     )
 
 pub found-serve : (s : GatewayAndOutput) (flow : Flow) (by : Translation) → IsBook s.shown.ledger.book → IsWellFormedEndpoint (source_of flow) → is_synced s.shown.ledger.book.stage ≡ true → AreFound s.shown flow by

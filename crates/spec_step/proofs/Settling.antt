@@ -55,7 +55,7 @@ use Rattle.spec_step.specs.declared.plans.Plan.{Plan}
 use Rattle.spec_step.specs.declared.plans.Plan.TheVariants.{Send, Ask, AskAgain, Wait as WaitFor}
 use Rattle.spec_step.specs.Founding.{begun, founded}
 use Rattle.spec_step.specs.GivingWay.{GivingWay, left, turn_of}
-use Rattle.spec_step.specs.Parts.{all_idle_done, all_taken, answered_by, arp_taken, asked_again, by_plan, by_row, by_verdict, carried_all, datagram_in, datagram_read, flags_in, flow_taken, framed, handed_in, has_synced, heard_by, heard_unless, idle_done, idle_taken, keeping, link_answered, link_ticked, old_dropped, record_done, record_shown, record_told, records_done, released, renewed_behind, request_by, reset, retaken_by, routers_started, side_plugged, taken_again, wait_ended, waiting, wanted_by, wanted_for, with_link, with_routers, by_error_plan, by_error_verdict, error_taken, echo_taken, size_in, refused, all_sought_done, alone_taken, gone_alone, peer_told, sought_done, waits_for_sender, is_taught, neighbour_sent}
+use Rattle.spec_step.specs.Parts.{all_idle_done, all_taken, answered_by, arp_taken, asked_again, by_plan, by_row, by_verdict, carried_all, datagram_in, datagram_read, flags_in, flow_taken, framed, handed_in, has_synced, heard_by, heard_unless, idle_done, idle_taken, keeping, link_answered, link_ticked, old_dropped, record_done, record_shown, record_told, records_done, released, renewed_behind, request_by, reset, retaken_by, routers_started, side_plugged, taken_again, wait_ended, waiting, wanted_by, wanted_for, with_link, with_routers, by_error_plan, by_error_verdict, error_taken, echo_taken, size_in, refused, all_sought_done, alone_taken, gone_alone, peer_told, sought_done, waits_for_sender, is_taught, neighbour_sent, record_taken}
 use Rattle.spec_step.specs.Settled.{AreIdle, HaveBegun, IsSettled}
 use Rattle.spec_step.specs.Shown.{GatewayAndOutput, Shown, is_apart, is_running, is_up, scene, station_on, with_station}
 use Rattle.spec_step.specs.Routers.{BothAct, RouterActs}
@@ -68,6 +68,7 @@ use Rattle.spec_step.proofs.Erring.{ErrorSays, error-says}
 use Rattle.spec_step.proofs.Turning.{back_as, turn-by}
 use Rattle.icmp.specs.declared.packets.ErrorFlow.{ErrorFlow}
 use Rattle.spec_step.proofs.Behind.{asked_behind}
+use Rattle.spec_step.proofs.Ahead.{Keeps, asking, record-behind, row-behind}
 
 -- what the parts of a step keep of a settled gateway
 pub record IsCalm (g : Shown) : Type 0 where
@@ -100,8 +101,13 @@ row-calms s row =
     let stage = (change-leaves g.ledger.book row.change).stage in
     calm-by g (by_row s row).shown (ap (λ x. (is_synced x && not g.stopped) && not g.away) stage) refl refl (λ k. k)
 
+asking-calms : (s : GatewayAndOutput) → Keeps (Calming s)
+asking-calms s m paired first = calming-then s m (by_row m asking) first (row-calms m asking)
+
 wanted-calms : (s : GatewayAndOutput) (e : Endpoint) → Calming s (wanted_by s e)
-wanted-calms s e = row-calms s (wish_of s.shown.ledger.book (is_apart s.shown) (is_full s.shown.link) e).row
+wanted-calms s e =
+    let row = (wish_of s.shown.ledger.book (is_apart s.shown) (is_full s.shown.link) e).row in
+    row-behind (Calming s) s row (asking-calms s) (row-calms s row)
 
 wanted-for-calms : (s : GatewayAndOutput) (flow : Flow) (by : Translation) → Calming s (wanted_for s flow by)
 wanted-for-calms s flow (Outward p) = wanted-calms s (source_of flow)
@@ -386,9 +392,10 @@ record-calms : (s : GatewayAndOutput) (r : Record) → Calming s (record_done s 
 record-calms s r = λ is.
     let g = s.shown in let b = g.ledger.book in
     let rests = rests_for g.moment g.ledger r in
-    let g2 : Shown = record g { ledger = taken_ledger g.moment g.ledger r; link = answered g.link (taken_answer b rests r) } in
+    let synced = taken-synced b rests r in
+    let stage = λ (yes : is_synced b.stage ≡ true). record-behind (λ m. is_synced m.shown.ledger.book.stage ≡ true) g r s.told (λ m paired x. x) (synced yes) in
     ended-calms (scene (record_shown g r) (record_told g r s.told)) (taken_ended b rests r)
-    (routed-calms g g2 (taken-synced b rests r) refl refl refl refl refl is)
+    (routed-calms g (record_taken g r) stage refl refl refl refl refl is)
 
 records-calm : (s : GatewayAndOutput) (rs : List Record) → Calming s (records_done s rs)
 records-calm s [] = nothing-calms s

@@ -42,7 +42,7 @@ use Rattle.vrrp_states.specs.declared.State.TheVariants.{Initialize, Backup, Act
 use Rattle.vrrp_states.specs.Table.{Router}
 use Rattle.spec_step.specs.declared.plans.Plan.{Plan}
 use Rattle.spec_step.specs.declared.plans.Plan.TheVariants.{Send, Ask, AskAgain, Wait as WaitFor}
-use Rattle.spec_step.specs.Parts.{all_taken, answered_by, arp_taken, asked_again, by_error_plan, by_error_verdict, by_plan, by_row, by_verdict, carried_all, datagram_in, datagram_read, echo_taken, error_taken, flags_in, flow_taken, framed, handed_in, has_synced, heard_by, heard_unless, keeping, size_in, link_ticked, record_done, record_shown, record_told, records_done, refused, released, renewed_behind, request_by, reset, retaken_by, routers_started, side_plugged, started_in, taken_again, wait_ended, wanted_by, wanted_for, with_link, with_routers, all_sought_done, alone_taken, gone_alone, peer_told, sought_done, waits_for_sender, is_taught}
+use Rattle.spec_step.specs.Parts.{all_taken, answered_by, arp_taken, asked_again, by_error_plan, by_error_verdict, by_plan, by_row, by_verdict, carried_all, datagram_in, datagram_read, echo_taken, error_taken, flags_in, flow_taken, framed, handed_in, has_synced, heard_by, heard_unless, keeping, size_in, link_ticked, record_done, record_shown, record_told, records_done, refused, released, renewed_behind, request_by, reset, retaken_by, routers_started, side_plugged, started_in, taken_again, wait_ended, wanted_by, wanted_for, with_link, with_routers, all_sought_done, alone_taken, gone_alone, peer_told, sought_done, waits_for_sender, is_taught, record_taken}
 use Rattle.spec_step.specs.Shown.{GatewayAndOutput, Shown, id_of, is_apart, is_running, scene, station_on, with_notes, with_station}
 use Rattle.spec_step.specs.Steps.{word_by}
 use Rattle.spec_step.specs.Verdict.{error_hop, error_plan, exit_by, hop_by, plan_of, reading_on}
@@ -261,7 +261,7 @@ record-stands : (s : GatewayAndOutput) (r : Record) → Stands s (record_done s 
 record-stands s r =
     let g = s.shown in let b = g.ledger.book in
     let rests = rests_for g.moment g.ledger r in
-    let g2 : Shown = record g { ledger = taken_ledger g.moment g.ledger r; link = answered g.link (taken_answer b rests r) } in
+    let g2 : Shown = record_taken g r in
     let done = scene (record_shown g r) (record_told g r s.told) in
     let routed = routed-stands s g2 refl refl refl refl in
     stands-then s done (record_done s r) (record { inside = routed.inside; outside = routed.outside; moment = routed.moment; away = routed.away })

@@ -41,7 +41,7 @@ use Rattle.vrrp_states.specs.Table.{Event as RouterEvent, Router}
 use Rattle.spec_step.specs.declared.events.Event.{Event}
 use Rattle.spec_step.specs.declared.events.Event.TheVariants.{Frame, Datagram as Comes, Tick, Stop, PeerOff, Side as SideIs}
 use Rattle.spec_step.specs.Machine.{AreBytes, HasBytes}
-use Rattle.spec_step.specs.Parts.{acted, all_framed, all_idle_done, answered_by, arp_taken, datagram_in, datagram_read, flow_taken, framed, frames_of, handed_in, has_synced, heard_by, heard_unless, idle_done, idle_taken, link_answered, link_ticked, old_dropped, record_done, record_shown, record_told, records_done, released, reset, started, wait_ended, with_link, word_taken, side_plugged, error_taken, echo_taken, refused, all_sought_done, alone_taken, gone_alone, peer_told, sought_done, waits_for_sender, is_taught}
+use Rattle.spec_step.specs.Parts.{acted, all_framed, all_idle_done, answered_by, arp_taken, datagram_in, datagram_read, flow_taken, framed, frames_of, handed_in, has_synced, heard_by, heard_unless, idle_done, idle_taken, link_answered, link_ticked, old_dropped, record_done, record_shown, record_told, records_done, released, reset, started, wait_ended, with_link, word_taken, side_plugged, error_taken, echo_taken, refused, all_sought_done, alone_taken, gone_alone, peer_told, sought_done, waits_for_sender, is_taught, record_taken}
 use Rattle.spec_step.specs.Shown.{GatewayAndOutput, Shown, id_of, is_running, scene, station_on, with_notes, with_station, is_apart}
 use Rattle.spec_step.specs.Routers.{BothAct, RouterActs}
 use Rattle.spec_step.specs.GivingWay.{GivingWay, left, turn_of}
@@ -52,13 +52,14 @@ use Rattle.spec_step.specs.Verdict.{reading_on}
 use Rattle.spec_step.proofs.Turning.{back_as, turn-by}
 use Rattle.spec_step.proofs.Packets.{kept-filter}
 use Rattle.spec_step.proofs.Passing.{IsSound}
-use Rattle.spec_step.proofs.Saying.{Saying, Speaks, framed-says, packet-says, released-says, row-says, saying-nothing, saying-then, speaks-then, error-packet-says, echo-says, refused-says}
+use Rattle.spec_step.proofs.Saying.{Saying, Speaks, framed-says, packet-says, released-says, row-says, saying-nothing, saying-then, speaks-then, error-packet-says, echo-says, refused-says, asking-says}
 use Rattle.spec_step.proofs.Rooting.{lone-rooted, idle-roots, restart-rooted, taken-roots, alone-row-roots}
 use Rattle.spec_step.proofs.Sending.{Frames, advert-other, answer-other, gratuitous-other, own-six}
 use Rattle.spec_step.proofs.Steady.{restart-steady, taken-steady}
 use Rattle.spec_step.proofs.Telling.{Told, at_hand, old-tells, tells-quietly, tells-then, tells-unseen}
 use Rattle.spec_step.proofs.Unused.{idle-useless, restart-useless, retaken-useless, taken-useless, alone-useless}
 use Rattle.spec_step.specs.Others.{is_other}
+use Rattle.spec_step.proofs.Ahead.{record-behind, record_alone}
 
 -- what is told of a part that leaves what decides where packets go is true
 pub speaks-of : (h : List AtHand) (s s2 : GatewayAndOutput) → Saying h s s2 → Speaks h s s2
@@ -225,19 +226,21 @@ pub record-first : (s : GatewayAndOutput) (r : Record) → IsWellFormedRecord r 
 record-first s r formed =
     let g = s.shown in let b = g.ledger.book in
     let rests = rests_for g.moment g.ledger r in
-    let g2 : Shown = record g { ledger = taken_ledger g.moment g.ledger r; link = answered g.link (taken_answer b rests r) } in
+    let g2 : Shown = record_taken g r in
     let told = record_told g r s.told in
+    let s1 = scene (record_alone g r) told in
     let s2 = scene g2 told in
     let s3 = scene (record_shown g r) told in
-    let first : Saying [] s s2 = λ is w. (
+    let alone : Saying [] s s1 = λ is w. (
       record {
-        tells = tells-quietly s s2 (noted_by (id_of g) g.moment (taken_what b rests r)) refl refl (taken-useless b rests r (id_of g) g.moment) refl (taken-roots b rests r (id_of g) g.moment)
-            (taken-steady s s2 rests r is.book formed refl refl) (refl, (refl, omega arith));
+        tells = tells-quietly s s1 (noted_by (id_of g) g.moment (taken_what b rests r)) refl refl (taken-useless b rests r (id_of g) g.moment) refl (taken-roots b rests r (id_of g) g.moment)
+            (taken-steady s s1 rests r is.book formed refl refl) (refl, (refl, omega arith));
         sound = record { book = taken-keeps b rests r is.book formed; kept = is.kept };
         wired = w;
       },
       refl,
     ) in
+    let first : Saying [] s s2 = record-behind (Saying [] s) g r told (asking-says s) alone in
     saying-then [] [] s s2 s3 first (routed-says g2.moment g2 told (has_synced g g2 && is_running g2))
 
 pub record-says : Frames → (s : GatewayAndOutput) (r : Record) → IsWellFormedRecord r → Saying [] s (record_done s r)

@@ -51,7 +51,7 @@ use Rattle.spec_step.specs.declared.plans.Plan.TheVariants.{Wait as WaitFor}
 use Rattle.spec_step.specs.Apart.{IsUnmoved}
 use Rattle.spec_step.specs.GivingWay.{GivingWay, left, turn_of}
 use Rattle.spec_step.specs.Machine.{AreBytes, HasBytes, KeepsBytes}
-use Rattle.spec_step.specs.Parts.{acted, all_framed, all_idle_done, all_sought_done, alone_taken, answered_by, arp_taken, by_plan, by_row, carried_by, datagram_in, datagram_read, framed, frames_of, gone_alone, handed_in, has_synced, heard_by, heard_unless, idle_done, idle_taken, keeping, size_in, link_answered, link_ticked, old_dropped, peer_told, record_done, record_shown, record_told, records_done, released, reset, sought_done, started, wait_ended, wanted_by, with_link, word_taken, waits_for_sender, is_taught}
+use Rattle.spec_step.specs.Parts.{acted, all_framed, all_idle_done, all_sought_done, alone_taken, answered_by, arp_taken, by_plan, by_row, carried_by, datagram_in, datagram_read, framed, frames_of, gone_alone, handed_in, has_synced, heard_by, heard_unless, idle_done, idle_taken, keeping, size_in, link_answered, link_ticked, old_dropped, peer_told, record_done, record_shown, record_told, records_done, released, reset, sought_done, started, wait_ended, wanted_by, with_link, word_taken, waits_for_sender, is_taught, record_taken}
 use Rattle.spec_step.specs.Routers.{BothAct, RouterActs}
 use Rattle.spec_step.specs.Shown.{GatewayAndOutput, Shown, id_of, is_apart, is_running, scene, station_on, with_notes, with_station}
 use Rattle.spec_step.specs.Steps.{Does, FrameDoes, IsStepOn, ended_on, stopped, ticked, word_by, word_refusal}
@@ -65,6 +65,7 @@ use Rattle.spec_step.proofs.Takes.{IsUnseen, echoes, errors, flows, refusals, re
 use Rattle.spec_step.proofs.Truths.{word-synced}
 use Rattle.spec_step.proofs.Turning.{back_as, turn-by}
 use Rattle.spec_binding.specs.Uses.{carried_notes}
+use Rattle.spec_step.proofs.Ahead.{Keeps, asking, asking-book, record-behind, record_alone, row-behind}
 
 -- From one scene to another of a synced gateway, at one time: an endpoint's pair that translates stays, or a note says
 -- that it is released.
@@ -155,12 +156,17 @@ row-moves s row keeps stays =
 
 -- ---- one packet
 
+asking-moves : (s : GatewayAndOutput) → Keeps (Unmoving s)
+asking-moves s m paired first = unmoving-then s m (by_row m asking) first (row-moves m asking (λ is. asking-book m.shown.ledger.book paired is) (λ x p is p_is. inl p_is))
+
 wanted-moves : (s : GatewayAndOutput) (e : Endpoint) → IsWellFormedEndpoint e → Unmoving s (wanted_by s e)
 wanted-moves s e formed =
     let b = s.shown.ledger.book in
     let apart = is_apart s.shown in
     let full = is_full s.shown.link in
-    row-moves s (wish_of b apart full e).row (λ is. wish-keeps b apart full e is formed) (λ x p is p_is. inl (wish-moves-none b apart full e x p is formed p_is))
+    let row = (wish_of b apart full e).row in
+    row-behind (Unmoving s) s row (asking-moves s)
+    (row-moves s row (λ is. wish-keeps b apart full e is formed) (λ x p is p_is. inl (wish-moves-none b apart full e x p is formed p_is)))
 
 carried-moves : (s : GatewayAndOutput) (k : Key) (p : Carried) → Unmoving s (carried_by s k p)
 carried-moves s k p =
@@ -251,13 +257,14 @@ record-moves reads s r formed =
     let g = s.shown in let b = g.ledger.book in
     let rests = rests_for g.moment g.ledger r in
     let what = taken_what b rests r in
-    let g2 : Shown = record g { ledger = taken_ledger g.moment g.ledger r; link = answered g.link (taken_answer b rests r) } in
+    let g2 : Shown = record_taken g r in
     let told = record_told g r s.told in
     let s2 = scene g2 told in
     let s3 = scene (record_shown g r) told in
-    let first : Unmoving s s2 = noted-moves s (taken_ledger g.moment g.ledger r) (answered g.link (taken_answer b rests r)) (noted_by b.id g.moment what)
+    let alone : Unmoving s (scene (record_alone g r) told) = noted-moves s (taken_ledger g.moment g.ledger r) (answered g.link (taken_answer b rests r)) (noted_by b.id g.moment what)
     (λ is. taken-keeps b rests r is formed) (λ t. (taken-same b rests r t).1) (taken-id b rests r)
     (λ x p is t p_is. stays-noted (taken_book b rests r) x p b.id g.moment what (taken-moves-none b rests r x p is formed t p_is)) in
+    let first : Unmoving s s2 = record-behind (Unmoving s) g r told (asking-moves s) alone in
     unmoving-then s s3 (record_done s r)
     (unmoving-then s s2 s3 first (routed-moves g2.moment g2 told (has_synced g g2 && is_running g2)))
     (ended-moves reads s3 (taken_ended b rests r))

@@ -79,14 +79,14 @@ by_row s row = let g = s.shown in
     scene (record g { ledger = ledger_after g.moment row.change g.ledger; link = answered g.link row.answer })
     (with_notes s.told (noted_by (id_of g) g.moment row.what))
 
--- the scene after the row behind a row: ports are asked for ahead, or nothing happens; nothing is noted
-abbrev pub asked_behind : GatewayAndOutput → Transition → GatewayAndOutput
-asked_behind s row = let g = s.shown in
+-- the scene after the row behind a row or a record: ports are asked for ahead, or nothing happens; nothing is noted
+abbrev pub by_row_behind : GatewayAndOutput → Transition → GatewayAndOutput
+by_row_behind s row = let g = s.shown in
     scene (record g { ledger = ledger_after g.moment row.change g.ledger; link = answered g.link row.answer }) s.told
 
 -- the scene after a row, and after the row behind it
 abbrev pub by_row_and_behind : GatewayAndOutput → Transition → GatewayAndOutput
-by_row_and_behind s row = asked_behind (by_row s row) (behind s.shown.ledger.book s.shown.link row)
+by_row_and_behind s row = by_row_behind (by_row s row) (behind s.shown.ledger.book s.shown.link row)
 
 -- the scene after the endpoint of a packet's source wished for a port
 abbrev pub wanted_by : GatewayAndOutput → Endpoint → GatewayAndOutput
@@ -414,13 +414,18 @@ has_synced g g2 = not (is_synced g.ledger.book.stage) && is_synced g2.ledger.boo
 abbrev pub with_routers : Shown → Shown → Shown
 with_routers g g2 = if has_synced g g2 && is_running g2 then routers_started g2 else g2
 
--- the gateway after a record was taken
+-- the gateway after a record was taken, and ports were asked for behind it
+abbrev pub record_taken : Shown → Record → Shown
+record_taken g r = let book = g.ledger.book in let rests = rests_for g.moment g.ledger r in
+    let more = taken_behind book g.link rests r in
+    record g {
+      ledger = ledger_after g.moment more.change (taken_ledger g.moment g.ledger r);
+      link = answered (answered g.link (taken_answer book rests r)) more.answer;
+    }
+
+-- the gateway after a record
 abbrev pub record_shown : Shown → Record → Shown
-record_shown g r = let book = g.ledger.book in
-    with_routers g (record g {
-      ledger = taken_ledger g.moment g.ledger r;
-      link = answered g.link (taken_answer book (rests_for g.moment g.ledger r) r);
-    })
+record_shown g r = with_routers g (record_taken g r)
 
 -- the output after a record was taken
 abbrev pub record_told : Shown → Record → Output → Output
@@ -432,16 +437,11 @@ abbrev pub wait_ended : Option Endpoint → GatewayAndOutput → GatewayAndOutpu
 wait_ended None s = s
 wait_ended (Some e) s = released s (One (wait.Pair e))
 
--- the scene after a record was taken, and ports were asked for behind it
-abbrev pub record_and_behind : GatewayAndOutput → Record → GatewayAndOutput
-record_and_behind s r = let g = s.shown in
-    asked_behind (scene (record_shown g r) (record_told g r s.told))
-    (taken_behind g.ledger.book g.link (rests_for g.moment g.ledger r) r)
-
 -- the scene after a record was taken, with the packets whose wait it ended
 abbrev pub record_done : GatewayAndOutput → Record → GatewayAndOutput
 record_done s r = let g = s.shown in
-    wait_ended (taken_ended g.ledger.book (rests_for g.moment g.ledger r) r) (record_and_behind s r)
+    wait_ended (taken_ended g.ledger.book (rests_for g.moment g.ledger r) r)
+    (scene (record_shown g r) (record_told g r s.told))
 
 -- the scene after these records were taken, one after another
 abbrev pub records_done : GatewayAndOutput → List Record → GatewayAndOutput
