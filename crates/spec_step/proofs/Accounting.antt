@@ -21,7 +21,7 @@ use Rattle.link.specs.Link.{Link, after_take, closed_at, is_due_on_tick, is_rest
 use Rattle.link.specs.Reading.{reading}
 use Rattle.link.proofs.Offered.{all_taken, reading_takes}
 use Rattle.resync.specs.Loading.{Load, loaded}
-use Rattle.spec_binding.specs.Books.{Book, empty_book, is_lone, is_synced, IsBook, load_of}
+use Rattle.spec_binding.specs.Books.{Book, emptied, is_lone, is_synced, IsBook, load_of}
 use Rattle.spec_binding.specs.Ledgers.{Ledger, lone_ledger, ledger_after, release_all, may_ask, restarted_ledger, rests_for, taken_ledger, go_on_all, sought_keys}
 use Rattle.spec_binding.specs.Resets.{back_in, begun_anew, restart_link, restart_notes, restarted, retaken}
 use Rattle.spec_binding.specs.Rows.{after, answered, load_taken, noted_by, row_of, taken_answer, taken_book, taken_ended, taken_what, unsynced_after, idle_row, alone_row, is_full}
@@ -163,7 +163,7 @@ restart-own b now = at (is_synced b.stage)
 pub restarted-id : (b : Book) → (restarted b).id ≡ b.id
 restarted-id b = at (is_synced b.stage)
   where
-    at : (t : Bool) → (let x : Book = cond t (begun_anew b) (empty_book b.id b.zero b.one b.limit b.alone) in x).id ≡ b.id
+    at : (t : Bool) → (let x : Book = cond t (begun_anew b) (emptied b) in x).id ≡ b.id
     at true = refl
     at false = refl
 

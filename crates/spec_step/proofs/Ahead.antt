@@ -65,7 +65,7 @@ record-behind P g r told keeps is = at (is_synced g.ledger.book.stage) refl
     s = scene (record_alone g r) told
 
     paired-at : (t : Bool) → is_synced b.stage ≡ t → t ≡ true → is_paired (after b (row_of b rests r)).stage ≡ true → is_paired s.shown.ledger.book.stage ≡ true
-    paired-at t synced yes paired = ap (λ (u : Bool). is_paired (let x : Book = cond u (after b (row_of b rests r)) (unsynced_after b r) in x.stage)) (synced ∙ yes) ∙ paired
+    paired-at t synced on paired = ap (λ (u : Bool). is_paired (let x : Book = cond u (after b (row_of b rests r)) (unsynced_after b r) in x.stage)) (synced ∙ on) ∙ paired
 
     at : (t : Bool) → is_synced b.stage ≡ t → P (by_row_behind s (let x : Transition = cond t (behind b g.link (row_of b rests r)) quiet in x))
     at true synced =

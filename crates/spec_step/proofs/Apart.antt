@@ -15,7 +15,7 @@ use Rattle.spec_pair.specs.Talk.{note}
 use Rattle.spec_binding.specs.Books.{empty_book, founded_book}
 use Rattle.spec_binding.specs.Uses.{uses_of}
 use Rattle.spec_binding.proofs.Offered.{begun-accounts, foreign-accounts}
-use Rattle.spec_step.specs.Founding.{begun, bounds_of, founded}
+use Rattle.spec_step.specs.Founding.{begun, bounds_of, founded, rules_of}
 use Rattle.spec_step.specs.Rests.{AccountsOn, AreBy, Rests}
 use Rattle.spec_step.specs.Shown.{GatewayAndOutput, Shown, id_of}
 use Rattle.spec_step.proofs.Resting.{by-join}
@@ -52,10 +52,10 @@ forgotten false uses is = absurd (cc)
 pub boot-accounts : (settings : Settings) (id : GatewayId) (boot at : ℕ) (before : List Note) → Idle before → AccountsOn (begun settings id boot) (note id at (Booted boot) ∷ before)
 unfolding begun
 boot-accounts settings id boot at before idle =
-    begun-accounts 0 (empty_book id (bounds_of settings.ports.zero) (bounds_of settings.ports.one) settings.ports.host_limit settings.alone) settings.inward_refresh Fixed (note id at (Booted boot) ∷ before) refl
+    begun-accounts 0 (empty_book id (bounds_of settings.ports.zero) (bounds_of settings.ports.one) (rules_of settings)) settings.inward_refresh Fixed (note id at (Booted boot) ∷ before) refl
     (λ p. forgotten (same id id) (uses_of id before p) (same-true id id refl)) (tt, idle)
 
 pub founded-accounts : (settings : Settings) (boot : ℕ) → AccountsOn (founded settings boot) []
 unfolding founded begun
 founded-accounts settings boot =
-    begun-accounts 0 (founded_book (bounds_of settings.ports.zero) (bounds_of settings.ports.one) settings.ports.host_limit settings.alone) settings.inward_refresh Fixed [] refl (λ p. refl) tt
+    begun-accounts 0 (founded_book (bounds_of settings.ports.zero) (bounds_of settings.ports.one) (rules_of settings)) settings.inward_refresh Fixed [] refl (λ p. refl) tt

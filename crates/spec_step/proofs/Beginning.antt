@@ -4,7 +4,7 @@ use Rattle.nat_types.specs.declared.gateways.GatewayId.{GatewayId}
 use Rattle.settings.specs.declared.whole.Settings.{Settings}
 use Rattle.interfaces.specs.Stations.{new_station}
 use Rattle.spec_binding.proofs.Offered.{empty-keeps, founded-keeps}
-use Rattle.spec_step.specs.Founding.{HasRanges, begun, bounds_of, founded, link_places}
+use Rattle.spec_step.specs.Founding.{HasRanges, begun, bounds_of, founded, link_places, rules_of}
 use Rattle.spec_step.specs.Machine.{IsStanding}
 use Rattle.spec_step.specs.OwnAnswers.{AreWithin}
 use Rattle.spec_step.proofs.InSeconds.{none-within}
@@ -12,7 +12,7 @@ use Rattle.spec_step.proofs.InSeconds.{none-within}
 pub begun-stands : (settings : Settings) (id : GatewayId) (boot : ℕ) → HasRanges settings → IsStanding (begun settings id boot) []
 unfolding begun
 begun-stands settings id boot has = record {
-  book = empty-keeps id (bounds_of settings.ports.zero) (bounds_of settings.ports.one) settings.ports.host_limit settings.alone has.zero has.one has.highest_zero has.highest_one;
+  book = empty-keeps id (bounds_of settings.ports.zero) (bounds_of settings.ports.one) (rules_of settings) has.zero has.one has.highest_zero has.highest_one;
   lone = λ t. absurd (cc);
   kept = tt;
   pushed = record { counted = omega arith; coming = refl; behind = refl };
@@ -25,7 +25,7 @@ begun-room settings id boot = refl
 pub founded-stands : (settings : Settings) (boot : ℕ) → HasRanges settings → IsStanding (founded settings boot) []
 unfolding founded begun
 founded-stands settings boot has = record {
-  book = founded-keeps (bounds_of settings.ports.zero) (bounds_of settings.ports.one) settings.ports.host_limit settings.alone has.zero has.one has.highest_zero has.highest_one;
+  book = founded-keeps (bounds_of settings.ports.zero) (bounds_of settings.ports.one) (rules_of settings) has.zero has.one has.highest_zero has.highest_one;
   lone = λ t. inl refl;
   kept = tt;
   pushed = record { counted = omega arith; coming = refl; behind = refl };

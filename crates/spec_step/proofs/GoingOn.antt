@@ -28,9 +28,11 @@ use Rattle.spec_binding.specs.declared.changes.Transition.{Transition}
 use Rattle.spec_binding.specs.declared.changes.PortRequest.{PortRequest}
 use Rattle.spec_binding.specs.declared.changes.Want as want
 use Rattle.spec_binding.specs.declared.changes.Want.{Want}
+use Rattle.spec_binding.specs.declared.setups.Choice.{Choice as PortChoice}
+use Rattle.spec_binding.specs.declared.setups.Choice.TheVariants.{Drawn, Lowest}
 use Rattle.spec_binding.specs.Books.{Book, IsBook, is_lone, is_synced, owns}
-use Rattle.spec_binding.specs.Rows.{is_at_limit, is_full, known_wish, new_pair, new_wish, paired_wish, port_for, quiet, row, unknown_wish, wish, wish_by, wish_of}
-use Rattle.spec_binding.proofs.Offered.{chosen-says}
+use Rattle.spec_binding.specs.Rows.{is_at_limit, is_full, known_wish, new_pair, new_wish, paired_wish, port_by, port_for, quiet, row, unknown_wish, wish, wish_by, wish_of}
+use Rattle.spec_binding.proofs.Offered.{drawn-busy, chosen-says}
 use Rattle.waiting.specs.declared.waits.WaitsFor as wait
 use Rattle.waiting.specs.Packets.{has_place}
 use Rattle.packet_rules.specs.declared.networks.Direction.{Direction}
@@ -536,12 +538,15 @@ either-says zero one port is = at (in_bounds zero port) refl is
 
 -- where no port is chosen, each owned port has an entry of the protocol
 none-busy : (b : Book) (e : Endpoint) → IsBook b → port_for b e ≡ None → (port : ℕ) → owns b port ≡ true → is_free_in b.entries e.protocol port ≡ false
-none-busy b e is none port owned =
-    let test = is_open_in b.entries b.owned e.protocol in
-    let between : Between test (lowest_of b.zero b.one) (highest_of b.zero b.one) =
-    (λ q may. either-says b.zero b.one q (is.owned q (and_parts (owns b q) (is_free_in b.entries e.protocol q) may).0)) in
-    let closed = chosen-none test (lowest_of b.zero b.one) (highest_of b.zero b.one) (parity_of e.port.0) between none port in
-    sym (ap (λ (t : Bool). t && is_free_in b.entries e.protocol port) owned) ∙ closed
+none-busy b e is none port owned = sym (ap (λ (t : Bool). t && is_free_in b.entries e.protocol port) owned) ∙ closed b.choice none
+  where
+    closed : (choice : PortChoice) → port_by choice b e ≡ None → is_open_in b.entries b.owned e.protocol port ≡ false
+    closed Lowest none =
+        let test = is_open_in b.entries b.owned e.protocol in
+        let between : Between test (lowest_of b.zero b.one) (highest_of b.zero b.one) =
+        (λ q may. either-says b.zero b.one q (is.owned q (and_parts (owns b q) (is_free_in b.entries e.protocol q) may).0)) in
+        chosen-none test (lowest_of b.zero b.one) (highest_of b.zero b.one) (parity_of e.port.0) between none port
+    closed (Drawn key) none = drawn-busy b e key is none port
 
 -- where each owned port has an entry of the protocol, no port is chosen
 busy-none : (b : Book) (e : Endpoint) → ((port : ℕ) → owns b port ≡ true → is_free_in b.entries e.protocol port ≡ false) → port_for b e ≡ None

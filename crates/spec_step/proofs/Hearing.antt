@@ -15,7 +15,7 @@ use Rattle.spec_binding.specs.Books.{Book, is_lone, is_synced}
 use Rattle.spec_binding.specs.Ledgers.{lone_ledger, may_ask, restarted_ledger, sought_keys}
 use Rattle.spec_binding.specs.Machine.{IsTurn, Stands, letter_of}
 use Rattle.spec_binding.specs.Resets.{back_in, restart_link, restart_notes, restarted, retaken, begun_anew}
-use Rattle.spec_binding.specs.Books.{empty_book}
+use Rattle.spec_binding.specs.Books.{emptied}
 use Rattle.spec_binding.specs.Rows.{idle_row, alone_row, is_full}
 use Rattle.spec_binding.proofs.Offered.{turn-comes, lone-keeps, idle-keeps, restart-keeps, heard-works, works-more, restart-works, word-works, idle-works, alone-row-keeps, alone-works}
 use Rattle.waiting.specs.declared.waits.Ended.TheVariants.{AllPairs}
@@ -131,7 +131,7 @@ all-come l boot known n (r ∷ rs) turn formed = (
 restarted-together : (b : Book) → is_lone (restarted b).stage ≡ false
 restarted-together b = at (is_synced b.stage)
   where
-    at : (t : Bool) → is_lone (let x : Book = cond t (begun_anew b) (empty_book b.id b.zero b.one b.limit b.alone) in x).stage ≡ false
+    at : (t : Bool) → is_lone (let x : Book = cond t (begun_anew b) (emptied b) in x).stage ≡ false
     at true = refl
     at false = refl
 

@@ -62,7 +62,7 @@ use Rattle.spec_step.specs.Shown.{GatewayAndOutput, Shown, is_apart, is_up, scen
 use Rattle.spec_step.specs.Verdict.{exit_by, hop_by, look_for, plan_by, plan_from, plan_of, plan_on, plan_to, reading_on, target_pair, error_hop, error_plan, fits_at, if_fits}
 use Rattle.spec_step.proofs.Fitting.{fitted}
 use Rattle.spec_step.proofs.Own.{Said, echo-by, refusal-by, refused-by, said_scene}
-use Rattle.spec_step.proofs.Passing.{Going, given, going-then, going-unseen, nothing, row-goes, ahead-goes}
+use Rattle.spec_step.proofs.Passing.{Going, goes-then, given, going-then, going-unseen, nothing, row-goes, ahead-goes}
 use Rattle.icmp.specs.declared.packets.ErrorFlow.{ErrorFlow}
 use Rattle.spec_step.proofs.Behind.{asked_behind}
 use Rattle.spec_binding.specs.Uses.{use_counts}

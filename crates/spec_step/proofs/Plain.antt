@@ -24,7 +24,7 @@ use Rattle.spec_binding.specs.declared.changes.Change.TheVariants.{Add}
 use Rattle.spec_binding.specs.declared.changes.PortRequest.{PortRequest}
 use Rattle.spec_binding.specs.declared.changes.Transition.{Transition}
 use Rattle.spec_binding.specs.declared.changes.Want.TheVariants as want
-use Rattle.spec_binding.specs.Books.{Book, empty_book, is_apart as is_book_apart, is_lone, is_paired, is_promised, is_synced, load_of}
+use Rattle.spec_binding.specs.Books.{Book, emptied, is_apart as is_book_apart, is_lone, is_paired, is_promised, is_synced, load_of}
 use Rattle.spec_binding.specs.Ledgers.{Ledger, go_on_all, ledger_after, may_ask, release_all}
 use Rattle.spec_binding.specs.Resets.{back_in, begun_anew, restart_notes, restarted, retaken}
 use Rattle.spec_binding.specs.Rows.{accept_row, accepted_row, after, alone_row, answered, answering, ask_row, asked_row, carry_row, ending, gives_way, grant_row, idle_row, install_row, is_at_limit, is_full, is_takeable, known_wish, left_row, load_taken, load_what, may_want, new_pair, new_wish, no_row, wanting_row, noted_by, paired_wish, port_for, proposal, proposed_row, quiet, refuse_row, refused_row, release_row, released_row, row, row_of, sought_row, stayed_row, synced_row, taken_book, taken_what, taking, telling_row, told_row, unsynced_after, unsynced_what, use_row, used_row, wish as wish_with, wish_by, wish_of, yes_row, noted_with}
@@ -366,7 +366,7 @@ taken-stays-plain b rests r i now = record { alone = taken-alone b rests r; plai
 restarted-alone : (b : Book) → (restarted b).alone ≡ b.alone
 restarted-alone b = at (is_synced b.stage)
   where
-    at : (t : Bool) → (let x : Book = cond t (begun_anew b) (empty_book b.id b.zero b.one b.limit b.alone) in x).alone ≡ b.alone
+    at : (t : Bool) → (let x : Book = cond t (begun_anew b) (emptied b) in x).alone ≡ b.alone
     at true = refl
     at false = refl
 

@@ -1,5 +1,6 @@
 -- What a step does with the records of a datagram, as the machine sees it.
-use Rattle.std.proofs.Common.{◌≡◌, ℕ, suc, ◌+◌, Bool, true, false, cond, ◌&&◌, List, [], ◌∷◌, length, Option, Some, None, refl, sym, subst, ◌∙◌, arith, cond-true}
+use Rattle.std.proofs.Common.{◌≡◌, ℕ, suc, ◌+◌, Bool, true, false, cond, ◌&&◌, List, [], ◌∷◌, length, Option, Some, None, refl, sym, subst, ◌∙◌, arith}
+use Rattle.std.proofs.lemmas.Bool.{cond-true}
 use Rattle.nat_types.specs.declared.pairs.Endpoint.{Endpoint}
 use Rattle.nat_types.specs.declared.records.Record.{Record}
 use Rattle.link.specs.Grammar.{IsWellFormedRecord}
@@ -15,7 +16,7 @@ use Rattle.waiting.specs.declared.waits.WaitsFor.TheVariants as wait
 use Rattle.output.specs.Output.{Output}
 use Rattle.spec_step.specs.Parts.{has_synced, record_done, record_shown, record_told, records_done, started, wait_ended, record_taken, by_row_behind}
 use Rattle.spec_step.specs.Shown.{GatewayAndOutput, Shown, is_running, scene}
-use Rattle.spec_step.proofs.Passing.{Going, Goes-on, IsSound, goes-then, going-unseen, nothing, at-boot, at-known, at-closed, at-taken}
+use Rattle.spec_step.proofs.Passing.{Going, Goes-on, IsSound, goes-then, going-unseen, ahead-goes, nothing, at-boot, at-known, at-closed, at-taken}
 use Rattle.spec_step.proofs.Packets.{Reads, here, released-goes}
 use Rattle.spec_step.proofs.Ahead.{record_alone}
 use Rattle.spec_binding.specs.declared.changes.Transition.{Transition}

@@ -30,7 +30,7 @@ use Rattle.spec_binding.specs.declared.changes.Change.TheVariants.{Add, Drop, Ga
 use Rattle.spec_binding.specs.declared.changes.Transition.{Transition}
 use Rattle.spec_binding.specs.declared.changes.PortRequest.{PortRequest}
 use Rattle.spec_binding.specs.declared.changes.Want.TheVariants as want
-use Rattle.spec_binding.specs.Books.{Book, empty_book, is_lone, is_paired, is_promised, is_synced, load_of}
+use Rattle.spec_binding.specs.Books.{Book, emptied, is_lone, is_paired, is_promised, is_synced, load_of}
 use Rattle.spec_binding.specs.Resets.{back_in, begun_anew, put_lone, restart_notes, restarted, retaken}
 use Rattle.spec_binding.specs.Rows.{accept_row, accepted_row, after, alone_row, answering, ask_row, asked_row, asking, ending, gives_way, grant_row, idle_row, install_row, is_at_limit, is_takeable, is_theirs, known_wish, marked_row, left_row, load_taken, load_what, may_want, new_pair, new_wish, no_row, wanting_row, noted_by, numbers_of, paired_wish, port_for, proposal, proposed_row, quiet, refuse_row, refused_row, release_row, released_row, row, row_of, sought_row, stayed_row, synced_row, taken_book, taken_what, taking, telling_row, told_row, unsynced_after, unsynced_what, wish, wish_by, wish_of, yes_row}
 use Rattle.spec_binding.specs.Uses.{IsTranslated}
@@ -476,6 +476,6 @@ lone-rooted b i now keys = subst (λ (ps : List Pair). Rooted b.entries (revived
 pub restart-rooted : (b : Book) (now : ℕ) → HasDistinctKeys b.entries → Rooted b.entries (restarted b).entries (retaken_pairs (restart_notes b now))
 restart-rooted b now keys = at (is_synced b.stage)
   where
-    at : (t : Bool) → Rooted b.entries (let x : Book = cond t (begun_anew b) (empty_book b.id b.zero b.one b.limit b.alone) in x.entries) (retaken_pairs (let ns : List Note = cond t (retaken b.id now (back_in b.entries)) [] in ns))
+    at : (t : Bool) → Rooted b.entries (let x : Book = cond t (begun_anew b) (emptied b) in x.entries) (retaken_pairs (let ns : List Note = cond t (retaken b.id now (back_in b.entries)) [] in ns))
     at true = lone-rooted b b.id now keys
     at false = λ p u. let none = u.found in absurd (cc)

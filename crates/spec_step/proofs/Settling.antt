@@ -21,7 +21,7 @@ use Rattle.link.specs.declared.faults.LinkFault.{LinkFault}
 use Rattle.link.specs.Link.{Link, after_take, is_due_on_tick, is_restart, is_time, records_taken, refusal, sent_on_tick}
 use Rattle.link.specs.Reading.{reading}
 use Rattle.spec_binding.specs.declared.changes.Transition.{Transition}
-use Rattle.spec_binding.specs.Books.{Book, empty_book, is_lone, is_synced}
+use Rattle.spec_binding.specs.Books.{Book, emptied, is_lone, is_synced}
 use Rattle.spec_binding.specs.Ledgers.{lone_ledger, may_ask, restarted_ledger, rests_for, taken_ledger, sought_keys}
 use Rattle.spec_binding.specs.Resets.{begun_anew, restarted}
 use Rattle.spec_binding.specs.Rows.{after, answered, idle_row, is_full, row_of, taken_answer, taken_book, taken_ended, unsynced_after, wish_of, alone_row}
@@ -406,7 +406,7 @@ records-calm s (r ∷ rs) = calming-then s (record_done s r) (records_done s (r 
 restart-synced : (b : Book) → is_synced b.stage ≡ is_synced (restarted b).stage
 restart-synced b = at (is_synced b.stage) refl
   where
-    at : (t : Bool) → is_synced b.stage ≡ t → is_synced b.stage ≡ is_synced (let x : Book = cond t (begun_anew b) (empty_book b.id b.zero b.one b.limit b.alone) in x).stage
+    at : (t : Bool) → is_synced b.stage ≡ t → is_synced b.stage ≡ is_synced (let x : Book = cond t (begun_anew b) (emptied b) in x).stage
     at true is = is
     at false is = is
 

@@ -83,7 +83,7 @@ row-stands : (s : GatewayAndOutput) (row : Transition) → Stands s (by_row s ro
 row-stands s row = stands-by s (by_row s row) refl refl refl refl
 
 wanted-stands : (s : GatewayAndOutput) (e : Endpoint) → Stands s (wanted_by s e)
-wanted-stands s e = row-stands s (wish_of s.shown.ledger.book (is_apart s.shown) (is_full s.shown.link) e).row
+wanted-stands s e = stands-by s (wanted_by s e) refl refl refl refl
 
 wanted-for-stands : (s : GatewayAndOutput) (flow : Flow) (by : Translation) → Stands s (wanted_for s flow by)
 wanted-for-stands s flow (Outward p) = wanted-stands s (source_of flow)

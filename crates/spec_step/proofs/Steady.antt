@@ -21,7 +21,7 @@ use Rattle.link.specs.Grammar.{IsWellFormedRecord}
 use Rattle.spec_pair.specs.Talk.{note}
 use Rattle.spec_binding.specs.declared.changes.Transition.{Transition}
 use Rattle.spec_binding.specs.declared.setups.Stage.{Stage}
-use Rattle.spec_binding.specs.Books.{Book, IsBook, empty_book, is_synced}
+use Rattle.spec_binding.specs.Books.{Book, IsBook, emptied, is_synced}
 use Rattle.spec_binding.specs.Resets.{begun_anew, restarted}
 use Rattle.spec_binding.specs.Rows.{after, noted_by, row_of, taken_book, taken_what, unsynced_after}
 use Rattle.spec_binding.specs.Serving.{Stays, serving, serving_by}
@@ -99,7 +99,7 @@ taken-steady s s2 rests r is formed book now =
 pub restarted-synced : (b : Book) → is_synced b.stage ≡ true → is_synced (restarted b).stage ≡ true
 restarted-synced b synced = at (is_synced b.stage) synced
   where
-    at : (t : Bool) → t ≡ true → is_synced (let x : Book = cond t (begun_anew b) (empty_book b.id b.zero b.one b.limit b.alone) in x).stage ≡ true
+    at : (t : Bool) → t ≡ true → is_synced (let x : Book = cond t (begun_anew b) (emptied b) in x).stage ≡ true
     at true is = refl
     at false is = absurd (cc)
 
