@@ -1,5 +1,5 @@
 -- The pairs by which a packet from the inside leaves.
-use Rattle.std.specs.Prelude.{◌≡◌, ◌×◌, Option, None, Some}
+use Rattle.std.specs.Prelude.{◌≡◌, Option, None, Some}
 use Rattle.nat_types.specs.declared.pairs.Endpoint.{Endpoint}
 use Rattle.nat_types.specs.declared.pairs.Pair.{Pair}
 use Rattle.ipv4.specs.declared.flows.Flow.{Flow}

@@ -176,7 +176,7 @@ module _ (letters : List Letter) (words : List ℕ) where
       let e = s.shown.link in
       let row = ahead_row b full c in
       let works = subst (λ (x : Book). Works now [] [] x e n (after x row) (answered e row.answer) n [] h) (sym same)
-          (ahead-works now b e n h full c (subst (λ (x : Book). Stands x e h) same stands)) in
+      (ahead-works now b e n h full c (subst (λ (x : Book). Stands x e h) same stands)) in
       record {
         passes = record {
           notes = [];

@@ -170,8 +170,11 @@ found-translate s flow (Inward p) is synced found = target-translates s.shown fl
 found-translate s flow (Hairpin own other) is synced found =
     let first = own-translates s flow own is found.0 in
     let second = target-translates s.shown flow other synced found.1 in (
-      (first.0, translates-behind s (wish_of s.shown.ledger.book (is_apart s.shown) (is_full s.shown.link) (source_of flow)).row other
-          (wish-still s.shown.ledger.book (is_apart s.shown) (is_full s.shown.link) (source_of flow) is other second.0)),
+      (
+        first.0,
+        translates-behind s (wish_of s.shown.ledger.book (is_apart s.shown) (is_full s.shown.link) (source_of flow)).row other
+            (wish-still s.shown.ledger.book (is_apart s.shown) (is_full s.shown.link) (source_of flow) is other second.0),
+      ),
       (first.1, second.1),
     )
 
