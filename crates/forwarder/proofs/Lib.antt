@@ -1,3 +1,4 @@
+pub mod Offered
 mod Planning
 mod Reading
 mod Taking

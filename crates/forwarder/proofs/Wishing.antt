@@ -87,8 +87,8 @@ mute-leaves : (e : Link) (a : Option Record) → a ≡ None → min 64 (free_pla
 mute-leaves e None mute = omega arith
 mute-leaves e (Some r) mute = cc
 
--- and nothing is pushed by the row behind where the link is full after the row
-ahead-leaves : (b : Book) (l : Link) (ch : Change) → min 64 (free_places l) ≤ free_places (answered l (ahead_row b (is_full l) ch).answer)
+-- what is asked for behind a change leaves 64 places of the link free, where so many were
+pub ahead-leaves : (b : Book) (l : Link) (ch : Change) → min 64 (free_places l) ≤ free_places (answered l (ahead_row b (is_full l) ch).answer)
 ahead-leaves b l ch = at (is_full l) refl
   where
     mute : (t : Bool) → (let r : Transition = cond t (wanting_row (changed ch b) true) quiet in r).answer ≡ None

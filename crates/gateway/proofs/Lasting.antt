@@ -16,7 +16,7 @@ use Rattle.resync.specs.Loading.{Load, loaded}
 use Rattle.spec_binding.specs.Books.{Book, is_lone, is_synced, load_of}
 use Rattle.spec_binding.specs.Ledgers.{lone_ledger, may_ask, restarted_ledger, rests_for, sought_keys, taken_ledger}
 use Rattle.spec_binding.specs.Resets.{back_in, restart_link, restart_notes, restarted, retaken}
-use Rattle.spec_binding.specs.Rows.{alone_row, answered, idle_row, is_full, load_taken, row_of, taken_answer, taken_book, taken_ended}
+use Rattle.spec_binding.specs.Rows.{alone_row, answered, idle_row, is_full, load_taken, row_of, taken_answer, taken_behind, taken_book, taken_ended}
 use Rattle.spec_binding.proofs.Offered.{change-leaves}
 use Rattle.waiting.specs.declared.waits.Ended.TheVariants.{One, AllPairs}
 use Rattle.waiting.specs.declared.waits.WaitsFor.TheVariants as wait
@@ -30,7 +30,7 @@ use Rattle.vrrp_states.specs.Table.{Event as RouterEvent, IsMoment}
 use Rattle.vrrp_states.specs.declared.Action.{Action}
 use Rattle.spec_step.specs.declared.events.Event.{Event}
 use Rattle.spec_step.specs.declared.events.Event.TheVariants.{Frame, Datagram as Comes, Tick, Stop, PeerOff, Side as SideIs}
-use Rattle.spec_step.specs.Parts.{acted, all_framed, all_idle_done, all_sought_done, alone_taken, answered_by, arp_heard, arp_taken, datagram_read, datagram_taken, framed, frames_of, gone_alone, handed_in, has_synced, heard_by, heard_unless, idle_done, idle_taken, is_taught, link_answered, link_ticked, old_dropped, peer_told, record_done, record_shown, records_done, released, reset, side_plugged, sought_done, wait_ended, waits_for_sender, with_link, with_routers}
+use Rattle.spec_step.specs.Parts.{acted, all_framed, all_idle_done, all_sought_done, alone_taken, answered_by, arp_heard, arp_taken, datagram_read, datagram_taken, framed, frames_of, gone_alone, handed_in, has_synced, heard_by, heard_unless, idle_done, idle_taken, is_taught, link_answered, record_taken, link_ticked, old_dropped, peer_told, record_done, record_shown, records_done, released, reset, side_plugged, sought_done, wait_ended, waits_for_sender, with_link, with_routers}
 use Rattle.spec_step.specs.declared.turns.Turn.{Turn}
 use Rattle.spec_step.specs.declared.turns.Turn.TheVariants.{Leaves, Returns, Stays as Remains}
 use Rattle.spec_step.specs.GivingWay.{TakesTurn, left, returned, turn_of}
@@ -39,7 +39,7 @@ use Rattle.spec_step.specs.Shown.{GatewayAndOutput, Shown, id_of, is_apart, is_r
 use Rattle.spec_step.specs.Steps.{Does, FrameDoes, IsStepOn, ended_on, stopped, ticked, word_by, word_refusal}
 use Rattle.spec_step.specs.Verdict.{reading_on}
 use Rattle.gateway.specs.Arrivals.{clock_by}
-use Rattle.gateway.proofs.Staying.{IsAsOn, Stays, answered-capacity, flow-stays, released-stays, row-stays, station-stays, stays-here, stays-then, echo-stays, error-stays, refused-stays}
+use Rattle.gateway.proofs.Staying.{IsAsOn, Stays, answered-capacity, change-stays, flow-stays, released-stays, row-stays, station-stays, stays-here, stays-then, echo-stays, error-stays, refused-stays}
 
 -- an equal pair of gateway and output
 stays-as : (g : Shown) (s s2 : GatewayAndOutput) → s2 ≡ s → Stays g s.shown → Stays g s2.shown
@@ -144,10 +144,13 @@ shown-stays : (g : Shown) (r : Record) → Stays g (record_shown g r)
 shown-stays g r =
     let b = g.ledger.book in
     let rests = rests_for g.moment g.ledger r in
-    let g2 : Shown = record g { ledger = taken_ledger g.moment g.ledger r; link = answered g.link (taken_answer b rests r) } in
+    let g1 : Shown = record g { ledger = taken_ledger g.moment g.ledger r; link = answered g.link (taken_answer b rests r) } in
+    let g2 = record_taken g r in
     let ranges = taken-by b rests r (is_synced b.stage) refl in
     stays-then g g2 (record_shown g r)
+    (stays-then g g1 g2
     (record { moment = refl; capacity = answered-capacity g.link (taken_answer b rests r); zero = ranges.zero; one = ranges.one; networks = refl; inside = refl; outside = refl })
+    (change-stays g1 (taken_behind b g.link rests r)))
     (with-routers-stays g g2 (has_synced g g2 && is_running g2) refl)
 
 ended-stays : (s : GatewayAndOutput) (o : Option Endpoint) → Stays s.shown (wait_ended o s).shown

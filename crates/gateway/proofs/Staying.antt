@@ -12,7 +12,8 @@ use Rattle.ipv4.specs.declared.flows.Flow.{Flow}
 use Rattle.activity.specs.declared.packets.Packet.{Packet as Carried}
 use Rattle.link.specs.Link.{Link}
 use Rattle.spec_binding.specs.declared.changes.Transition.{Transition}
-use Rattle.spec_binding.specs.Rows.{answered, is_full, wish_of}
+use Rattle.spec_binding.specs.Ledgers.{ledger_after}
+use Rattle.spec_binding.specs.Rows.{answered, behind, is_full, wish_of}
 use Rattle.spec_binding.proofs.Offered.{change-leaves}
 use Rattle.waiting.specs.declared.waits.Ended.{Ended}
 use Rattle.arp.specs.Neighbours.{asks_at}
@@ -70,13 +71,20 @@ pub answered-capacity : (e : Link) (a : Option Record) → (answered e a).capaci
 answered-capacity e None = refl
 answered-capacity e (Some r) = refl
 
+pub change-stays : (g : Shown) (row : Transition) → Stays g (record g { ledger = ledger_after g.moment row.change g.ledger; link = answered g.link row.answer })
+change-stays g row =
+    let beside = change-leaves g.ledger.book row.change in
+    record { moment = refl; capacity = answered-capacity g.link row.answer; zero = beside.zero; one = beside.one; networks = refl; inside = refl; outside = refl }
+
 pub row-stays : (s : GatewayAndOutput) (row : Transition) → Stays s.shown (by_row s row).shown
-row-stays s row =
-    let beside = change-leaves s.shown.ledger.book row.change in
-    record { moment = refl; capacity = answered-capacity s.shown.link row.answer; zero = beside.zero; one = beside.one; networks = refl; inside = refl; outside = refl }
+row-stays s row = change-stays s.shown row
 
 wanted-stays : (s : GatewayAndOutput) (e : Endpoint) → Stays s.shown (wanted_by s e).shown
-wanted-stays s e = row-stays s (wish_of s.shown.ledger.book (is_apart s.shown) (is_full s.shown.link) e).row
+wanted-stays s e =
+    let g = s.shown in
+    let row = (wish_of g.ledger.book (is_apart g) (is_full g.link) e).row in
+    let one = (by_row s row).shown in
+    stays-then g one (wanted_by s e).shown (change-stays g row) (change-stays one (behind g.ledger.book g.link row))
 
 carried-stays : (s : GatewayAndOutput) (k : Key) (p : Carried) → Stays s.shown (carried_by s k p).shown
 carried-stays s k p = record { moment = refl; capacity = refl; zero = refl; one = refl; networks = refl; inside = refl; outside = refl }

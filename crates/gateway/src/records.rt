@@ -4,10 +4,11 @@ ghost use Rattle.std.specs.List.{AllByRecursion};
 ghost use Rattle.link.specs.declared.datagrams.TheConstants.{RECORDS_IN_A_DATAGRAM};
 ghost use Rattle.link.specs.Grammar.{IsWellFormedRecord};
 ghost use Rattle.link.specs.Link.{answers_count, free_places, needs_answer};
-ghost use Rattle.spec_binding.specs.Ledgers.{rests_for, taken_ledger};
-ghost use Rattle.spec_binding.specs.Rows.{answered, taken_answer, taken_ended};
+ghost use Rattle.spec_binding.specs.Ledgers.{rests_for};
+ghost use Rattle.spec_binding.specs.Rows.{taken_ended};
 ghost use Rattle.vrrp_states.specs.Table.{IsMoment};
-ghost use Rattle.spec_step.specs.Parts.{record_done, record_shown, record_told, records_done};
+ghost use Rattle.spec_step.specs.Parts.{record_done, record_shown, record_taken, record_told};
+ghost use Rattle.spec_step.specs.Parts.{records_done};
 ghost use Rattle.spec_step.specs.Shown.{scene};
 ghost use Rattle.forwarder.specs.Forwarder.{scene_on, shown_of};
 ghost use Rattle.forwarder.specs.Room.{HasRoomFor, Spends, a_wish, and_kept};
@@ -21,21 +22,20 @@ use output::OutputBuffer;
 use spec_binding::rows_leave;
 use waiting::WaitsFor;
 
-/// Passes a record to the core, and returns the endpoint whose packets needn't wait any more.
+/// Passes a record to the core, which may ask for ports behind it, and returns the endpoint whose packets needn't wait any more.
 fn take_alone(forwarder: &mut Forwarder, page: &mut OutputBuffer, entry: Record) -> Option<Endpoint>
     requires formed { IsWellFormedRecord entry }
     requires places { needs_answer entry ≡ true → 0 < free_places forwarder.old.link }
     requires room { HasRoomFor a_wish forwarder.old page.old }
     ensures ended { let g = shown_of forwarder.old in result
         ≡ taken_ended g.ledger.book (rests_for g.moment g.ledger entry) entry }
-    ensures shown { let g = shown_of forwarder.old in shown_of forwarder.new ≡ record g {
-      ledger = taken_ledger g.moment g.ledger entry;
-      link = answered g.link (taken_answer g.ledger.book (rests_for g.moment g.ledger entry) entry);
-    } }
+    ensures shown { shown_of forwarder.new ≡ record_taken (shown_of forwarder.old) entry }
     ensures told { page.new.told ≡ record_told (shown_of forwarder.old) entry page.old.told }
     ensures spends { Spends a_wish forwarder.old page.old forwarder.new page.new }
-    ensures places { free_places forwarder.old.link
-        ≤ free_places forwarder.new.link + answers_to entry }
+    // What is pushed leaves places of the link free, if so many were free before.
+    ensures places { (more : ℕ) → more ≤ places_for_answers
+        → more + answers_to entry ≤ free_places forwarder.old.link
+        → more ≤ free_places forwarder.new.link }
 {
     rows_leave();
     let mut notes = page.take_notes();
@@ -63,8 +63,10 @@ fn take_and_start(
     ensures shown { shown_of forwarder.new ≡ record_shown (shown_of forwarder.old) entry }
     ensures told { page.new.told ≡ record_told (shown_of forwarder.old) entry page.old.told }
     ensures spends { Spends a_wish forwarder.old page.old forwarder.new page.new }
-    ensures places { free_places forwarder.old.link
-        ≤ free_places forwarder.new.link + answers_to entry }
+    // What is pushed leaves places of the link free, if so many were free before.
+    ensures places { (more : ℕ) → more ≤ places_for_answers
+        → more + answers_to entry ≤ free_places forwarder.old.link
+        → more ≤ free_places forwarder.new.link }
     ensures moment { forwarder.new.moment ≡ forwarder.old.moment }
 {
     let was_synced = forwarder.core.is_synced();
