@@ -19,6 +19,7 @@ use Rattle.spec_pair.specs.Ownership.{Ranges}
 use Rattle.spec_pair.specs.Step.{IsOff, IsStep, WasSent}
 use Rattle.spec_pair.specs.Talk.{note}
 use Rattle.spec_pair.specs.World.{Can, IsWorld, MachineEvent, Scene as Seen, after_event, box_in, founding, mail_in, seen_by, with_step}
+use Rattle.spec_binding.specs.declared.setups.Rules.{Rules}
 use Rattle.spec_binding.specs.Books.{IsBook, empty_book, founded_book}
 use Rattle.spec_binding.specs.Machine.{box_at, ranges_of}
 use Rattle.spec_step.specs.declared.events.Event.{Event}
@@ -67,11 +68,11 @@ GoesTo = (r : Ranges) (s : Seen) (e : MachineEvent) → IsWorld r s → Can r e.
 
 -- the boxes with which the machine begins
 abbrev pub BoxBooted : Type 0
-BoxBooted = (id : GatewayId) (zero one : PortBounds) (limit : Option ℕ) (alone boot capacity : ℕ) → box_at (empty_book id zero one limit alone) (fresh id boot capacity) [] 0 ≡ booted boot
+BoxBooted = (id : GatewayId) (zero one : PortBounds) (rules : Rules) (boot capacity : ℕ) → box_at (empty_book id zero one rules) (fresh id boot capacity) [] 0 ≡ booted boot
 
 abbrev pub BoxFounded : Type 0
-BoxFounded = (zero one : PortBounds) (limit : Option ℕ) (alone capacity : ℕ) → AreBounds zero → let r = ranges_of (founded_book zero one limit alone) in
-    box_at (founded_book zero one limit alone) (fresh Zero 1 capacity) [] 0 ≡ founder (λ p. r.in_ranges p && r.at_start p)
+BoxFounded = (zero one : PortBounds) (rules : Rules) (capacity : ℕ) → AreBounds zero → let r = ranges_of (founded_book zero one rules) in
+    box_at (founded_book zero one rules) (fresh Zero 1 capacity) [] 0 ≡ founder (λ p. r.in_ranges p && r.at_start p)
 
 -- the founding can come about
 abbrev pub Begins : Type 0

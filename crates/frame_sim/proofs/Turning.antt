@@ -15,7 +15,7 @@ use Rattle.spec_pair.specs.Acts as act
 use Rattle.spec_pair.specs.Box.{Box, bare, booted}
 use Rattle.spec_pair.specs.World as machine
 use Rattle.spec_pair.specs.World.{Can, IsWorld, Scene, after_event, seen_by}
-use Rattle.spec_step.specs.Founding.{begun, bounds_of, founded, link_places}
+use Rattle.spec_step.specs.Founding.{begun, bounds_of, founded, link_places, rules_of}
 use Rattle.spec_step.specs.Machine.{box_of}
 use Rattle.spec_step.specs.Shown.{Shown}
 use Rattle.spec_gateway.specs.State.{beginning}
@@ -119,7 +119,7 @@ begun-box : BoxBooted → (settings : Settings) (i : GatewayId) (n : ℕ) → bo
 unfolding begun
 begun-box law settings i n =
     let zero = bounds_of settings.ports.zero in let one = bounds_of settings.ports.one in
-    sym (law i zero one settings.ports.host_limit settings.alone n (link_places zero one))
+    sym (law i zero one (rules_of settings) n (link_places zero one))
 
 -- a gateway that begins is that of its number, by the ranges of either settings
 begun-that : (settings own : Settings) (i : GatewayId) (n : ℕ) → own.ports.zero ≡ settings.ports.zero → own.ports.one ≡ settings.ports.one → IsThat settings.ports i n (begun own i n) []
@@ -161,7 +161,7 @@ founded-box : BoxFounded → (settings settings_one : Settings) → AreBounds (b
 unfolding founded begun
 founded-box law settings settings_one are =
     let zero = bounds_of settings.ports.zero in let one = bounds_of settings.ports.one in
-    ap (λ (b : Box). let x : Scene = record (machine.founding (ranges_of settings.ports)) { mine = b } in x) (sym (law zero one settings.ports.host_limit settings.alone (link_places zero one) are))
+    ap (λ (b : Box). let x : Scene = record (machine.founding (ranges_of settings.ports)) { mine = b } in x) (sym (law zero one (rules_of settings) (link_places zero one) are))
 
 founded-that : (settings : Settings) → IsThat settings.ports Zero 1 (founded settings 1) []
 unfolding founded begun
