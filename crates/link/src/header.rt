@@ -58,7 +58,7 @@ ghost use Rattle.link.specs.Reading.{gateway_numbered as gateway_of};
 ghost use Rattle.link.specs.Reading.{is_ours as is_datagram_of_ours};
 ghost use Rattle.link.specs.Reading.{is_sender as names_sender, is_in_range as fields_are_in_range};
 
-use crate::values::{put_values, values_of};
+use crate::values::{put_values, values_from};
 use crate::writing::{LONGEST_PART, Part, put};
 use crate::{LinkFault, RECORDS_IN_A_DATAGRAM};
 use byteorder::{BigEndian, ByteOrder};
@@ -158,7 +158,7 @@ fn fields_of(bytes: &[u8]) -> Header
         sender: gateway_numbered(bytes[field::SENDER]),
         boot: number_from(bytes, field::BOOT),
         receiver_boot: number_from(bytes, field::RECEIVER_BOOT),
-        values: values_of(&bytes[field::VALUES..]),
+        values: values_from(bytes, field::VALUES),
         serves: bytes[field::STATUS] == 1,
         delivered: number_from(bytes, field::DELIVERED),
         first: number_from(bytes, field::FIRST),

@@ -1,5 +1,5 @@
 //! The 18 bytes of a header that say on which values its sender runs.
-ghost use Rattle.std.specs.Prelude.{◌≡◌, ◌+◌, ◌≤◌, ◌++◌, length};
+ghost use Rattle.std.specs.Prelude.{◌≡◌, ◌+◌, ◌≤◌, ◌++◌, drop, length};
 ghost use Rattle.byteorder.specs.Endian.{big_bytes};
 ghost use Rattle.link.specs.Grammar.{values_bytes};
 ghost use Rattle.link.specs.Reading.{values_at};
@@ -10,7 +10,7 @@ use byteorder::{BigEndian, ByteOrder};
 use settings::Values;
 
 /// Returns the values from the first 18 bytes. Any bytes are values.
-pub(crate) fn values_of(bytes: &[u8]) -> Values
+fn values_of(bytes: &[u8]) -> Values
     requires { 18 ≤ length bytes.now }
     ensures { result ≡ values_at bytes.now }
 {
@@ -24,6 +24,14 @@ pub(crate) fn values_of(bytes: &[u8]) -> Values
         inside_prefix: bytes[16],
         outside_prefix: bytes[17],
     }
+}
+
+/// Returns the values from the 18 bytes at an offset.
+pub(crate) fn values_from(bytes: &[u8], start: usize) -> Values
+    requires { start + 18 ≤ length bytes.now }
+    ensures { result ≡ values_at (drop start bytes.now) }
+{
+    values_of(&bytes[start..])
 }
 
 fn put_address(out: &mut Part, address: Ip)

@@ -5,6 +5,7 @@ use Rattle.settings.specs.declared.values.Values.{Values}
 use Rattle.settings.specs.Values.{same_networks, same_ranges, same_values}
 
 pub values-same : (v w : Values) → same_values v w ≡ true → v ≡ w
+unfolding same_values
 values-same v w e =
     let parts = and_parts (same_ranges v w) (same_networks v w) e in
     let r4 = and_parts ((v.zero_lowest.0 == w.zero_lowest.0) && (v.zero_highest.0 == w.zero_highest.0) && (v.one_lowest.0 == w.one_lowest.0)) (v.one_highest.0 == w.one_highest.0) parts.0 in
@@ -31,6 +32,7 @@ four a b c d =
     (eq-eqb d d refl)
 
 pub values-self : (v : Values) → same_values v v ≡ true
+unfolding same_values
 values-self v = and_from (same_ranges v v) (same_networks v v)
     (four v.zero_lowest.0 v.zero_highest.0 v.one_lowest.0 v.one_highest.0)
     (four v.inside_virtual.0 v.outside_virtual.0 v.inside_prefix v.outside_prefix)

@@ -28,7 +28,7 @@ same_networks v w =
     && (v.inside_prefix == w.inside_prefix) && (v.outside_prefix == w.outside_prefix)
 
 -- whether two have each value alike
-abbrev pub same_values : Values → Values → Bool
+unfoldable pub same_values : Values → Values → Bool
 same_values v w = same_ranges v w && same_networks v w
 
 -- ports of 16 bits, addresses of 32, prefix lengths of 8

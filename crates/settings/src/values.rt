@@ -54,6 +54,7 @@ impl Values {
     }
 
     /// Whether each value is that of `other`.
+    #[tactic(auto, unfolding(crate::specs::Values::same_values))]
     pub fn is_same(&self, other: &Values) -> bool
         ensures exact { result ≡ same_values self.now other.now }
         ensures alike { IsTrue result ↔ (self.now ≡ other.now) }
