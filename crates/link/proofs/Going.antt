@@ -1,10 +1,13 @@
 -- What a datagram brings to the other end where it comes at once: 64 records, or all.
-use Rattle.std.proofs.Common.{◌≡◌, ℕ, zero, suc, ◌+◌, ◌-◌, ◌≤◌, max, Bool, true, false, cond, not, ◌&&◌, ◌==◌, nat_lt, List, [], ◌∷◌, ◌++◌, length, drop, Some, None, refl, ap, ◌∙◌, arith}
+use Rattle.std.proofs.Common.{◌≡◌, ℕ, zero, suc, ◌+◌, ◌-◌, ◌≤◌, max, Bool, true, false, cond, not, ◌&&◌, ◌==◌, nat_lt, List, [], ◌∷◌, ◌++◌, length, drop, Some, None, refl, sym, ap, ◌∙◌, arith}
 use Rattle.std.proofs.lemmas.Bool.{ne_eqb, eq-eqb}
 use Rattle.std.proofs.lemmas.List.{length-drop, length-take, length-append}
 use Rattle.nat_types.specs.Same.{same}
 use Rattle.nat_types.specs.declared.records.Record.{Record}
-use Rattle.link.specs.declared.faults.LinkFault.TheVariants.{NotOurs, BadRecord, Stale, NotForThisBoot, Gap}
+use Rattle.settings.specs.Values.{same_values}
+use Rattle.settings.specs.declared.values.Values.{Values}
+use Rattle.settings.proofs.Offered.{values-self}
+use Rattle.link.specs.declared.faults.LinkFault.TheVariants.{NotOurs, BadRecord, OtherSettings, Stale, NotForThisBoot, Gap}
 use Rattle.link.specs.declared.datagrams.Datagram.{Datagram}
 use Rattle.link.specs.Going.{AreJoined}
 use Rattle.link.specs.Link.{Link, IsLink, datagram_of, wanted, pushed_count, handed_count, free_places, is_restart, is_beginning, is_gap, open_from, refusal, met, takeable, untaken, needs_answer, answers_count, records_taken, after_take}
@@ -17,15 +20,9 @@ and-no : (x y : Bool) → y ≡ false → (x && y) ≡ false
 and-no true y h = h
 and-no false y h = refl
 
-passing : (x1 x2 x3 x4 x5 x6 : Bool) → x1 ≡ false → x2 ≡ false → x3 ≡ false → x4 ≡ true → x5 ≡ false → x6 ≡ false
-    → cond x1 (Some NotOurs) (cond x2 (Some Stale) (cond x3 None (cond (not x4) (Some NotForThisBoot) (cond x5 (Some BadRecord) (cond x6 (Some Gap) None))))) ≡ None
-passing true x2 x3 x4 x5 x6 h1 h2 h3 h4 h5 h6 = absurd (cc)
-passing false true x3 x4 x5 x6 h1 h2 h3 h4 h5 h6 = absurd (cc)
-passing false false true x4 x5 x6 h1 h2 h3 h4 h5 h6 = absurd (cc)
-passing false false false false x5 x6 h1 h2 h3 h4 h5 h6 = absurd (cc)
-passing false false false true true x6 h1 h2 h3 h4 h5 h6 = absurd (cc)
-passing false false false true false true h1 h2 h3 h4 h5 h6 = absurd (cc)
-passing false false false true false false h1 h2 h3 h4 h5 h6 = refl
+passing : (x1 x2 x3 x4 x5 x6 x7 : Bool) → x1 ≡ false → x2 ≡ true → x3 ≡ false → x4 ≡ false → x5 ≡ true → x6 ≡ false → x7 ≡ false
+    → cond x1 (Some NotOurs) (cond (not x2) (Some OtherSettings) (cond x3 (Some Stale) (cond x4 None (cond (not x5) (Some NotForThisBoot) (cond x6 (Some BadRecord) (cond x7 (Some Gap) None)))))) ≡ None
+passing x1 x2 x3 x4 x5 x6 x7 h1 h2 h3 h4 h5 h6 h7 = rw (h1, h2, h3, h4, h5, h6, h7) refl
 
 -- ---- what is taken, where there is a place for each answer
 
@@ -66,9 +63,12 @@ module _ (a b : Link) (synced : Bool) (j : AreJoined a b) where
   no-gap : is_gap b sent ≡ false
   no-gap = and-no (nat_lt 0 (length sent.records.items)) (nat_lt (b.taken + 1) (a.acknowledged + 1)) (not-less (b.taken + 1) (a.acknowledged + 1) (let t = j.told in omega (arith, t)))
 
+  alike : same_values a.values b.values ≡ true
+  alike = ap (λ (v : Values). same_values a.values v) (sym j.alike) ∙ values-self a.values
+
   pub it_passes : refusal b sent ≡ None
-  it_passes = passing (same a.id b.id) (nat_lt a.boot (open_from b)) (is_restart b sent) (a.known == b.boot) (nat_lt (handed_count b) a.taken) (is_gap b sent)
-      j.apart heard same-boot (eq-eqb a.known b.boot j.back) (not-less (handed_count b) a.taken j.took) no-gap
+  it_passes = passing (same a.id b.id) (same_values a.values b.values) (nat_lt a.boot (open_from b)) (is_restart b sent) (a.known == b.boot) (nat_lt (handed_count b) a.taken) (is_gap b sent)
+      j.apart alike heard same-boot (eq-eqb a.known b.boot j.back) (not-less (handed_count b) a.taken j.took) no-gap
 
   pub it_tells : (now : ℕ) → (after_take b sent now).acknowledged ≡ max b.acknowledged a.taken
   it_tells now = ap (λ (x : Link). x.acknowledged) (met_same b sent same-boot)

@@ -4,6 +4,8 @@
 pub use Rattle.link.proofs.Ends.{passes, length-takeable, pushed_is, formed, restart_is, all_taken, met_restart, met_same, begins, goes_on, pushed_agrees, promised_agrees, fed_agrees, boot_of}
 -- a datagram that isn't refused is of a session that wasn't closed
 pub use Rattle.link.proofs.Ends.{is_open}
+-- a datagram that isn't refused has the end's values, one with another value is refused, and taking leaves the values
+pub use Rattle.link.proofs.Ends.{same_settings, other_settings, stray_refused, values_of}
 -- no datagram has records beyond those passed to the end
 pub use Rattle.link.proofs.Ends.{within_handed}
 -- the known boot after taking is the datagram's

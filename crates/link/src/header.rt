@@ -1,35 +1,48 @@
-//! The 38 bytes before a datagram's records.
+//! The 56 bytes before a datagram's records.
 //!
 //! ```text
 //!  0                   1                   2                   3
 //!  0 1 2 3 4 5 6 7 8 9 0 1 2 3 4 5 6 7 8 9 0 1 2 3 4 5 6 7 8 9 0 1
 //! +---------------+---------------+---------------+---------------+
-//! |   'N' (4e)    |   'P' (50)    |  version, 3   | sender, 0 / 1 |  0
+//! |   'N' (4e)    |   'P' (50)    |  version, 4   | sender, 0 / 1 |  0
 //! +---------------+---------------+---------------+---------------+
 //! |                   the sender's boot, from 1                   |  4
 //! |                           (8 bytes)                           |
 //! +---------------------------------------------------------------+
 //! |             the receiver's boot as it is known, or 0          |  12
 //! |                           (8 bytes)                           |
-//! +---------------+-----------------------------------------------+
-//! | status, 0 / 1 |                                               |  20
-//! +---------------+                                               |
-//! |   how many of the receiver's records were taken (8 bytes)     |  21
-//! |               +-----------------------------------------------+
-//! |               |                                               |  29
-//! +---------------+                                               |
-//! |        the number of the first record, from 1 (8 bytes)       |
-//! |               +---------------+-------------------------------+
-//! |               | records, to 64|  the records, and nothing more   37
-//! +---------------+---------------+-------------------------------+
+//! +-------------------------------+-------------------------------+
+//! |   first port of range zero    |    last port of range zero    |  20
+//! +-------------------------------+-------------------------------+
+//! |    first port of range one    |    last port of range one     |  24
+//! +-------------------------------+-------------------------------+
+//! |                    inside virtual address                     |  28
+//! +---------------------------------------------------------------+
+//! |                    outside virtual address                    |  32
+//! +---------------+---------------+---------------+---------------+
+//! | inside prefix | outside prefix| status, 0 / 1 |               |  36
+//! +---------------+---------------+---------------+               |
+//! |   how many of the receiver's records were taken (8 bytes)     |  39
+//! |                                               +---------------+
+//! |                                               |               |
+//! +-----------------------------------------------+               |
+//! |        the number of the first record, from 1 (8 bytes)       |  47
+//! |                                               +---------------+
+//! |                                               | records, to 64|  55
+//! +-----------------------------------------------+---------------+
+//! |                the records, and nothing more                     56
 //! ```
 //!
 //! Numbers are big-endian. Gateway 0 proposes a pair:
 //!
 //! ```text
-//! 4e50 03 00         a datagram of version 3, by gateway 0
+//! 4e50 04 00         a datagram of version 4, by gateway 0
 //! 0000000000000001   which is in its boot 1,
 //! 0000000000000001   and knows the receiver's boot 1;
+//! 4e20 9c3f          it runs with ports 20000 to 39999 for gateway 0,
+//! 9c40 ea5f          40000 to 59999 for gateway 1,
+//! c0a80101 c0000201  192.168.1.1 inside, 192.0.2.1 outside,
+//! 18 18              and prefixes of 24 bits;
 //! 01                 it serves,
 //! 0000000000000000   it took no record of the receiver,
 //! 0000000000000004   and its own records from number 4 on are not yet known to be taken:
@@ -45,10 +58,12 @@ ghost use Rattle.link.specs.Reading.{gateway_numbered as gateway_of};
 ghost use Rattle.link.specs.Reading.{is_ours as is_datagram_of_ours};
 ghost use Rattle.link.specs.Reading.{is_sender as names_sender, is_in_range as fields_are_in_range};
 
+use crate::values::{put_values, values_from};
 use crate::writing::{LONGEST_PART, Part, put};
 use crate::{LinkFault, RECORDS_IN_A_DATAGRAM};
 use byteorder::{BigEndian, ByteOrder};
 use nat_types::GatewayId;
+use settings::Values;
 
 /// Offsets of a header's fields, in bytes.
 mod field {
@@ -60,19 +75,21 @@ mod field {
 
     pub const RECEIVER_BOOT: usize = 12;
 
-    pub const STATUS: usize = 20;
+    pub const VALUES: usize = 20;
 
-    pub const DELIVERED: usize = 21;
+    pub const STATUS: usize = 38;
 
-    pub const FIRST: usize = 29;
+    pub const DELIVERED: usize = 39;
 
-    pub const COUNT: usize = 37;
+    pub const FIRST: usize = 47;
+
+    pub const COUNT: usize = 55;
     /// The length of a header.
-    pub const HEADER: usize = 38;
+    pub const HEADER: usize = 56;
 }
 
 /// The version of the link's format that is written, and the only one that is read.
-const VERSION: u8 = 3;
+const VERSION: u8 = 4;
 
 /// The first number above those that a record may have, 2^63.
 const NUMBERS_END: u64 = 9_223_372_036_854_775_808;
@@ -83,6 +100,7 @@ pub(crate) struct Header {
     pub sender: GatewayId,
     pub boot: u64,
     pub receiver_boot: u64,
+    pub values: Values,
     pub serves: bool,
     pub delivered: u64,
     pub first: u64,
@@ -133,13 +151,14 @@ fn number_from(bytes: &[u8], start: usize) -> u64
 
 /// Returns the fields of a header from bytes that have a whole one.
 fn fields_of(bytes: &[u8]) -> Header
-    requires { 38 ≤ length bytes.now }
+    requires { 56 ≤ length bytes.now }
     ensures { result ≡ header bytes.now }
 {
     Header {
         sender: gateway_numbered(bytes[field::SENDER]),
         boot: number_from(bytes, field::BOOT),
         receiver_boot: number_from(bytes, field::RECEIVER_BOOT),
+        values: values_from(bytes, field::VALUES),
         serves: bytes[field::STATUS] == 1,
         delivered: number_from(bytes, field::DELIVERED),
         first: number_from(bytes, field::FIRST),
@@ -152,7 +171,7 @@ fn fields_of(bytes: &[u8]) -> Header
 pub(crate) fn header_of(bytes: &[u8]) -> Result<Header, LinkFault>
     ensures exact { Gives (λ h. h) result (header_at bytes.now) }
     ensures count { IfOk result (λ h. h.count ≤ 64) }
-    ensures long { OnOk result (38 ≤ length bytes.now) }
+    ensures long { OnOk result (56 ≤ length bytes.now) }
 {
     if !is_ours(bytes) {
         return Err(LinkFault::NotOurs);
@@ -175,8 +194,8 @@ pub(crate) fn header_of(bytes: &[u8]) -> Result<Header, LinkFault>
 
 /// Returns the bytes after the header.
 pub(crate) fn behind_header(bytes: &[u8]) -> &[u8]
-    requires { 38 ≤ length bytes.now }
-    ensures { result.now ≡ drop 38 bytes.now }
+    requires { 56 ≤ length bytes.now }
+    ensures { result.now ≡ drop 56 bytes.now }
 {
     &bytes[field::HEADER..]
 }
@@ -211,6 +230,7 @@ pub(crate) fn put_header(out: &mut Part, header: &Header)
     put(out, &[b'N', b'P', VERSION, number_of(header.sender)]);
     put_number(out, header.boot);
     put_number(out, header.receiver_boot);
+    put_values(out, &header.values);
     put(out, &[status_of(header.serves)]);
     put_number(out, header.delivered);
     put_number(out, header.first);

@@ -1,0 +1,2 @@
+mod Alike
+pub mod Offered
