@@ -1,5 +1,5 @@
-"""Which free port a new pair gets: the lowest one, or one that is drawn by a key, as in section 3.3.3 of RFC 6056, but in a
-block of 64 numbers that is drawn first."""
+"""Which free port a new pair gets: the lowest one, or one that is drawn by a key, as in section 3.3.3 of RFC 6056, but
+in a block of 64 numbers that is drawn first. The key is that of the worked runs."""
 
 import hashlib
 
@@ -31,8 +31,8 @@ def drawn(parities, is_free, endpoint):
 
 
 def drawn_of(owned, free, first, second):
-    """The first number draws a block that has a free port, the second an owned port there, free or not: the place. The port is
-    the first free one of the block from the place on, else from the block's beginning."""
+    """The first number draws a block that has a free port, the second an owned port there, free or not: the place. The
+    port is the first free one of the block from the place on, else from the block's beginning."""
     blocks = sorted({port // BLOCK for port in free})
     block = blocks[first % len(blocks)]
     places = [port for port in owned if port // BLOCK == block]
@@ -54,6 +54,6 @@ def self_test():
     assert drawn(parities, lambda port: port % 2 == 1, endpoint) == 20001
     assert drawn(parities, lambda _port: False, endpoint) is None
     ports = [130, 132, 190, 192]
-    assert [drawn_of(ports, ports, first, second) for first, second in ((0, 1), (0, 2), (1, 2), (2, 3))] == [132, 190, 192, 130]
+    assert [drawn_of(ports, ports, *pair) for pair in ((0, 1), (0, 2), (1, 2), (2, 3))] == [132, 190, 192, 130]
     assert [drawn_of(ports, [132, 192], 0, second) for second in range(3)] == [132, 132, 132]
     assert [drawn_of(ports, [130, 190], 4, second) for second in range(3)] == [130, 190, 190]

@@ -138,7 +138,7 @@ class Core:
         return []
 
     def grant(self):
-        """The greatest of the ports that are free in each protocol, half of those that it has beyond `ahead`."""
+        """Gives the greatest ports that are free in each protocol: half of those beyond `ahead`, and at most 16."""
         bare = self.table.bare_ports()
         given = bare[::-1][: min(16, max(len(bare) - self.ahead, 0) // 2)]
         self.link.push((GRANT, given))

@@ -369,7 +369,7 @@ class Gateway:
         return [kept for kept in self.waiting if kept.hop == (out.name, hop)]
 
     def held_up(self, side, frame, packet, out, hop):
-        """The verdict of a packet that isn't sent: its next hop isn't known, or it is too long. None where it is sent."""
+        """The verdict of a packet whose next hop isn't known, or that is too long. None where it is sent."""
         if out.neighbours.mac_of(hop, self.now) is None:
             return self.wait_for_hop(side, frame, packet, out, hop)
         return 19 if self.is_too_long(packet, out) else None

@@ -137,7 +137,7 @@ class Table:
         del self.entries[entry.key]
 
     def free_port(self, way, endpoint):
-        """The port that a new pair of this endpoint gets, of its inside port's parity where one is free; None where none is."""
+        """The port that a new pair gets, of its inside port's parity where one is free; None where none is."""
         protocol, _inside, like = endpoint
         parities = [self.owned_of(like % 2), self.owned_of(1 - like % 2)]
         return choice.WAYS[way](parities, lambda port: (protocol, port) not in self.entries, endpoint)
