@@ -27,6 +27,7 @@ CRATE = pathlib.Path(__file__).resolve().parent.parent / "crates" / "cases_hosti
 sys.path.insert(0, str(CRATE / "second_reading"))
 
 import audit  # noqa: E402
+import choice  # noqa: E402
 import fragments  # noqa: E402
 import rows  # noqa: E402
 import vectors  # noqa: E402
@@ -39,6 +40,7 @@ ALL, GATE = range(1, 501), range(1, 51)
 def make(seeds):
     """The scripts of these seeds; the second audit finds nothing in them, and each fault that is planted."""
     audit.self_test()
+    choice.self_test()
     fragments.self_test()
     vectors.self_test(DATA)
     scripts = [Script(seed, DATA) for seed in seeds]

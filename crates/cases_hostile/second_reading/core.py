@@ -3,19 +3,22 @@ endpoints whose packets need wait no longer, and notes by `note(name, pair)`."""
 
 from link import ACCEPT, ASK, BEGIN, DONE, GRANT, INSTALL, NO, OWNER, PUT, REFUSE, TELL, WANT, YES
 from table import CLOSING, DOOMED, HELD, LIVE, PENDING, Table
+from wire import ICMP, TCP, UDP
 
 
 class Core:
     """The table, and what is agreed of it over the link."""
 
-    def __init__(self, number, ranges, limit, is_founder, link, note):
-        self.number, self.limit, self.link, self.note = number, limit, link, note
-        self.ranges = set(ranges[0]) | set(ranges[1])
+    def __init__(self, settings, number, is_founder, link, note):
+        self.number, self.link, self.note = number, link, note
+        self.limit, self.choice, self.ahead = (settings[name] for name in ("host_limit", "choice", "ahead"))
+        ranges = [set(range(first, last + 1)) for first, last in settings["ranges"]]
+        self.ranges = ranges[0] | ranges[1]
         self.table = Table()
         self.synced = self.lone = is_founder
         self.wants, self.loading, self.named = False, None, set()
         if is_founder:
-            self.table.owned = set(ranges[0])
+            self.table.owned = ranges[0]
 
     def look(self, endpoint):
         """What a packet from this endpoint meets: an entry that translates, `wait`, `new`, or a reason."""
@@ -24,26 +27,33 @@ class Core:
             return {LIVE: entry, HELD: entry, PENDING: "wait", CLOSING: 15}[entry.state]
         if self.limit is not None and self.table.pairs_of(endpoint[1]) >= self.limit:
             return 18
-        if self.table.free_port(endpoint[0], endpoint[2]) is None:
+        if self.table.free_port(self.choice, endpoint) is None:
             return 14
         return 15 if not self.lone and self.link.is_full() else "new"
 
-    def lacks_port(self):
-        """A packet finds no port: one is asked for."""
+    def want(self):
+        """A packet finds no port, or too few are left: some are asked for."""
         if not self.lone and not self.wants and not self.link.is_full():
             self.wants = True
             self.link.push((WANT,))
 
+    def want_ahead(self, *protocols):
+        """Ports are asked for where fewer than `ahead` are free in one of these protocols."""
+        if any(self.table.free_count(protocol) < self.ahead for protocol in protocols):
+            self.want()
+
     def make(self, endpoint, now):
         """A new pair: one that translates at once where nobody need agree, else one that is proposed."""
-        port = self.table.free_port(endpoint[0], endpoint[2])
+        port = self.table.free_port(self.choice, endpoint)
         pair = (endpoint[0], port, *endpoint[1:])
         if self.lone:
             entry = self.table.add(pair, LIVE, False, now)
             self.note("Retaken", pair)
             return entry
         self.link.push((INSTALL, pair))
-        return self.table.add(pair, PENDING, False, now)
+        entry = self.table.add(pair, PENDING, False, now)
+        self.want_ahead(endpoint[0])
+        return entry
 
     def take(self, record, now):
         """A record of the other gateway; the endpoints whose packets are taken again."""
@@ -61,9 +71,7 @@ class Core:
         if tag == WANT:
             self.grant()
         if tag == GRANT and self.wants:
-            self.wants = False
-            taken = {key[1] for key in self.table.entries}
-            self.table.owned |= {port for port in record[1] if port in self.ranges and port not in taken}
+            self.take_grant(record[1])
         return []
 
     def take_install(self, pair):
@@ -130,10 +138,20 @@ class Core:
         return []
 
     def grant(self):
+        """Gives the greatest ports that are free in each protocol: half of those beyond `ahead`, and at most 16."""
         bare = self.table.bare_ports()
-        given = bare[::-1][: min(16, len(bare) // 2)]
+        given = bare[::-1][: min(16, max(len(bare) - self.ahead, 0) // 2)]
         self.link.push((GRANT, given))
         self.table.owned -= set(given)
+
+    def take_grant(self, ports):
+        """What was asked for. Where it brings a port and is too little, more is asked for."""
+        self.wants = False
+        taken = {key[1] for key in self.table.entries}
+        gained = {port for port in ports if port in self.ranges and port not in taken} - self.table.owned
+        self.table.owned |= gained
+        if gained:
+            self.want_ahead(ICMP, TCP, UDP)
 
     def load(self, record, now):
         """A record at a gateway that isn't synced."""

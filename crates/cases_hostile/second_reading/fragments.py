@@ -6,7 +6,7 @@ import wire
 
 MORE, DONT, PLACE = 0x2000, 0x4000, 0x1FFF
 OF_A_SIDE, OF_A_SOURCE, OF_A_DATAGRAM, LIFE = 64, 16, 64, 300
-LONGEST, MOST = 65535, 1500
+LONGEST = 65535
 KINDS = (wire.ICMP, wire.TCP, wire.UDP)
 REFUSED, HELD = "refused", "held"
 ETHERNET = 14
@@ -132,7 +132,7 @@ def later_options(options):
     return bytes(kept)
 
 
-def is_too_long(frame, most=MOST):
+def is_too_long(frame, most):
     """Whether a frame's packet has more bytes than a network takes."""
     return frame[12:14] == wire.IPV4 and wire.number(frame[16:18]) > most
 

@@ -21,7 +21,7 @@ class Side:
         self.name = name
         self.ip, self.mac = own[name + "_ip"], own[name + "_mac"]
         self.virtual, self.prefix = settings[name]["virtual"], settings[name]["prefix"]
-        self.vrid = settings[name]["vrid"]
+        self.vrid, self.most = settings[name]["vrid"], settings[name].get("mtu", 1500)
         self.virtual_mac = bytes.fromhex("00005e0001") + bytes([self.vrid])
         self.router = router.Router(own["priority"], own["interval"], own["preempt"], self.ip)
         self.neighbours = router.Neighbours(settings[name]["neighbours"])
@@ -58,9 +58,8 @@ class Gateway:
         self.settings = settings
         self.sides = {name: Side(settings, number, name) for name in SIDES}
         ports = sum(last - first + 1 for first, last in settings["ranges"])
-        ranges = [range(first, last + 1) for first, last in settings["ranges"]]
         self.link = Link(number, boot, 6 * ports + 66)
-        self.core = Core(number, ranges, settings["host_limit"], is_founder, self.link, self.note)
+        self.core = Core(settings, number, is_founder, self.link, self.note)
         self.waiting, self.cuts = [], 0
         self.clear()
         if is_founder:
@@ -163,14 +162,14 @@ class Gateway:
 
     def send(self, side, octets):
         """A frame, in fragments where the side doesn't take it whole."""
-        if not fragments.is_too_long(octets):
+        if not fragments.is_too_long(octets, side.most):
             self.frames.append((side.name, octets))
             return
         identification = None
         if octets[26:30] == self.sides["outside"].virtual:
             identification = 2 * self.cuts + self.number
             self.cuts += 1
-        self.frames += [(side.name, piece) for piece in fragments.cut(octets, fragments.MOST, identification)]
+        self.frames += [(side.name, piece) for piece in fragments.cut(octets, side.most, identification)]
 
     def advertise(self, side, priority):
         message = bytes([0x31, side.vrid, priority, 1]) + wire.two(side.router.interval) + b"\0\0" + side.virtual
@@ -296,8 +295,9 @@ class Gateway:
         entry = self.pair_for(side, frame, packet, outside, hop)
         if not hasattr(entry, "pair"):
             return entry
-        if outside.neighbours.mac_of(hop, self.now) is None:
-            return self.wait_for_hop(side, frame, outside, hop)
+        verdict = self.held_up(side, frame, packet, outside, hop)
+        if verdict:
+            return verdict
         source, target = packet.ports()
         octets = wire.translated(packet, outside.virtual, entry.key[1], packet.target, target)
         self.use(entry, (packet.target, target), "outward", packet)
@@ -308,8 +308,9 @@ class Gateway:
         if entry is None or not entry.translates():
             return 13 if entry is None or entry.state == DOOMED else 15
         inside, hop = self.sides["inside"], entry.endpoint[1]
-        if inside.neighbours.mac_of(hop, self.now) is None:
-            return self.wait_for_hop(side, frame, inside, hop)
+        verdict = self.held_up(side, frame, packet, inside, hop)
+        if verdict:
+            return verdict
         source = packet.ports()[0]
         octets = wire.translated(packet, packet.source, source, hop, entry.endpoint[2])
         self.use(entry, (packet.source, source), "inward", packet)
@@ -324,8 +325,9 @@ class Gateway:
         entry = self.pair_for(side, frame, packet, side, hop)
         if not hasattr(entry, "pair"):
             return entry
-        if side.neighbours.mac_of(hop, self.now) is None:
-            return self.wait_for_hop(side, frame, side, hop)
+        verdict = self.held_up(side, frame, packet, side, hop)
+        if verdict:
+            return verdict
         virtual = self.sides["outside"].virtual
         octets = wire.translated(packet, virtual, entry.key[1], hop, other.endpoint[2])
         self.use(entry, (virtual, target), "outward", packet)
@@ -334,24 +336,30 @@ class Gateway:
 
     def pair_for(self, side, frame, packet, out, hop):
         """The entry of a packet's source; else its verdict. A pair is made only where the packet isn't dropped."""
-        endpoint = (packet.protocol, packet.source, packet.ports()[0])
-        found = self.core.look(endpoint)
+        found = self.core.look(packet.endpoint())
         if found == 14:
-            self.core.lacks_port()
+            self.core.want()
         if found == "wait" or (found == "new" and not self.core.lone):
-            return self.wait_for_pair(side, frame, endpoint, found == "new")
+            return self.wait_for_pair(side, frame, packet, out, found == "new")
         if found != "new":
             return found
         if out.neighbours.mac_of(hop, self.now) is None and self.waiting_for(out, hop):
             return self.ask_again(out, hop)
-        return self.core.make(endpoint, self.now)
+        return 19 if self.is_too_long(packet, out) else self.core.make(packet.endpoint(), self.now)
 
-    def wait_for_pair(self, side, frame, endpoint, is_new):
+    def is_too_long(self, packet, out):
+        """Whether a packet is longer than a side takes, and isn't cut."""
+        return packet.length > out.most and not (packet.may_be_cut and self.settings["pass"])
+
+    def wait_for_pair(self, side, frame, packet, out, is_new):
+        endpoint = packet.endpoint()
         kept = [kept for kept in self.waiting if kept.pair]
         if len(kept) >= 64 or any(one.pair == endpoint for one in kept):
             return 15
         if sum(one.pair[1] == endpoint[1] for one in kept) >= 16:
             return 15
+        if self.is_too_long(packet, out):
+            return 19
         if is_new:
             self.core.make(endpoint, self.now)
         self.waiting.append(Waiting(frame, side, self.now, pair=endpoint))
@@ -360,9 +368,17 @@ class Gateway:
     def waiting_for(self, out, hop):
         return [kept for kept in self.waiting if kept.hop == (out.name, hop)]
 
-    def wait_for_hop(self, side, frame, out, hop):
+    def held_up(self, side, frame, packet, out, hop):
+        """The verdict of a packet whose next hop isn't known, or that is too long. None where it is sent."""
+        if out.neighbours.mac_of(hop, self.now) is None:
+            return self.wait_for_hop(side, frame, packet, out, hop)
+        return 19 if self.is_too_long(packet, out) else None
+
+    def wait_for_hop(self, side, frame, packet, out, hop):
         if self.waiting_for(out, hop):
             return self.ask_again(out, hop)
+        if self.is_too_long(packet, out):
+            return 19
         kept = [kept for kept in self.waiting if kept.hop]
         if len(kept) >= 64:
             self.waiting.remove(kept[0])
@@ -416,9 +432,8 @@ class Gateway:
             new[2], new[3], source = outside.virtual, last.key[1], outside.virtual
         out = outside if way == "outward" else inside
         hop = self.hop_out(target) if way == "outward" else target
-        if out.neighbours.mac_of(hop, self.now) is None:
-            return self.wait_for_hop(side, frame, out, hop)
-        return self.pass_to(out, hop, wire.passed_on(packet, inner, source, target, new))
+        verdict = self.held_up(side, frame, packet, out, hop)
+        return verdict or self.pass_to(out, hop, wire.passed_on(packet, inner, source, target, new))
 
     # Packets that wait
 

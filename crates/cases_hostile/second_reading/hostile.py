@@ -8,14 +8,20 @@ from audit import Audit, planted
 from maker import Maker
 from told import digest
 
-SETTINGS = ("few", "many", "limited")
+OF_MOST, OF_A_FIFTH = ("few", "many", "limited"), "drawn-few"
+SETTINGS = (*OF_MOST, OF_A_FIFTH)
+
+
+def settings_of(seed):
+    """The settings of a script's boxes: of each fifth one such as draw their ports and ask for some ahead."""
+    return OF_MOST[seed % 3] if seed % 5 else OF_A_FIFTH
 
 
 class Script:
     """The script of a seed, its world, and what the second audit says behind each event."""
 
     def __init__(self, seed, folder):
-        self.seed, self.settings = seed, SETTINGS[seed % 3]
+        self.seed, self.settings = seed, settings_of(seed)
         self.audit, self.faults = Audit(), []
         self.counts = collections.Counter()
         maker = Maker(seed, settings.read(folder / f"{self.settings}.toml"))

@@ -10,6 +10,8 @@ def read(path):
         text = tomllib.load(file)
     settings = {"ranges": [text["ports"]["zero"], text["ports"]["one"]]}
     settings["host_limit"] = text["ports"].get("host_limit")
+    settings["choice"] = text["ports"].get("choice", "lowest")
+    settings["ahead"] = text["ports"].get("ahead", 0)
     settings["pass"] = text.get("fragments", {}).get("pass", False)
     settings["inward_refresh"] = text["ports"].get("inward_refresh", True)
     settings["peer_only"] = text.get("vrrp", {}).get("peer_only", False)

@@ -1,6 +1,7 @@
 """The pairs that a gateway has, and when they are idle. By docs/PROTOCOL.md ("Owners, slots, notes") and the limits of
 RFC 4787, RFC 5382 and RFC 5508 in centiseconds."""
 
+import choice
 from wire import ACK, FIN, ICMP, RST, SYN, TCP
 
 PENDING, DOOMED, LIVE, CLOSING, HELD = "Pending", "Doomed", "Live", "Closing", "Held"
@@ -135,14 +136,19 @@ class Table:
     def remove(self, entry):
         del self.entries[entry.key]
 
-    def free_port(self, protocol, like):
-        """The lowest free owned port of this parity, else the lowest one."""
-        for parity in (like % 2, 1 - like % 2):
-            for first, last in self.runs():
-                for port in range(first + (first + parity) % 2, last + 1, 2):
-                    if (protocol, port) not in self.entries:
-                        return port
-        return None
+    def free_port(self, way, endpoint):
+        """The port that a new pair gets, of its inside port's parity where one is free; None where none is."""
+        protocol, _inside, like = endpoint
+        parities = [self.owned_of(like % 2), self.owned_of(1 - like % 2)]
+        return choice.WAYS[way](parities, lambda port: (protocol, port) not in self.entries, endpoint)
+
+    def owned_of(self, parity):
+        """The owned ports of a parity, rising, one after the other."""
+        return (port for first, last in self.runs() for port in range(first + (first + parity) % 2, last + 1, 2))
+
+    def free_count(self, protocol):
+        """How many owned ports are free in a protocol."""
+        return sum((protocol, port) not in self.entries for port in self.owned)
 
     def pairs_of(self, inside):
         return sum(entry.endpoint[1] == inside and entry.state != DOOMED for entry in self.entries.values())

@@ -54,12 +54,17 @@ class Packet:
         self.body = octets[len(self.head) : number(octets[2:4])]
         self.ttl, self.protocol = octets[8], octets[9]
         self.source, self.target = octets[12:16], octets[16:20]
+        self.length, self.may_be_cut = number(octets[2:4]), not octets[6] & 0x40
 
     def ports(self):
         """The source and the target port; of a query its identifier, twice."""
         if self.protocol == ICMP:
             return number(self.body[4:6]), number(self.body[4:6])
         return number(self.body[0:2]), number(self.body[2:4])
+
+    def endpoint(self):
+        """The host and port, or identifier, that it comes from."""
+        return self.protocol, self.source, self.ports()[0]
 
     def flags(self):
         return self.body[13] if self.protocol == TCP else 0
