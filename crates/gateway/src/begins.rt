@@ -8,6 +8,7 @@ ghost use Rattle.link.specs.Link.{fresh};
 ghost use Rattle.bind_core.specs.Cores.{ledger_of};
 ghost use Rattle.packet_rules.specs.Networks.{IsPlaced, networks_of};
 ghost use Rattle.interfaces.specs.Stations.{new_station};
+ghost use Rattle.settings.specs.Values.{values_of};
 ghost use Rattle.spec_step.specs.Founding.{HasRanges, begun, bounds_of as bounds_in, founded};
 ghost use Rattle.spec_step.specs.Founding.{choice_of as choice_in, keyed, link_places as places_of};
 ghost use Rattle.spec_step.specs.Founding.{rules_of as rules_in, with_secrets};
@@ -114,13 +115,14 @@ fn ports_in(bounds: PortBounds) -> usize
 fn link_of(alloc: Global, settings: &Settings, id: GatewayId, boot: u64) -> Result<Link, NoMemory>
     requires { 0 < boot }
     ensures fresh { IfOk result (λ l. l ≡ fresh id boot
-        (places_of (bounds_in settings.now.ports.zero) (bounds_in settings.now.ports.one))) }
+        (places_of (bounds_in settings.now.ports.zero) (bounds_in settings.now.ports.one))
+        (values_of settings.now)) }
     ensures refused { OnErr result (LacksLink settings.now) }
 {
     recall_ranges(settings);
     let zero = bounds_of(settings.ports.zero);
     let one = bounds_of(settings.ports.one);
-    let link = Link::new(alloc, id, boot, link_places(zero, one))?;
+    let link = Link::new(alloc, id, boot, link_places(zero, one), settings.values())?;
     Ok(link)
 }
 
@@ -152,7 +154,8 @@ fn stations_of(
 fn parts_of(alloc: Global, settings: &Settings, id: GatewayId, boot: u64) -> Result<Parts, NoMemory>
     requires { 0 < boot }
     ensures link { IfOk result (λ p. p.link ≡ fresh id boot
-        (places_of (bounds_in settings.now.ports.zero) (bounds_in settings.now.ports.one))) }
+        (places_of (bounds_in settings.now.ports.zero) (bounds_in settings.now.ports.one))
+        (values_of settings.now)) }
     ensures inside { IfOk result (λ p. p.inside ≡ new_station settings.now id Inside) }
     ensures outside { IfOk result (λ p. p.outside ≡ new_station settings.now id Outside) }
     ensures kept { IfOk result (λ p. p.kept ≡ []) }
