@@ -64,10 +64,14 @@ impl<G: AnyGateway> TestBox<G> {
         found: bool,
     ) -> Option<TestBox<G>> {
         let gateway = G::begun(alloc, settings, Secrets::fixed(), id, boot, found)?;
-        let digest = DIGEST;
         Some(TestBox {
             gateway,
-            identity: Identity { id, boot, digest },
+            identity: Identity {
+                id,
+                boot,
+                values: settings.values(),
+                digest: DIGEST,
+            },
             wire: MemoryWire::new(alloc),
             clock: StepClock { now: 0, pace: 0 },
             manager: CountingManager::new(),

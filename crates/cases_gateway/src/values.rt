@@ -7,9 +7,22 @@ use cases_words::{Actor, Case};
 use nat_types::{GatewayId, Key, Note, NoteKind, Pair, Side};
 use reports::{
     ApartReport, Counters, FragmentReport, Fragments, GatewayReport, PairCounts, PeerReport,
-    PortCounts, Report, SideReport, Sides, WaitingCounts,
+    PortCounts, Report, SettingsReport, SideReport, Sides, WaitingCounts,
 };
+use settings::Values;
 use vrrp_states::State;
+
+/// The values that a blank report's box runs on.
+const OWN: Values = Values {
+    zero_lowest: Port(20000),
+    zero_highest: Port(39999),
+    one_lowest: Port(40000),
+    one_highest: Port(59999),
+    inside_virtual: Ip(0xC0A8_0101),
+    outside_virtual: Ip(0xC000_0201),
+    inside_prefix: 24,
+    outside_prefix: 24,
+};
 
 /// Returns the report of a box that has just begun, and has counted nothing.
 pub(crate) fn blank() -> Report {
@@ -47,6 +60,7 @@ pub(crate) fn blank() -> Report {
         counters: Counters::new(),
         lines_left_out: 0,
         apart: ApartReport::new(),
+        settings: SettingsReport::new(OWN),
     }
 }
 
@@ -93,6 +107,7 @@ impl Actor for Reports {
 /// - `lines COUNT`: how many lines of the log were left out
 /// - `apart yes|no MOMENT`: whether the gateway is apart at that time
 /// - `made COUNT`: it notes so many pairs that it has made alone
+/// - `values ZERO ONE INSIDE OUTSIDE PREFIX PREFIX`: the other box says these values, each range as two ports
 /// - a line of `set_gateway`
 fn set(report: &mut Report, case: &mut Case) {
     case.back();
@@ -103,6 +118,7 @@ fn set(report: &mut Report, case: &mut Case) {
         "lines" => report.lines_left_out = case.number(),
         "apart" => apart(&mut report.apart, case),
         "made" => make(&mut report.apart, case),
+        "values" => hear(&mut report.settings, case),
         _ => set_gateway(&mut report.gateway, case),
     }
 }
@@ -126,6 +142,22 @@ fn look(sides: &mut Sides, case: &mut Case) {
 fn apart(report: &mut ApartReport, case: &mut Case) {
     let is_apart = case.is_first("yes", "no");
     let changed = report.update(is_apart, case.number());
+    case.say("changed ", changed);
+    case.end();
+}
+
+fn hear(report: &mut SettingsReport, case: &mut Case) {
+    let values = Values {
+        zero_lowest: case.port(),
+        zero_highest: case.port(),
+        one_lowest: case.port(),
+        one_highest: case.port(),
+        inside_virtual: case.ip(),
+        outside_virtual: case.ip(),
+        inside_prefix: case.byte(),
+        outside_prefix: case.byte(),
+    };
+    let changed = report.hear(values);
     case.say("changed ", changed);
     case.end();
 }

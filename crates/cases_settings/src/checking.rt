@@ -89,7 +89,7 @@ fn tell(rt: &HostRuntime, options: &str, case: &mut Case) {
 /// The digest of the edited sample, where it has settings.
 fn tell_digest(text: &str, case: &mut Case) {
     if let Ok(settings) = settings_in(case.alloc, text) {
-        let digest = digest(&settings);
+        let digest = digest(&settings.values());
         drop(settings);
         case.hex("  digest ", &digest.to_be_bytes());
         case.end();

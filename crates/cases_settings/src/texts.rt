@@ -36,7 +36,7 @@ fn say_sample(read: &Settings, case: &mut Case) -> Result<()> {
 }
 
 fn say_digest(read: &Settings, case: &mut Case) {
-    let digest = digest(read);
+    let digest = digest(&read.values());
     case.hex("digest: ", &digest.to_be_bytes());
     case.end();
 }

@@ -20,10 +20,11 @@ const ROLES: [(&str, State); 3] = [
     ("Active", State::Active),
 ];
 
-const PEER_STATES: [(&str, PeerState); 3] = [
+const PEER_STATES: [(&str, PeerState); 4] = [
     ("silent", PeerState::Silent),
     ("not-serving", PeerState::NotServing),
     ("serving", PeerState::Serving),
+    ("other-settings", PeerState::OtherSettings),
 ];
 
 /// Returns the format of records that the next word names.
@@ -68,6 +69,8 @@ pub(crate) fn entry_in(case: &mut Case) -> Entry {
         "peer-boot" => Entry::PeerBoot(case.number()),
         "peer-heard" => Entry::PeerHeard,
         "peer-silent" => Entry::PeerSilent,
+        "other-settings" => Entry::OtherSettings,
+        "same-settings" => Entry::SameSettings,
         "apart" => Entry::Apart,
         "not-apart" => Entry::NotApart(case.number()),
         "fails" => Entry::Fails(origin_in(case)),

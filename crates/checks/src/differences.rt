@@ -143,14 +143,15 @@ pub fn differing_keys(
     Ok(found)
 }
 
-/// Whether the two boxes may have different values at a key for the minutes of a change box by box: each box does as its
-/// own value says, and no pair stands for another flow. The values at all other keys must agree on both boxes; those are
-/// exactly the keys in the digest. Some more must agree where `peer_only` is true ([`must_agree`]).
+/// Whether the two boxes may have different values at a key: each box does as its own value says, and no promise of two
+/// boxes speaks of it. The values at all other keys are those that each datagram of the link says (`Settings::values`):
+/// boxes that differ in one take nothing from each other. Some more must agree where `peer_only` is true ([`must_agree`]).
 pub fn may_differ(key: Key) -> bool {
     match key.name {
-        Some(Name::Zero | Name::One | Name::Virtual | Name::Prefix | Name::Vrid) => false,
+        Some(Name::Zero | Name::One | Name::Virtual | Name::Prefix) => false,
         Some(
-            Name::HostLimit
+            Name::Vrid
+            | Name::HostLimit
             | Name::Alone
             | Name::InwardRefresh
             | Name::Choice

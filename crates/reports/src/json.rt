@@ -1,9 +1,11 @@
 //! A report as JSON. No name and no value has a character that needs escaping.
 
 use crate::names::{PROTOCOLS, dropped, left_out, origin_name};
+use crate::other_settings::rows;
 use crate::units::Seconds;
 use crate::{
-    Counter, Counters, FragmentReport, GatewayReport, PairCounts, PeerReport, Report, SideReport,
+    Counter, Counters, FragmentReport, GatewayReport, PairCounts, PeerReport, Report,
+    SettingsReport, SideReport,
 };
 use addresses::Protocol;
 use journal::{Cause, Origin, reason_name, role_name};
@@ -20,6 +22,7 @@ impl Display for JsonText<'_> {
         let report = self.0;
         let (gateway, sides, counters) = (&report.gateway, &report.sides, &report.counters);
         write_box(f, report)?;
+        write_other_settings(f, &report.settings)?;
         write_side(f, "inside", &sides.inside, gateway.uptime)?;
         write_side(f, "outside", &sides.outside, gateway.uptime)?;
         write_peer(f, &gateway.peer)?;
@@ -60,6 +63,26 @@ fn write_box<W: fmt::Write>(f: &mut Formatter<W>, report: &Report) -> fmt::Resul
         f,
         ",\"synced\":{synced},\"away\":{away},\"digest\":\"{digest:016x}\""
     )
+}
+
+/// Writes whether the other box runs on other settings, how many datagrams had such, and each value that differs.
+fn write_other_settings<W: fmt::Write>(
+    f: &mut Formatter<W>,
+    settings: &SettingsReport,
+) -> fmt::Result {
+    let (now, refused) = (settings.other.is_some(), settings.refused);
+    write!(f, ",\"other_settings\":{{\"now\":{now},\"datagrams\":{refused}")?;
+    let other = settings.other.unwrap_or(settings.own);
+    f.write_str(",\"differing\":[")?;
+    let mut lead = "";
+    for ((key, own), (_, other)) in rows(&settings.own).into_iter().zip(rows(&other)) {
+        if own != other {
+            write!(f, "{lead}{{\"key\":\"{key}\"")?;
+            write!(f, ",\"own\":\"{own}\",\"other\":\"{other}\"}}")?;
+            lead = ",";
+        }
+    }
+    f.write_str("]}")
 }
 
 fn write_side<W: fmt::Write>(

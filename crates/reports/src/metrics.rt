@@ -5,7 +5,7 @@ use crate::names::{PROTOCOLS, STATES, dropped, left_out, origin_name, state_name
 use crate::units::Seconds;
 use crate::{
     Counter, Counters, FragmentReport, Fragments, GatewayReport, PairCounts, PeerReport, Report,
-    Sides,
+    SettingsReport, Sides,
 };
 use addresses::Protocol;
 use journal::{Cause, Origin, reason_name};
@@ -21,6 +21,7 @@ impl Display for MetricsText<'_> {
         let report = self.0;
         let gateway = &report.gateway;
         write_info(f, report)?;
+        write_other_settings(f, &report.settings)?;
         write_box(f, report)?;
         write_sides(f, &report.sides, gateway.uptime)?;
         write_peer(f, &gateway.peer)?;
@@ -83,10 +84,26 @@ fn write_counter<W: fmt::Write, V: Display>(
 
 /// Writes which box it is.
 fn write_info<W: fmt::Write>(f: &mut Formatter<W>, report: &Report) -> fmt::Result {
-    let help = "Which box it is, and a digest of the settings that both boxes must have alike.";
+    let help = "Which box it is, and a digest of the values that both boxes have to run on.";
     write_head(f, "gauge", "natpair_info", help)?;
     let (id, digest) = (report.id, report.digest);
     writeln!(f, "natpair_info{{box=\"{id}\",digest=\"{digest:016x}\"}} 1")
+}
+
+/// Writes whether the other box runs on other settings, and how many datagrams of such a box came.
+fn write_other_settings<W: fmt::Write>(
+    f: &mut Formatter<W>,
+    settings: &SettingsReport,
+) -> fmt::Result {
+    let is_other = u64::from(settings.other.is_some());
+    let help = "Whether the other box runs on other settings, by its last datagram.";
+    write_gauge(f, "natpair_other_settings", help, &[("", is_other)])?;
+    write_counter(
+        f,
+        "natpair_other_settings_datagrams_total",
+        "Datagrams of the other box with other settings. None was taken.",
+        &[("", settings.refused)],
+    )
 }
 
 /// Writes the state of the box.

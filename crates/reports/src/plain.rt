@@ -1,8 +1,12 @@
 //! A report as text for people.
 
 use crate::names::{dropped, left_out, origin_name};
+use crate::other_settings::rows;
 use crate::units::{Grouped, Seconds, Span};
-use crate::{Counter, Counters, FragmentReport, GatewayReport, PeerReport, Report, SideReport};
+use crate::{
+    Counter, Counters, FragmentReport, GatewayReport, PeerReport, Report, SettingsReport,
+    SideReport,
+};
 use addresses::Protocol;
 use journal::{Cause, Origin, reason_name, role_name};
 use nat_types::EntryState;
@@ -17,6 +21,7 @@ impl Display for PlainText<'_> {
         let report = self.0;
         let (gateway, sides) = (&report.gateway, &report.sides);
         write_box(f, report)?;
+        write_other_settings(f, &report.settings)?;
         write_side(f, "inside   ", &sides.inside, gateway.uptime)?;
         write_side(f, "outside  ", &sides.outside, gateway.uptime)?;
         write_peer(f, &gateway.peer)?;
@@ -45,6 +50,23 @@ fn write_box<W: fmt::Write>(f: &mut Formatter<W>, report: &Report) -> fmt::Resul
     f.write_str(if report.gateway.away { ", away" } else { "" })?;
     let digest = report.digest;
     write!(f, "\nsettings {digest:016x}\n")
+}
+
+/// Writes that the other box runs on other settings, where it does, and each value that differs.
+fn write_other_settings<W: fmt::Write>(
+    f: &mut Formatter<W>,
+    settings: &SettingsReport,
+) -> fmt::Result {
+    let Some(other) = settings.other else {
+        return Ok(());
+    };
+    f.write_str("settings the other box runs on other settings\n")?;
+    for ((key, own), (_, other)) in rows(&settings.own).into_iter().zip(rows(&other)) {
+        if own != other {
+            writeln!(f, "differs  {key}: own {own}, the other's {other}")?;
+        }
+    }
+    Ok(())
 }
 
 fn write_side<W: fmt::Write>(

@@ -5,6 +5,7 @@ mod changes;
 mod gateway_reports;
 mod messages;
 mod missing_tables;
+mod other_settings;
 mod outages;
 mod replies;
 mod rounds;

@@ -22,19 +22,27 @@ impl MissingTable {
     }
 
     /// Logs how the other box stands, if the table isn't loaded and a record is due.
-    pub(crate) fn log<L: Journal>(&mut self, gateway: &Gateway, log: &EventLog<L>) {
+    /// `is_other`: the other box runs on other settings.
+    pub(crate) fn log<L: Journal>(
+        &mut self,
+        gateway: &Gateway,
+        is_other: bool,
+        log: &EventLog<L>,
+    ) {
         let now = gateway.moment();
         if gateway.synced() || now < self.due {
             return;
         }
         self.due = now.saturating_add(WARNING_INTERVAL);
-        log.write(now, Entry::NoTable(peer_state(gateway)));
+        log.write(now, Entry::NoTable(peer_state(gateway, is_other)));
     }
 }
 
 /// Returns how the other gateway stands.
-fn peer_state(gateway: &Gateway) -> PeerState {
-    if gateway.peer_serves() {
+fn peer_state(gateway: &Gateway, is_other: bool) -> PeerState {
+    if is_other {
+        PeerState::OtherSettings
+    } else if gateway.peer_serves() {
         PeerState::Serving
     } else if gateway.hears_peer() {
         PeerState::NotServing

@@ -96,6 +96,7 @@ fn report_of<W: Wire, L: Journal>(
         counters: with_losses(state.counters, wire),
         lines_left_out: log.lines_left_out(),
         apart: state.apart,
+        settings: state.settings.report,
     })
 }
 

@@ -6,6 +6,7 @@ ghost use Rattle.rounds.specs.Runs.{HasTurned, IsTurn, RunsTo};
 use crate::gateway_reports::{sides_of, update_sides};
 use crate::messages::Request;
 use crate::missing_tables::MissingTable;
+use crate::other_settings::OtherSettings;
 use crate::outages::Outages;
 use crate::replies::answer_request;
 use crate::steps::{take_event, take_message};
@@ -15,6 +16,7 @@ use journal::{EventLog, Journal};
 use nat_types::GatewayId;
 use platform::CentisecondClock;
 use reports::{ApartReport, Counters, Sides};
+use settings::Values;
 use sockets::{MAX_DATAGRAM, Wire, WireFault};
 use std::alloc::Global;
 use std::time::Duration;
@@ -31,7 +33,8 @@ pub struct Identity {
     pub id: GatewayId,
     /// The number of the box's start.
     pub boot: u64,
-    /// A digest of the settings that both boxes must have alike.
+    /// The values of the settings that both boxes have to run on, and a digest of them.
+    pub values: Values,
     pub digest: u64,
 }
 
@@ -94,6 +97,7 @@ pub(crate) struct RoundState {
     pub(crate) counters: Counters,
     pub(crate) sides: Sides,
     pub(crate) apart: ApartReport,
+    pub(crate) settings: OtherSettings,
     outages: Outages,
     missing_table: MissingTable,
     /// The request that is answered at the round's end.
@@ -103,7 +107,7 @@ pub(crate) struct RoundState {
 }
 
 impl RoundState {
-    fn new(alloc: Global, gateway: &Gateway) -> Result<RoundState, NoMemory>
+    fn new(alloc: Global, gateway: &Gateway, identity: Identity) -> Result<RoundState, NoMemory>
         ensures refused { OnErr result (WasRefused 1514) }
     {
         let cutter = Cutter::new(alloc)?;
@@ -113,6 +117,7 @@ impl RoundState {
             counters: Counters::new(),
             sides: sides_of(gateway),
             apart: ApartReport::new(),
+            settings: OtherSettings::new(identity),
             outages: Outages::none(),
             missing_table: MissingTable::new(),
             request: None,
@@ -146,7 +151,7 @@ pub fn serve<W: Wire, C: CentisecondClock, U: EndSignal, M: Manager, L: Journal>
     ensures unsent { OnErr result (wire.new ≡ wire.old) }
     ensures refused { OnErr result (WasRefused 1514) }
 {
-    let mut state = RoundState::new(alloc, gateway)?;
+    let mut state = RoundState::new(alloc, gateway, options.identity)?;
     all_rounds(
         gateway, wire, clock, until, manager, &mut state, log, options,
     );
@@ -176,7 +181,7 @@ pub fn run_rounds<W: Wire, C: CentisecondClock, U: EndSignal, M: Manager, L: Jou
     ensures unsent { OnErr result (wire.new ≡ wire.old) }
     ensures refused { OnErr result (WasRefused 1514) }
 {
-    let mut state = RoundState::new(alloc, gateway)?;
+    let mut state = RoundState::new(alloc, gateway, options.identity)?;
     all_rounds(
         gateway, wire, clock, until, manager, &mut state, log, options,
     );
@@ -229,7 +234,8 @@ fn round<W: Wire, C: CentisecondClock, L: Journal>(
     answer_request(gateway, wire, options.identity, buffer, state, log);
     let now = gateway.moment();
     state.outages.log(wire, now, log);
-    state.missing_table.log(gateway, log);
+    let is_other = state.settings.report.other.is_some();
+    state.missing_table.log(gateway, is_other, log);
     log.advance_to(now);
 }
 

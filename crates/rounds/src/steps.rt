@@ -81,6 +81,7 @@ pub(crate) fn take_event<W: Wire, L: Journal>(
             .count(origin_of(&event), Counter::Lost(cause));
     }
     log_step(log, &event, cause, &before, &View::of(gateway));
+    state.settings.hear(&event, cause, gateway.moment(), log);
     log.write_mappings(state.out.notes());
     state.apart.count(state.out.notes());
     outcome.is_ok()
