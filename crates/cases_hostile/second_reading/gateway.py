@@ -58,7 +58,7 @@ class Gateway:
         self.settings = settings
         self.sides = {name: Side(settings, number, name) for name in SIDES}
         ports = sum(last - first + 1 for first, last in settings["ranges"])
-        self.link = Link(number, boot, 6 * ports + 66)
+        self.link = Link(number, boot, 6 * ports + 66, settings["values"])
         self.core = Core(settings, number, is_founder, self.link, self.note)
         self.waiting, self.cuts = [], 0
         self.clear()

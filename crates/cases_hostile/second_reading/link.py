@@ -1,6 +1,6 @@
 """The link between the two gateways: its datagrams, and a session of numbered records. By docs/PROTOCOL.md and the
-format of a datagram: 4e50, version 3, sender, boot, receiver's boot, status, count delivered, first number, count,
-records."""
+format of a datagram: 4e50, version 4, sender, boot, receiver's boot, the values that its sender runs on, status, count
+delivered, first number, count, records."""
 
 from wire import number, two
 
@@ -8,7 +8,7 @@ INSTALL, ACCEPT, REFUSE, ASK, YES, NO, BEGIN, PUT, DONE, WANT, GRANT, OWNER, TEL
 WITH_PAIR, WITH_KEY, BARE = (INSTALL, PUT, TELL), (ACCEPT, REFUSE, ASK, YES, NO), (BEGIN, DONE, WANT)
 ANSWERED = (INSTALL, ASK, WANT, TELL)
 LAST_NUMBER = 2**63 - 1
-VERSION = 3
+VERSION = 4
 
 
 def eight(value):
@@ -83,14 +83,14 @@ class Datagram:
     """What a datagram says; Bad where it isn't one. All refusals are one reason, so their order shows nowhere."""
 
     def __init__(self, octets):
-        if len(octets) < 38 or octets[:3] != b"NP" + bytes([VERSION]) or octets[3] > 1:
+        if len(octets) < 56 or octets[:3] != b"NP" + bytes([VERSION]) or octets[3] > 1:
             raise Bad
         self.sender, self.boot, self.receiver = octets[3], number(octets[4:12]), number(octets[12:20])
-        self.status, self.delivered, self.first = octets[20], number(octets[21:29]), number(octets[29:37])
-        count = octets[37]
+        self.values, self.status = octets[20:38], octets[38]
+        self.delivered, self.first, count = number(octets[39:47]), number(octets[47:55]), octets[55]
         if self.boot == 0 or self.status > 1 or count > 64 or self.first == 0 or self.first + count > LAST_NUMBER + 1:
             raise Bad
-        reader = Reader(octets[38:])
+        reader = Reader(octets[56:])
         self.records = [reader.record() for _ in range(count)]
         if reader.octets:
             raise Bad
@@ -99,8 +99,8 @@ class Datagram:
 class Link:
     """One end of the link."""
 
-    def __init__(self, number_of, boot, capacity):
-        self.number, self.boot, self.capacity = number_of, boot, capacity
+    def __init__(self, number_of, boot, capacity, values):
+        self.number, self.boot, self.capacity, self.values = number_of, boot, capacity, values
         self.known = self.closed = 0
         self.sent_on_tick = None
         self.is_due = False
@@ -135,7 +135,9 @@ class Link:
     def take(self, octets, now):
         """Whether the peer has begun anew, and the records that are new. Bad where the datagram isn't taken."""
         said = Datagram(octets)
-        if said.sender == self.number or said.boot < self.known or said.boot <= self.closed:
+        if said.sender == self.number or said.values != self.values:
+            raise Bad
+        if said.boot < self.known or said.boot <= self.closed:
             raise Bad
         if said.boot > self.known:
             return self.begin_anew(said, now)
@@ -170,8 +172,8 @@ class Link:
 
     def datagram(self, status):
         records = self.pushed[self.acknowledged :][:64]
-        head = b"NP" + bytes([VERSION, self.number]) + eight(self.boot) + eight(self.known) + bytes([status])
-        head += eight(self.taken) + eight(self.acknowledged + 1) + bytes([len(records)])
+        head = b"NP" + bytes([VERSION, self.number]) + eight(self.boot) + eight(self.known) + self.values
+        head += bytes([status]) + eight(self.taken) + eight(self.acknowledged + 1) + bytes([len(records)])
         return head + b"".join(written(record) for record in records)
 
     def due(self, now, is_tick):

@@ -2,7 +2,7 @@
 
 import tomllib
 
-from wire import address, mac
+from wire import address, mac, two
 
 
 def read(path):
@@ -20,8 +20,16 @@ def read(path):
     settings["outside"]["router"] = address(text["outside"]["router"])
     for row in text.get("neighbour", []):
         settings[row["side"]]["neighbours"].setdefault(address(row["ip"]), mac(row["mac"]))
+    settings["values"] = values_of(settings)
     settings["gateways"] = [box_of(text["gateway_0"]), box_of(text["gateway_1"])]
     return settings
+
+
+def values_of(settings):
+    """The 18 bytes of a datagram that say on which values its sender runs."""
+    ports = b"".join(two(first) + two(last) for first, last in settings["ranges"])
+    sides = settings["inside"], settings["outside"]
+    return ports + b"".join(side["virtual"] for side in sides) + bytes(side["prefix"] for side in sides)
 
 
 def box_of(rows):
