@@ -42,6 +42,7 @@ pub record Steps (h : Half) (g : GatewayState) (trace : List Note) (event : Even
   pub was : IsGateway g
   pub set_up : IsSetUp g.shown
   pub link : IsLink new.shown.link
+  pub values : new.shown.link.values ≡ g.shown.link.values
   pub answer : outcome ≡ outcome_of g event
   pub half_is : h2 ≡ record h {
     gateway = Some new;

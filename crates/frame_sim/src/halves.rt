@@ -129,6 +129,8 @@ fn step_gateway(gateway: &mut Gateway, event: Event<'_>, out: &mut Out) -> Resul
     ensures step { OnOk result (IsGatewayStep gateway.old out.old event.entry
         gateway.new out.new) }
     ensures bytes { HasBytes event.entry }
+    ensures values { OnOk result
+        (gateway.new.shown.link.values ≡ gateway.old.shown.link.values) }
     ensures err { OnErr result (gateway.new ≡ gateway.old) }
     ensures untold { OnErr result (out.new ≡ out.old) }
     ensures unstepped { OnErr result (WasUnstepped gateway.old event.entry) }
@@ -153,6 +155,8 @@ fn step_up(
     ensures was { IsGateway gateway.old }
     ensures set_up { IsSetUp gateway.old.shown }
     ensures link { OnOk result (IsLink gateway.new.shown.link) }
+    ensures values { OnOk result
+        (gateway.new.shown.link.values ≡ gateway.old.shown.link.values) }
     ensures sent { OnOk result (items_of sent.new.items
         ≡ items_of sent.old.items ++ since out.old.datagrams out.new.datagrams) }
     ensures trace { OnOk result (trace.new.items
