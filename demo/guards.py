@@ -252,19 +252,29 @@ def is_answered(sock):
     return bool(answer_of(sock))
 
 
-def port_seen(current, sock):
-    """From which outside port the server saw a question, as its answer says."""
-    found = []
+class Question:
+    """A host's question by a port of its own, and all that comes to that port."""
 
-    def is_there():
-        found.append(answer_of(sock))
-        return bool(found[-1])
+    def __init__(self, current, host):
+        self.current = current
+        self.sock = ask_from(current, host)
+        self.heard = []
 
-    for _ in range(TRIES):
-        if current.loop.until(is_there, 1.0):
-            return int(found[-1].split()[5])
-        sock.send(QUESTION)
-    raise SystemExit(f"demo: a question isn't answered in {TRIES} s")
+    def hear(self):
+        while text := answer_of(self.sock):
+            self.heard.append(text)
+        return self.heard
+
+    def answer(self):
+        return next((text for text in self.hear() if text != FORGED), None)
+
+    def port(self):
+        """From which outside port the server saw it, as its answer says."""
+        for _ in range(TRIES):
+            if self.current.loop.until(self.answer, 1.0):
+                return int(self.answer().split()[5])
+            self.sock.send(QUESTION)
+        raise SystemExit(f"demo: a question isn't answered in {TRIES} s")
 
 
 def greedy_host(current):
@@ -320,17 +330,17 @@ class Stranger:
 def guessed(current):
     """A resolver asks, each time by a new port; how many of its questions have a port that a stranger has named before, and how
     many of the answers that he forged to those ports the resolver has taken."""
-    stranger, socks, met = Stranger(current), [], 0
+    stranger, questions, met = Stranger(current), [], 0
     for _ in range(QUESTIONS):
         named = stranger.names()
-        socks.append(ask_from(current, HOSTS[0]))
-        port = port_seen(current, socks[-1])
+        questions.append(Question(current, HOSTS[0]))
+        port = questions[-1].port()
         met += port in named
         stranger.seen.add(port)
         for each in named:
             stranger.forge(each)
     current.loop.until(lambda: False, SILENT)
-    return met, sum(answer_of(sock) == FORGED for sock in socks)
+    return met, sum(FORGED in question.hear() for question in questions)
 
 
 def next_port(options):
@@ -346,7 +356,7 @@ def first_packets(current):
     """All ports of box 0 are used up, and then many flows begin, each by one packet: how many have no answer, how many packets
     were dropped for want of a port, and how fast the flows began."""
     for number in range(OWN):
-        port_seen(current, ask_from(current, HOSTS[number % len(HOSTS)]))
+        Question(current, HOSTS[number % len(HOSTS)]).port()
     begun, socks = time.monotonic(), []
     while len(socks) < BEYOND_OWN:
         current.loop.turn(0.001)

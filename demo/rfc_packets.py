@@ -68,16 +68,15 @@ def parity(bench, report):
 
 
 def drawn_ports(bench, report):
-    """With `choice = "drawn"`: whether a stranger who has seen some ports can say the next ones, and whether they are even or odd
-    as the hosts' own."""
+    """With `choice = "drawn"`: whether a stranger who has seen a port knows the next one of its parity, and whether ports are even
+    or odd as the hosts' own."""
     numbers = range(bench.first + 6010, bench.first + 6018)
     seen = [port_of(bench.send(UDP, End(HOSTS[3], number), PLACES[0])) for number in numbers]
-    found = None not in seen
-    steps = [later - port for port, later in zip(seen, seen[1:])] if found else []
-    text = told(seen)
+    found, text = None not in seen, told(seen)
+    steps = [later - port for port, later in zip(seen, seen[2:])] if found else [2]
     for requirement in ("7857 9", "6056 4 a"):
-        report.note(bench, requirement, 'choice = "drawn": ports of eight new pairs neither rise nor lie side by side', text,
-                    found and min(steps) < 0 and not {1, 2} & set(steps))
+        report.note(bench, requirement, 'choice = "drawn": of eight new pairs none has the next port of its parity', text,
+                    2 not in steps)
     alike = found and all(port % 2 == number % 2 for port, number in zip(seen, numbers))
     for requirement in ("4787 REQ-4", "6056 4 b"):
         report.note(bench, requirement, f'choice = "drawn": even or odd as {numbers[0]} to {numbers[-1]}', text, alike)
