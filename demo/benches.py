@@ -40,7 +40,8 @@ class End(NamedTuple):
 
 
 class Bench:
-    """What both kinds have: stations, and packets between their ends. Pairs that have to be new are of ports from `first` on."""
+    """What both kinds have: stations, and packets between their ends. Pairs that have to be new have hosts' ports from `first`
+    on."""
 
     first = 0
 

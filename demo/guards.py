@@ -321,10 +321,11 @@ class Stranger:
         """The lowest port of each parity that it hasn't seen."""
         return [next(port for port in range(first, 65536, 2) if port not in self.seen) for first in (20_000, 20_001)]
 
-    def forge(self, port):
-        """An answer in the server's name."""
-        packet = ipv4(SERVER, self.virtual, UDP, udp((SERVER, PORT), (self.virtual, port), FORGED))
-        self.sock.send(ethernet(self.mac, ATTACKER, IPV4, packet))
+    def forge(self, ports):
+        """An answer in the server's name to each port."""
+        for port in ports:
+            packet = ipv4(SERVER, self.virtual, UDP, udp((SERVER, PORT), (self.virtual, port), FORGED))
+            self.sock.send(ethernet(self.mac, ATTACKER, IPV4, packet))
 
 
 def guessed(current):
@@ -337,8 +338,7 @@ def guessed(current):
         port = questions[-1].port()
         met += port in named
         stranger.seen.add(port)
-        for each in named:
-            stranger.forge(each)
+        stranger.forge(named)
     current.loop.until(lambda: False, SILENT)
     return met, sum(FORGED in question.hear() for question in questions)
 
@@ -352,17 +352,22 @@ def next_port(options):
         yield Line("a stranger names two ports for a resolver's next question", way.name, owed, seen, holds)
 
 
-def first_packets(current):
-    """All ports of box 0 are used up, and then many flows begin, each by one packet: how many have no answer, how many packets
-    were dropped for want of a port, and how fast the flows began."""
-    for number in range(OWN):
-        Question(current, HOSTS[number % len(HOSTS)]).port()
+def begin_flows(current):
+    """Begins many flows, each by one packet: their sockets, and how many a second they were."""
     begun, socks = time.monotonic(), []
     while len(socks) < BEYOND_OWN:
         current.loop.turn(0.001)
         if time.monotonic() >= begun + len(socks) / A_SECOND:
             socks.append(ask_from(current, HOSTS[len(socks) % len(HOSTS)]))
-    rate = len(socks) / (time.monotonic() - begun)
+    return socks, len(socks) / (time.monotonic() - begun)
+
+
+def first_packets(current):
+    """All ports of box 0 are used up, and then many flows begin: how many have no answer to their one packet, how many packets
+    were dropped for want of a port, and how fast the flows began."""
+    for number in range(OWN):
+        Question(current, HOSTS[number % len(HOSTS)]).port()
+    socks, rate = begin_flows(current)
     waiting = set(socks)
 
     def is_over():

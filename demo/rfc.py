@@ -124,8 +124,8 @@ def at_a_narrow_box(current, number, report):
 
 
 def on_a_narrow_pair(options, report):
-    """What the programs of everybody see of boxes whose outside takes 1,400 bytes, and which draw ports: of box 0, and after its
-    kill of box 1, which a signal ends at last."""
+    """What the programs of everybody see of boxes whose outside takes 1,400 bytes, and which draw ports: of box 0, and after
+    its kill of box 1, which a signal ends at last."""
     capture = options.capture and options.capture / "narrow"
     with settings_with(SHORT_OUTSIDE, DRAWN) as file, scene(options, capture, settings=file) as current:
         at_a_narrow_box(current, 0, report)

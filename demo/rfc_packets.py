@@ -68,8 +68,8 @@ def parity(bench, report):
 
 
 def drawn_ports(bench, report):
-    """With `choice = "drawn"`: whether a stranger who has seen a port knows the next one of its parity, and whether ports are even
-    or odd as the hosts' own."""
+    """With `choice = "drawn"`: whether a stranger who has seen a port knows the next one of its parity, and whether ports are
+    even or odd as the hosts' own."""
     numbers = range(bench.first + 6010, bench.first + 6018)
     seen = [port_of(bench.send(UDP, End(HOSTS[3], number), PLACES[0])) for number in numbers]
     found, text = None not in seen, told(seen)
