@@ -315,11 +315,11 @@ class Stranger:
         outside = current.networks.settings["outside"]
         self.virtual, self.mac = outside["virtual"], virtual_mac(outside["vrid"])
         self.sock = card_of(current, current.networks.router)
-        self.seen = set()
+        self.last = {0: 19_998, 1: 19_999}
 
     def names(self):
-        """The lowest port of each parity that it hasn't seen."""
-        return [next(port for port in range(first, 65536, 2) if port not in self.seen) for first in (20_000, 20_001)]
+        """The next port behind the last one that it has seen, of each parity."""
+        return [port + 2 for port in self.last.values()]
 
     def forge(self, ports):
         """An answer in the server's name to each port."""
@@ -337,7 +337,7 @@ def guessed(current):
         questions.append(Question(current, HOSTS[0]))
         port = questions[-1].port()
         met += port in named
-        stranger.seen.add(port)
+        stranger.last[port % 2] = port
         stranger.forge(named)
     current.loop.until(lambda: False, SILENT)
     return met, sum(FORGED in question.hear() for question in questions)
@@ -348,7 +348,7 @@ def next_port(options):
         met, taken = in_scene(options, way, guessed)
         owed = f"at most {BY_CHANCE} of {QUESTIONS} are met" if way.is_guarded else "each is met"
         holds = taken <= met <= BY_CHANCE if way.is_guarded else taken == met == QUESTIONS
-        seen = f"{met} of {QUESTIONS}, {taken} forged answers taken"
+        seen = f"{met} of {QUESTIONS}, {taken} forged answers reach its port"
         yield Line("a stranger names two ports for a resolver's next question", way.name, owed, seen, holds)
 
 
@@ -363,7 +363,7 @@ def begin_flows(current):
 
 
 def first_packets(current):
-    """All ports of box 0 are used up, and then many flows begin: how many have no answer to their one packet, how many packets
+    """So many flows begin as box 0 has ports of its own, and then many more: how many of these have no answer to their one packet, how many packets
     were dropped for want of a port, and how fast the flows began."""
     for number in range(OWN):
         Question(current, HOSTS[number % len(HOSTS)]).port()
@@ -384,7 +384,8 @@ def ahead(options):
     for way in by_setting(options, AHEAD, FEW_OWN):
         lost, dropped, rate = in_scene(options, way, first_packets)
         owed = "none loses its first packet" if way.is_guarded else f"{fewest} and more of {BEYOND_OWN} lose their first packet"
-        holds = lost == dropped == 0 if way.is_guarded else fewest <= lost <= 3 * fewest and lost == dropped
+        fits = lost == dropped == 0 if way.is_guarded else fewest <= lost <= 3 * fewest and lost == dropped
+        holds = fits and rate >= 0.9 * A_SECOND
         seen = f"{lost} of {BEYOND_OWN}, {dropped} for want of a port, at {rate:.0f} a second"
         yield Line("flows begin beyond a box's own ports", way.name, owed, seen, holds)
 
