@@ -40,7 +40,10 @@ class End(NamedTuple):
 
 
 class Bench:
-    """What both kinds have: stations, and packets between their ends."""
+    """What both kinds have: stations, and packets between their ends. Pairs that have to be new have hosts' ports from `first`
+    on."""
+
+    first = 0
 
     def __init__(self, name, settings, box=0):
         self.name = name

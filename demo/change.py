@@ -33,6 +33,8 @@ def rows(networks):
     return {
         "host_limit": {"ports": {"host_limit": 1000}},
         "inward_refresh": {"ports": {"inward_refresh": False}},
+        "choice": {"ports": {"choice": "drawn"}},
+        "ahead": {"ports": {"ahead": 64}},
         "mtu": {"inside": {"mtu": 1400}, "outside": {"mtu": 1300}},
         "router": {"outside": {"router": SECOND_ROUTER}},
         "echo, errors": {"icmp": {"echo": False, "errors": False}},

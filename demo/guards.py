@@ -14,7 +14,7 @@ import guards_sim
 from cards import card
 from download import follow
 from flows import PORT
-from packets import ARP, Advert, Station, arp_reply, arp_request, ip_bytes, is_arp
+from packets import ARP, IPV4, UDP, Advert, Station, arp_reply, arp_request, ethernet, ip_bytes, ipv4, is_arp, udp, virtual_mac
 from pair import FOLDER, HOSTS, PYTHON, ROUTER, SERVER
 from rates import LOAD_PORT, serve_load
 from scene import Probe, scene, settings_with, show
@@ -34,6 +34,21 @@ ASKED = 500
 FIRST, OTHERS, STILL = 100, 6, 1.0
 PEER_ONLY = ("[gateway_0]", "[vrrp]\npeer_only = true\n\n[gateway_0]")
 OUTWARD_ALONE = ("one = [40000, 59999]", "one = [40000, 59999]\ninward_refresh = false")
+# A resolver asks so often, each time by a new port. Of so many questions a stranger who names two ports of 20,000 meets the
+# port of some by chance, and hardly ever more than that.
+QUESTIONS, BY_CHANCE = 400, 3
+DRAWN = ("one = [40000, 59999]", 'one = [40000, 59999]\nchoice = "drawn"')
+QUESTION, FORGED = b"flow 1 1\n", b"forged\n"
+# A question that has no answer is asked again each second, and so often.
+TRIES = 10
+# Box 0 has so many ports; once they are used up, so many flows begin, so many a second. The other box gives 16 ports at a
+# time: where it is asked once none is left, one of each 17 loses its first packet at least.
+OWN, BEYOND_OWN, A_SECOND, EACH = 100, 600, 300, 17
+FEW_OWN = ("zero = [20000, 39999]", f"zero = [20000, {20_000 + OWN - 1}]")
+AHEAD = ("one = [40000, 59999]", "one = [40000, 59999]\nahead = 64")
+NO_PORT = "inside dropped 14 NoPort"
+# A box tells the drops of a second when it has ended.
+TOLD = 1.3
 
 LISTED = ("outside_port = 7022", 'outside_port = 7022\n\n[[neighbour]]\nside = "outside"\nip = "192.0.2.254"\n'
           'mac = "02-00-00-00-00-FE"')
@@ -214,21 +229,52 @@ def flood(options):
 
 
 def ask_from(current, host):
-    """A socket of a host that has asked the server once."""
+    """A socket of a host that has asked the server once, and hears nobody else."""
     with current.networks.host.entered():
         sock = socket.socket(socket.AF_INET, socket.SOCK_DGRAM)
     current.stack.callback(sock.close)
     sock.setblocking(False)
     sock.bind((host, 0))
-    sock.sendto(b"flow 1 1\n", (SERVER, PORT))
+    sock.connect((SERVER, PORT))
+    sock.send(QUESTION)
     return sock
 
 
-def is_answered(sock):
+def answer_of(sock):
+    """What a socket has heard, if anything is there."""
     try:
-        return bool(sock.recv(2048))
+        return sock.recv(2048)
     except OSError:
-        return False
+        return b""
+
+
+def is_answered(sock):
+    return bool(answer_of(sock))
+
+
+class Question:
+    """A host's question by a port of its own, and all that comes to that port."""
+
+    def __init__(self, current, host):
+        self.current = current
+        self.sock = ask_from(current, host)
+        self.heard = []
+
+    def hear(self):
+        while text := answer_of(self.sock):
+            self.heard.append(text)
+        return self.heard
+
+    def answer(self):
+        return next((text for text in self.hear() if text != FORGED), None)
+
+    def port(self):
+        """From which outside port the server saw it, as its answer says."""
+        for _ in range(TRIES):
+            if self.current.loop.until(self.answer, 1.0):
+                return int(self.answer().split()[5])
+            self.sock.send(QUESTION)
+        raise SystemExit(f"demo: a question isn't answered in {TRIES} s")
 
 
 def greedy_host(current):
@@ -260,6 +306,88 @@ def places(options):
         owed = f"the others' {owed_others} flows are answered" if way.is_guarded else "none of the others' is answered"
         holds = others == owed_others if way.is_guarded else others == 0
         yield Line("one host opens 100 flows", way.name, owed, f"{others} of {owed_others}, {own} of its own", holds)
+
+
+class Stranger:
+    """Sees the outside port of each question once it is answered, names two for the next one, and forges answers to them."""
+
+    def __init__(self, current):
+        outside = current.networks.settings["outside"]
+        self.virtual, self.mac = outside["virtual"], virtual_mac(outside["vrid"])
+        self.sock = card_of(current, current.networks.router)
+        self.last = {0: 19_998, 1: 19_999}
+
+    def names(self):
+        """The next port behind the last one that it has seen, of each parity."""
+        return [port + 2 for port in self.last.values()]
+
+    def forge(self, ports):
+        """An answer in the server's name to each port."""
+        for port in ports:
+            packet = ipv4(SERVER, self.virtual, UDP, udp((SERVER, PORT), (self.virtual, port), FORGED))
+            self.sock.send(ethernet(self.mac, ATTACKER, IPV4, packet))
+
+
+def guessed(current):
+    """A resolver asks, each time by a new port; how many of its questions have a port that a stranger has named before, and how
+    many of the answers that he forged to those ports the resolver has taken."""
+    stranger, questions, met = Stranger(current), [], 0
+    for _ in range(QUESTIONS):
+        named = stranger.names()
+        questions.append(Question(current, HOSTS[0]))
+        port = questions[-1].port()
+        met += port in named
+        stranger.last[port % 2] = port
+        stranger.forge(named)
+    current.loop.until(lambda: False, SILENT)
+    return met, sum(FORGED in question.hear() for question in questions)
+
+
+def next_port(options):
+    for way in by_setting(options, DRAWN):
+        met, taken = in_scene(options, way, guessed)
+        owed = f"at most {BY_CHANCE} of {QUESTIONS} are met" if way.is_guarded else "each is met"
+        holds = taken <= met <= BY_CHANCE if way.is_guarded else taken == met == QUESTIONS
+        seen = f"{met} of {QUESTIONS}, {taken} forged answers reach its port"
+        yield Line("a stranger names two ports for a resolver's next question", way.name, owed, seen, holds)
+
+
+def begin_flows(current):
+    """Begins many flows, each by one packet: their sockets, and how many a second they were."""
+    begun, socks = time.monotonic(), []
+    while len(socks) < BEYOND_OWN:
+        current.loop.turn(0.001)
+        if time.monotonic() >= begun + len(socks) / A_SECOND:
+            socks.append(ask_from(current, HOSTS[len(socks) % len(HOSTS)]))
+    return socks, len(socks) / (time.monotonic() - begun)
+
+
+def first_packets(current):
+    """So many flows begin as box 0 has ports of its own, and then many more: how many of these have no answer to their one packet, how many packets
+    were dropped for want of a port, and how fast the flows began."""
+    for number in range(OWN):
+        Question(current, HOSTS[number % len(HOSTS)]).port()
+    socks, rate = begin_flows(current)
+    waiting = set(socks)
+
+    def is_over():
+        waiting.difference_update({sock for sock in waiting if is_answered(sock)})
+        return not waiting
+
+    current.loop.until(is_over, 3)
+    current.loop.until(lambda: False, TOLD)
+    return len(waiting), current.boxes[0].dropped().get(NO_PORT, 0), rate
+
+
+def ahead(options):
+    fewest = -(-BEYOND_OWN // EACH)
+    for way in by_setting(options, AHEAD, FEW_OWN):
+        lost, dropped, rate = in_scene(options, way, first_packets)
+        owed = "none loses its first packet" if way.is_guarded else f"{fewest} and more of {BEYOND_OWN} lose their first packet"
+        fits = lost == dropped == 0 if way.is_guarded else fewest <= lost <= 3 * fewest and lost == dropped
+        holds = fits and rate >= 0.9 * A_SECOND
+        seen = f"{lost} of {BEYOND_OWN}, {dropped} for want of a port, at {rate:.0f} a second"
+        yield Line("flows begin beyond a box's own ports", way.name, owed, seen, holds)
 
 
 def by_sim(options, ways, attack):
@@ -303,7 +431,8 @@ def ports(options):
 
 
 CONDITIONS = {"router": router, "advert": advert, "flood": flood, "places": places, "routes": routes,
-              "neighbours": neighbours, "moved": moved, "host": host, "listed": listed, "pairs": pairs, "ports": ports}
+              "neighbours": neighbours, "moved": moved, "host": host, "listed": listed, "pairs": pairs, "ports": ports,
+              "next": next_port, "ahead": ahead}
 
 
 def guards(options):

@@ -8,16 +8,16 @@ from typing import NamedTuple
 
 import rfc_page
 from benches import Couple, Scripted, Wired
-from guards import OUTWARD_ALONE, PEER_ONLY
+from guards import DRAWN, OUTWARD_ALONE, PEER_ONLY
 from pair import SETTINGS
 from rfc_clock import BY_THE_CLOCK, both_boxes, no_room
 from rfc_errors import OF_ERRORS
 from rfc_fragments import OF_FRAGMENTS, echoes, waiting
-from rfc_guards import WITHOUT_GUARDS, inward_alone, peer_counts
+from rfc_guards import WITHOUT_GUARDS, drawn_by_sim, inward_alone, peer_counts
 from rfc_hosts import by_hosts
 from rfc_linux import at_linux
 from rfc_own import AT_ITSELF, by_default, nobody_there, too_long_in, too_long_out
-from rfc_packets import AT_A_BOX
+from rfc_packets import AT_A_BOX, drawn_ports
 from rfc_pings import OF_PINGS, Pings, through_a_kill
 from rfc_programs import at_a_narrow_side, by_programs
 from rfc_routers import BY_THE_TABLE, ended, on_the_wire, taken_over
@@ -80,7 +80,7 @@ def by_sim(options, report):
         probe(fresh, report)
     both_boxes(functools.partial(Couple, options.program, SETTINGS), report)
     for changes, probes in (((TWO_PORTS,), (no_room,)), ((SILENT,), (by_default,)), ((OUTWARD_ALONE,), (inward_alone,)),
-                            ((PEER_ONLY,), (peer_counts,)),
+                            ((PEER_ONLY,), (peer_counts,)), ((DRAWN,), (drawn_by_sim,)),
                             ((SHORT_INSIDE, SHORT_OUTSIDE), (too_long_out, too_long_in))):
         with settings_with(*changes) as file:
             for probe in probes:
@@ -116,19 +116,25 @@ def on_the_pair(options, report):
         ended(bench, report, "9568 6.4 stop b", "`natpair stop`", current.boxes[1].stop)
 
 
+def at_a_narrow_box(current, number, report):
+    bench = Wired(number, current)
+    at_a_narrow_side(current, bench, report)
+    drawn_ports(bench, report)
+    return bench
+
+
 def on_a_narrow_pair(options, report):
-    """What the programs of everybody see of boxes whose outside takes 1,400 bytes: of box 0, and after its kill of box 1,
-    which a signal ends at last."""
+    """What the programs of everybody see of boxes whose outside takes 1,400 bytes, and which draw ports: of box 0, and after
+    its kill of box 1, which a signal ends at last."""
     capture = options.capture and options.capture / "narrow"
-    with settings_with(SHORT_OUTSIDE) as file, scene(options, capture, settings=file) as current:
-        at_a_narrow_side(current, Wired(0, current), report)
+    with settings_with(SHORT_OUTSIDE, DRAWN) as file, scene(options, capture, settings=file) as current:
+        at_a_narrow_box(current, 0, report)
         killed = current.kill(0)
         current.tell_takeover(1, killed)
         # The word is refused within 3 s of the other's last datagram, and a takeover may take less than that.
         time.sleep(max(0.0, killed + 3.5 - time.monotonic()))
         current.boxes[1].peer_off(current.boxes[0].boot)
-        bench = Wired(1, current)
-        at_a_narrow_side(current, bench, report)
+        bench = at_a_narrow_box(current, 1, report)
         current.tell_drops()
         ended(bench, report, "9568 6.4 stop c", "SIGTERM", lambda: current.kill(1, signal.SIGTERM))
 

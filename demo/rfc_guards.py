@@ -4,6 +4,7 @@ source routes."""
 from guards_sim import LOOSE, STRICT, passes
 from packets import ICMP, UDP, Advert, Station, arp_request
 from rfc_clock import HOST, QUERY_REST, REMOTE, TICK, UDP_REST, there_after, yes_there
+from rfc_packets import drawn_ports
 
 # A station of the outside network that nobody knows yet, and another one that it may ask for.
 NEWCOMER, OTHER = Station("outside", "192.0.2.77", bytes.fromhex("02000000004d")), "192.0.2.78"
@@ -81,6 +82,10 @@ def peer_counts(fresh, report):
     for what, source in (("a stranger's", OTHER), ("one from the other box's address", other["outside_ip"])):
         found = counted(fresh(), source, 255)
         report.note(fresh, "9568 7.1 d", f"peer_only = true: {what} of priority 255 doesn't", role(found), not found)
+
+
+def drawn_by_sim(fresh, report):
+    drawn_ports(fresh(), report)
 
 
 WITHOUT_GUARDS = (source_routes, learns, any_counts)

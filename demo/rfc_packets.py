@@ -67,12 +67,23 @@ def parity(bench, report):
     report.note(bench, "4787 REQ-4", f"even or odd as {told(numbers)}", told(seen), all(even))
 
 
-def order(bench, report):
-    """Whether a stranger who has a port can say which the next ones are."""
-    numbers = range(bench.first + 6010, bench.first + 6018, 2)
+def drawn_ports(bench, report):
+    """With `choice = "drawn"`: whether a stranger who has seen a port knows the next one of its parity, whether ports are even
+    or odd as the hosts' own, and whether they are others than at a bench with another key."""
+    numbers = range(bench.first + 6010, bench.first + 6018)
     seen = [port_of(bench.send(UDP, End(HOSTS[3], number), PLACES[0])) for number in numbers]
-    steps = {later - port for port, later in zip(seen, seen[1:])} if None not in seen else {0}
-    report.note(bench, "7857 9", "four new pairs' ports in no plain order", told(seen), len(steps) > 1)
+    found, text = None not in seen, told(seen)
+    steps = [later - port for port, later in zip(seen, seen[2:])] if found else [2]
+    for requirement in ("7857 9", "6056 4 a"):
+        report.note(bench, requirement, 'choice = "drawn": of eight new pairs none has the next port of its parity', text,
+                    2 not in steps and len(set(steps)) == len(steps))
+    alike = found and all(port % 2 == number % 2 for port, number in zip(seen, numbers))
+    for requirement in ("4787 REQ-4", "6056 4 b"):
+        report.note(bench, requirement, f'choice = "drawn": even or odd as {numbers[0]} to {numbers[-1]}', text, alike)
+    name, first, others = report.kept.setdefault("drawn", (bench.name, bench.first, seen))
+    if name != bench.name and first == bench.first:
+        report.note(bench, "6056 3.4", f'choice = "drawn": others than at {name}, whose key is another', text,
+                    found and seen != others)
 
 
 def protocols(bench, report):
@@ -281,5 +292,5 @@ def identifications(bench):
     return [each and f"{each.identification:04x}" for each in found]
 
 
-AT_A_BOX = (mapping, apart, parity, order, protocols, filtering, hairpin, steady, connections, contents, own_messages,
+AT_A_BOX = (mapping, apart, parity, protocols, filtering, hairpin, steady, connections, contents, own_messages,
             unasked, fragments, large)

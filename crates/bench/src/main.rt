@@ -19,8 +19,8 @@
 //! - `arp COUNT`: a renewal, a stranger and a look-up in a full cache; `link COUNT`: datagrams of the link, a push, and
 //!   draining a whole batch; `wire COUNT`: parsing a packet and sending it on outward
 //!
-//! `alone` before a command has the gateways make pairs alone, `pass` has them take fragments. Without words the program
-//! does nothing.
+//! `alone` before a command has the gateways make pairs alone, `pass` has them take fragments, `drawn` has them draw the
+//! ports and ask for 64 ahead. Without words the program does nothing.
 #![tactic(auto)]
 
 mod boxes;
@@ -48,7 +48,7 @@ use many::report_many;
 use nat_types::GatewayId;
 use pieces::report_fragments;
 use ports::report_ports;
-use settings::Settings;
+use settings::{Choice, Settings};
 use stations::Station;
 use std::env;
 
@@ -95,6 +95,21 @@ fn read_words(rt: &HostRuntime) -> Result<String> {
     Ok(line)
 }
 
+/// Sets what the first word of a line wants of the gateways, and returns whether it wants anything.
+fn set(settings: &mut Settings, line: &str) -> bool {
+    if line.starts_with("alone ") {
+        settings.alone = 100;
+    } else if line.starts_with("pass ") {
+        settings.fragments.pass = true;
+    } else if line.starts_with("drawn ") {
+        settings.choice = Choice::Drawn;
+        settings.ahead = 64;
+    } else {
+        return false;
+    }
+    true
+}
+
 fn main(rt: HostRuntime) -> Result<()> {
     let line = read_words(&rt)?;
     if line.is_empty() {
@@ -103,13 +118,7 @@ fn main(rt: HostRuntime) -> Result<()> {
     let mut settings = Settings::sample(rt.alloc())?;
     let mut case = Case::new(rt.alloc());
     case.begin(line.as_str());
-    if line.starts_with("alone ") {
-        settings.alone = 100;
-        case.word();
-    }
-    let pass = line.starts_with("pass ");
-    settings.fragments.pass = pass;
-    if pass {
+    if set(&mut settings, line.as_str()) {
         case.word();
     }
     report(&rt, &mut settings, &mut case);

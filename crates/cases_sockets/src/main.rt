@@ -12,6 +12,7 @@ mod hearing;
 mod journals;
 mod managers;
 mod network;
+mod starts;
 mod taps;
 mod texts;
 mod transports;
@@ -24,6 +25,7 @@ use cases_words::{Actor, Case, play};
 use hearing::Hearing;
 use journals::Journals;
 use network::Network;
+use starts::compare_starts;
 use std::cell::Cell;
 use taps::{Controls, Taps};
 use texts::Texts;
@@ -55,7 +57,8 @@ fn try_all(rt: &HostRuntime, case: &mut Case) -> Result<()> {
     try_file(rt, "hearing.cases", Hearing::new(rt.alloc()), case)?;
     try_file(rt, "sockets.cases", Network::open(*rt)?, case)?;
     try_taps(rt, case)?;
-    try_records(rt, case)
+    try_records(rt, case)?;
+    compare_starts(rt, case)
 }
 
 fn main(rt: HostRuntime) -> Result<()> {

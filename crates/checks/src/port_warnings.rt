@@ -40,9 +40,9 @@ impl fmt::Display for PortWarning {
             }
             PortWarning::LowestPort => "\"lowest\" or left out: the next port is known to anybody",
             PortWarning::NoneAhead =>
-                "0 or left out: a new connection that finds no free port loses its first packet",
+                "0 or left out: beyond a box's own ports each 17th new connection loses its first packet",
             PortWarning::MuchAhead =>
-                "above a quarter of a range: where few ports are left, so many rest unused",
+                "above a quarter of a range: where few ports are left, so many rest unused at one box",
         };
         f.write_str(text)
     }
