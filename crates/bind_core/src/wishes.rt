@@ -52,8 +52,10 @@ impl Core {
         let parity = endpoint.port.parity();
         match &self.rules.choice {
             Choice::Lowest => self.table.free_like(endpoint.protocol, parity),
-            Choice::Drawn(_) if !self.has_port(endpoint) => None,
             Choice::Drawn(key) => {
+                if !self.has_port(endpoint) {
+                    return None;
+                }
                 let (x, y) = numbers(key, endpoint);
                 self.table.drawn(endpoint.protocol, parity, x, y)
             }
