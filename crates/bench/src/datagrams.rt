@@ -5,6 +5,7 @@ use addresses::{Port, Protocol};
 use cases_words::{Case, beside};
 use link::{Link, parse, write};
 use nat_types::{GatewayId, Key, Record};
+use settings::Settings;
 use std::alloc::{AllocError, Global};
 
 /// The number of places of a gateway's link where both ranges have 20,000 ports.
@@ -135,8 +136,10 @@ fn tell_drained(
 
 /// Makes both ends of a link, as they begin.
 fn ends(alloc: Global) -> Result<(Link, Link), AllocError> {
-    let zero = Link::new(alloc, GatewayId::Zero, 1, CAPACITY)?;
-    beside(zero, Link::new(alloc, GatewayId::One, 1, CAPACITY))
+    let settings = Settings::sample(alloc)?;
+    let values = settings.values();
+    let zero = Link::new(alloc, GatewayId::Zero, 1, CAPACITY, values)?;
+    beside(zero, Link::new(alloc, GatewayId::One, 1, CAPACITY, values))
 }
 
 /// Prints the cost of each of these calls, over as many as the next word says.

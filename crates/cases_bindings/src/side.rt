@@ -12,15 +12,28 @@ use crate::spelled::{is_spelled, is_spelled_endpoint};
 use crate::telling::{
     begin_part, refuse, tell_endpoint, tell_entry, tell_notes, tell_owned, tell_pushed, tell_want,
 };
-use addresses::Port;
+use addresses::{Ip, Port};
 use arrayvec::ArrayVec;
 use bind_core::{Bounds, Core, Hashers, Rules};
 use bindings::Table;
 use cases_words::{Case, beside};
 use link::{Datagram, Link, write};
 use nat_types::{Endpoint, EntryState, GatewayId, Key, Note, Record};
+use settings::Values;
 use spec_binding::{Want, rows_leave};
 use std::alloc::Global;
+
+/// The values on which both ends of the link run: those of the sample settings.
+const VALUES: Values = Values {
+    zero_lowest: Port(20000),
+    zero_highest: Port(39999),
+    one_lowest: Port(40000),
+    one_highest: Port(59999),
+    inside_virtual: Ip(0xc0a8_0101),
+    outside_virtual: Ip(0xc000_0201),
+    inside_prefix: 24,
+    outside_prefix: 24,
+};
 
 /// A core of boot 1, its end of the link, and its clock.
 #[derive(Drop)]
@@ -42,6 +55,7 @@ fn empty_datagram(sender: GatewayId, boot: u64, delivered: usize) -> Datagram {
         sender,
         boot,
         receiver_boot: 1,
+        values: VALUES,
         serves: true,
         delivered: delivered as u64,
         first: 1,
@@ -124,7 +138,7 @@ impl Side {
         requires one { AreBounds bounds.one }
     {
         let core = begin_core(alloc, id, is_founder, bounds, rules)?;
-        let (core, link) = beside(core, Link::new(alloc, id, 1, capacity)).ok()?;
+        let (core, link) = beside(core, Link::new(alloc, id, 1, capacity, VALUES)).ok()?;
         Some(Side {
             alloc,
             id,

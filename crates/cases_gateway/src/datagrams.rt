@@ -6,13 +6,14 @@ use arrayvec::ArrayVec;
 use cases_words::Case;
 use link::{Datagram, write};
 use nat_types::{GatewayId, Key, Pair, Record};
+use settings::Values;
 
 type Records = ArrayVec<Record, 64>;
 
-/// Returns the bytes of a datagram of this sender, from words such as `boot 1 to 1 took 3 first 4: ask udp 20000,
+/// Returns the bytes of a datagram of this sender, which runs on these values, from words such as `boot 1 to 1 took 3 first 4: ask udp 20000,
 /// want`: the sender's boot, the receiver's boot as the sender knows it, how many records it took, the number of its
 /// first record, and, after the colon, its records.
-pub(crate) fn spelled(sender: GatewayId, case: &mut Case) -> Vec<u8> {
+pub(crate) fn spelled(sender: GatewayId, values: Values, case: &mut Case) -> Vec<u8> {
     let text = case.rest();
     let (head, list) = text.split_once(": ").unwrap_or((text.as_str(), ""));
     case.begin(head);
@@ -20,6 +21,7 @@ pub(crate) fn spelled(sender: GatewayId, case: &mut Case) -> Vec<u8> {
         sender,
         boot: after("boot", case),
         receiver_boot: after("to", case),
+        values,
         serves: true,
         delivered: after("took", case),
         first: after("first", case),

@@ -9,11 +9,12 @@ use gateway::{Event, Out, Outcome, Reason, Secrets};
 use nat_types::GatewayId;
 use packet_rules::Networks;
 use sendings::pieces_of;
-use settings::Settings;
+use settings::{Settings, Values};
 
 /// A gateway, and the last datagram that came to it. They are dropped by `end`.
 pub(crate) struct TestGateway<G> {
     id: GatewayId,
+    values: Values,
     networks: Networks,
     gateway: G,
     last: Vec<u8>,
@@ -30,6 +31,7 @@ impl<G: AnyGateway> TestGateway<G> {
         match G::begun(case.alloc, settings, Secrets::fixed(), id, boot, found) {
             Some(gateway) => Some(TestGateway {
                 id,
+                values: settings.values(),
                 networks: Networks::of_gateway(settings, id),
                 gateway,
                 last: Vec::new(case.alloc),
@@ -46,6 +48,7 @@ impl<G: AnyGateway> TestGateway<G> {
     pub(crate) fn end(self) {
         let TestGateway {
             id: _,
+            values: _,
             networks: _,
             gateway,
             last,
@@ -108,7 +111,7 @@ impl<G: AnyGateway> TestGateway<G> {
 
     /// Lets a datagram of the other gateway come, given in words.
     fn datagram(&mut self, case: &mut Case) {
-        self.last = spelled(self.id.other(), case);
+        self.last = spelled(self.id.other(), self.values, case);
         self.again(case);
     }
 

@@ -1,6 +1,10 @@
 //! Cases of one datagram, and of one end that takes datagrams from outside.
+ghost use Rattle.std.specs.Prelude.{◌<◌};
+
 use cases_words::Case;
 use link::{Datagram, Link, Taken, parse, write};
+use nat_types::GatewayId;
+use settings::Settings;
 use std::alloc::{AllocError, Global};
 
 /// Reads `parse HEX`. Prints the fields, how many records there are, and whether it is written as it was read.
@@ -37,17 +41,27 @@ fn tell_counts(case: &mut Case, datagram: &Datagram) {
 }
 
 /// Reads `take ID BOOT CAPACITY HEX..`: an end that has just booted takes datagrams, the first at time 1. Prints of
-/// each how many records were taken and whether the datagram began a session, or why it is refused.
+/// each how many records were taken and whether the datagram began a session, or why it is refused. The end runs on the
+/// values of the sample settings.
 pub(crate) fn taken(case: &mut Case) {
     let id = case.gateway();
     let boot = case.number().max(1);
-    match Link::new(case.alloc, id, boot, case.count()) {
+    let capacity = case.count();
+    match begun(case.alloc, id, boot, capacity) {
         Ok(mut link) => {
             take_all(&mut link, case);
             drop(link);
         }
         Err(fault) => case.refused(fault),
     }
+}
+
+/// Returns an end that has just booted.
+fn begun(alloc: Global, id: GatewayId, boot: u64, capacity: usize) -> Result<Link, AllocError>
+    requires { 0 < boot }
+{
+    let settings = Settings::sample(alloc)?;
+    Link::new(alloc, id, boot, capacity, settings.values())
 }
 
 fn take_all(link: &mut Link, case: &mut Case) {

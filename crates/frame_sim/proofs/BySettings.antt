@@ -15,7 +15,7 @@ use Rattle.spec_step.specs.Shown.{Shown, scene}
 use Rattle.spec_gateway.specs.State.{GatewayState, beginning}
 use Rattle.frame_sim.specs.World.{Half, NeverAlone, World, founding_of, gateway_at, half, settings_of, shown_at, with_half}
 use Rattle.frame_sim.specs.Events.{noting, since, stepped}
-use Rattle.frame_sim.specs.Scene.{AloneAfter, IsBySettings}
+use Rattle.frame_sim.specs.Scene.{GoesBy, IsBySettings}
 use Rattle.frame_sim.proofs.Mails.{since-is}
 
 plain-append : (xs ys : List Note) → IsPlain xs → IsPlain ys → IsPlain (xs ++ ys)
@@ -34,26 +34,27 @@ never-at w Zero never = never.zero
 never-at w One never = never.one
 
 -- both gateways go by their settings, where the one of the event does and the other did
-alone-are : (w : World) (i : GatewayId) (h : Half) (trace : List Note) → AloneAfter (settings_of w i).alone (shown_at h.gateway) → ((j : GatewayId) → AloneAfter (settings_of w j).alone (gateway_at w j))
-    → (j : GatewayId) → AloneAfter (settings_of w j).alone (gateway_at (with_half w i h trace) j)
-alone-are w Zero h trace mine all Zero = mine
-alone-are w Zero h trace mine all One = all One
-alone-are w One h trace mine all Zero = all Zero
-alone-are w One h trace mine all One = mine
+each-goes : (w : World) (i : GatewayId) (h : Half) (trace : List Note) → GoesBy (settings_of w i) (shown_at h.gateway) → ((j : GatewayId) → GoesBy (settings_of w j) (gateway_at w j))
+    → (j : GatewayId) → GoesBy (settings_of w j) (gateway_at (with_half w i h trace) j)
+each-goes w Zero h trace mine all Zero = mine
+each-goes w Zero h trace mine all One = all One
+each-goes w One h trace mine all Zero = all Zero
+each-goes w One h trace mine all One = mine
 
-by-settings-still : (w : World) (i : GatewayId) (h : Half) (trace : List Note) → AloneAfter (settings_of w i).alone (shown_at h.gateway) → (NeverAlone w → IsPlain (reverse trace)) → IsBySettings w → IsBySettings (with_half w i h trace)
+by-settings-still : (w : World) (i : GatewayId) (h : Half) (trace : List Note) → GoesBy (settings_of w i) (shown_at h.gateway) → (NeverAlone w → IsPlain (reverse trace)) → IsBySettings w → IsBySettings (with_half w i h trace)
 by-settings-still w i h trace mine plain was = record {
-  alone = alone-are w i h trace mine was.alone;
+  each = each-goes w i h trace mine was.each;
   plain = λ never. plain (record { zero = never.zero; one = never.one });
 }
 
-pub step-by-settings : (w : World) (i : GatewayId) (g : Shown) (new : GatewayState) (told told2 : Output) → Rests (scene g told) (scene new.shown told2) → gateway_at w i ≡ Some g → IsBySettings w → IsBySettings (stepped w i new told told2)
-step-by-settings w i g new told told2 x up was =
+pub step-by-settings : (w : World) (i : GatewayId) (g : Shown) (new : GatewayState) (told told2 : Output) → Rests (scene g told) (scene new.shown told2) → new.shown.link.values ≡ g.link.values → gateway_at w i ≡ Some g → IsBySettings w
+    → IsBySettings (stepped w i new told told2)
+step-by-settings w i g new told told2 x values up was =
     let trace2 = w.trace ++ since told.notes told2.notes in
     let so : reverse trace2 ≡ reverse x.notes ++ reverse w.trace = ap (λ (xs : List Note). reverse (w.trace ++ xs)) (since-is told.notes x.notes told2.notes x.notes_are) ∙ reverse-append w.trace x.notes in
-    let mine : g.ledger.book.alone ≡ (settings_of w i).alone = subst (λ (o : Option Shown). AloneAfter (settings_of w i).alone o) up (was.alone i) in
-    by-settings-still w i (record (half w i) { gateway = Some new; sent = (half w i).sent ++ since told.datagrams told2.datagrams }) trace2 (x.alone ∙ mine)
-    (λ never. subst IsPlain (sym so) (plain-append (reverse x.notes) (reverse w.trace) (plain-reverse x.notes (x.plain (mine ∙ never-at w i never))) (was.plain never)))
+    let mine : GoesBy (settings_of w i) (Some g) = subst (λ (o : Option Shown). GoesBy (settings_of w i) o) up (was.each i) in
+    by-settings-still w i (record (half w i) { gateway = Some new; sent = (half w i).sent ++ since told.datagrams told2.datagrams }) trace2 (x.alone ∙ mine.0, values ∙ mine.1)
+    (λ never. subst IsPlain (sym so) (plain-append (reverse x.notes) (reverse w.trace) (plain-reverse x.notes (x.plain (mine.0 ∙ never-at w i never))) (was.plain never)))
     was
 
 pub crash-by-settings : (w : World) (i : GatewayId) (moment : ℕ) → IsBySettings w → IsBySettings (with_half w i (record (half w i) { gateway = None }) (w.trace ++ noting i moment Crashed ∷ []))
@@ -61,28 +62,28 @@ crash-by-settings w i moment was =
     let n = noting i moment Crashed in
     by-settings-still w i (record (half w i) { gateway = None }) (w.trace ++ n ∷ []) tt (λ never. subst IsPlain (one-more w.trace n) (tt, was.plain never)) was
 
-begun-alone : (settings : Settings) (i : GatewayId) (n : ℕ) → (begun settings i n).ledger.book.alone ≡ settings.alone
+begun-goes : (settings : Settings) (i : GatewayId) (n : ℕ) → GoesBy settings (Some (begun settings i n))
 unfolding begun
-begun-alone settings i n = refl
+begun-goes settings i n = (refl, refl)
 
-founded-alone : (settings : Settings) → (founded settings 1).ledger.book.alone ≡ settings.alone
+founded-goes : (settings : Settings) → GoesBy settings (Some (founded settings 1))
 unfolding founded begun
-founded-alone settings = refl
+founded-goes settings = (refl, refl)
 
 pub boot-by-settings : (w : World) (i : GatewayId) (number : ℕ) → IsBySettings w → IsBySettings (with_half w i (record (half w i) { gateway = Some (beginning (begun (settings_of w i) i number)); boot = number }) (w.trace ++ noting i 0 (Booted number) ∷ []))
 boot-by-settings w i number was =
     let n = noting i 0 (Booted number) in
-    by-settings-still w i (record (half w i) { gateway = Some (beginning (begun (settings_of w i) i number)); boot = number }) (w.trace ++ n ∷ []) (begun-alone (settings_of w i) i number)
+    by-settings-still w i (record (half w i) { gateway = Some (beginning (begun (settings_of w i) i number)); boot = number }) (w.trace ++ n ∷ []) (begun-goes (settings_of w i) i number)
     (λ never. subst IsPlain (one-more w.trace n) (tt, was.plain never)) was
 
 pub founding-by-settings : (settings settings_one : Settings) → IsBySettings (founding_of settings settings_one)
-founding-by-settings settings settings_one = record { alone = alone; plain = λ never. tt }
+founding-by-settings settings settings_one = record { each = each; plain = λ never. tt }
   where
-    alone : (i : GatewayId) → AloneAfter (settings_of (founding_of settings settings_one) i).alone (gateway_at (founding_of settings settings_one) i)
-    alone Zero = founded-alone settings
-    alone One = tt
+    each : (i : GatewayId) → GoesBy (settings_of (founding_of settings settings_one) i) (gateway_at (founding_of settings settings_one) i)
+    each Zero = founded-goes settings
+    each One = tt
 
 -- where nothing but a gateway's fragments changes
 pub still-by-settings : (w : World) (i : GatewayId) (g : Option GatewayState) → shown_at g ≡ gateway_at w i → IsBySettings w → IsBySettings (with_half w i (record (half w i) { gateway = g }) w.trace)
 still-by-settings w i g same was =
-    by-settings-still w i (record (half w i) { gateway = g }) w.trace (subst (λ (o : Option Shown). AloneAfter (settings_of w i).alone o) (sym same) (was.alone i)) was.plain was
+    by-settings-still w i (record (half w i) { gateway = g }) w.trace (subst (λ (o : Option Shown). GoesBy (settings_of w i) o) (sym same) (was.each i)) was.plain was

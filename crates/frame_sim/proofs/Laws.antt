@@ -8,6 +8,7 @@ use Rattle.nat_types.specs.declared.notes.Note.{Note}
 use Rattle.nat_types.specs.declared.records.Record.{Record}
 use Rattle.bindings.specs.declared.entries.PortBounds.{PortBounds}
 use Rattle.bindings.specs.Ports.{AreBounds}
+use Rattle.settings.specs.declared.values.Values.{Values}
 use Rattle.link.specs.declared.datagrams.Datagram.{Datagram}
 use Rattle.link.specs.Grammar.{IsWellFormed, spelling}
 use Rattle.link.specs.Link.{fresh}
@@ -68,11 +69,11 @@ GoesTo = (r : Ranges) (s : Seen) (e : MachineEvent) → IsWorld r s → Can r e.
 
 -- the boxes with which the machine begins
 abbrev pub BoxBooted : Type 0
-BoxBooted = (id : GatewayId) (zero one : PortBounds) (rules : Rules) (boot capacity : ℕ) → box_at (empty_book id zero one rules) (fresh id boot capacity) [] 0 ≡ booted boot
+BoxBooted = (id : GatewayId) (zero one : PortBounds) (rules : Rules) (boot capacity : ℕ) (values : Values) → box_at (empty_book id zero one rules) (fresh id boot capacity values) [] 0 ≡ booted boot
 
 abbrev pub BoxFounded : Type 0
-BoxFounded = (zero one : PortBounds) (rules : Rules) (capacity : ℕ) → AreBounds zero → let r = ranges_of (founded_book zero one rules) in
-    box_at (founded_book zero one rules) (fresh Zero 1 capacity) [] 0 ≡ founder (λ p. r.in_ranges p && r.at_start p)
+BoxFounded = (zero one : PortBounds) (rules : Rules) (capacity : ℕ) (values : Values) → AreBounds zero → let r = ranges_of (founded_book zero one rules) in
+    box_at (founded_book zero one rules) (fresh Zero 1 capacity values) [] 0 ≡ founder (λ p. r.in_ranges p && r.at_start p)
 
 -- the founding can come about
 abbrev pub Begins : Type 0

@@ -15,3 +15,4 @@ mod Runs
 mod Accounting
 mod BySettings
 mod Owning
+mod Strays

@@ -99,9 +99,9 @@ parts-are w One h trace mine all One = mine
 
 pub step-sound : StepsGo → AreRead → StepsKeep → StepsAnywhere → StepsAccount → OthersStep → (w : World) (i : GatewayId) (g : Shown) (new : GatewayState) (event : Event) (told told2 : Output)
     → IsSound w → gateway_at w i ≡ Some g → IsStepOn (scene g told) event (scene new.shown told2) → HasBytes event
-    → IsBook g.ledger.book → IsLoneRightly g → KeepsBytes g → KeepsParts new → IsLink new.shown.link
+    → IsBook g.ledger.book → IsLoneRightly g → KeepsBytes g → KeepsParts new → IsLink new.shown.link → new.shown.link.values ≡ g.link.values
     → IsHanded w i event → IsSound (stepped w i new told told2)
-step-sound go read keep anywhere account others w i g new event told told2 sound up step bytes book alone kept parts link handed =
+step-sound go read keep anywhere account others w i g new event told told2 sound up step bytes book alone kept parts link values handed =
     let ports = w.settings.ports in
     let r = ranges_of ports in
     let pushed = sound.pushed in
@@ -127,7 +127,7 @@ step-sound go read keep anywhere account others w i g new event told told2 sound
     let rests = account (scene g told) event (scene new.shown told2) step bytes book kept in
     let mail = more-mail read (half w i).sent (since told.datagrams told2.datagrams) goes.sent (since-is told.datagrams _ told2.datagrams goes.datagrams_are) (are-formed new.shown.link (serves new.shown) goes.sent link goes.own) in
     record {
-      ranges = record { zero = sound.ranges.zero; one = sound.ranges.one };
+      values = sound.values;
       pushed = with_pushed pushed i h2;
       halves = halves-are w pushed i (record (half w i) { gateway = Some new; sent = (half w i).sent ++ since told.datagrams told2.datagrams }) h2 (w.trace ++ since told.notes told2.notes) sound.halves (record {
         id = goes.house.id ∙ that.id;
@@ -138,7 +138,7 @@ step-sound go read keep anywhere account others w i g new event told told2 sound
       });
       scene = subst (IsWorld r) (scene-is w pushed i new h2 told told2 ns ms trace mail) there2;
       accounted = step-accounted others w pushed i g new told told2 rests sound.halves that.id up sound.accounted;
-      by_settings = step-by-settings w i g new told told2 rests up sound.by_settings;
+      by_settings = step-by-settings w i g new told told2 rests values up sound.by_settings;
       parts = parts-are w i (record (half w i) { gateway = Some new; sent = (half w i).sent ++ since told.datagrams told2.datagrams }) (w.trace ++ since told.notes told2.notes) parts sound.parts;
     }
 
@@ -156,7 +156,7 @@ still-sound w i g sound same parts =
     let w2 = with_half w i h w.trace in
     let mine : IsHalf ports i h.boot (shown_at g) (sound.pushed i) = subst (λ (o : Option Shown). IsHalf ports i h.boot o (sound.pushed i)) (sym same) (sound.halves i) in
     record {
-      ranges = record { zero = sound.ranges.zero; one = sound.ranges.one };
+      values = sound.values;
       pushed = with_pushed sound.pushed i (sound.pushed i);
       halves = halves-are w sound.pushed i h (sound.pushed i) w.trace sound.halves mine;
       scene = subst (IsWorld (ranges_of ports)) (scene-stays w sound.pushed i g same) sound.scene;

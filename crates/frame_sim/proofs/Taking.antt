@@ -34,7 +34,7 @@ pub sound-so : (w : World) (i : GatewayId) (h h2 : Half) (trace trace2 : List No
 sound-so w i h h2 trace trace2 same noted sound =
     subst (λ (t : List Note). IsSound (with_half w i h2 t)) (sym noted) (subst (λ (x : Half). IsSound (with_half w i x trace)) (sym same) sound)
 
-same-world : (w : World) (i : GatewayId) → IsSound w → IsSound (with_half w i (half w i) w.trace)
+pub same-world : (w : World) (i : GatewayId) → IsSound w → IsSound (with_half w i (half w i) w.trace)
 same-world w Zero sound = sound
 same-world w One sound = sound
 
@@ -56,13 +56,13 @@ so-still w i new told told2 notes datagrams sound =
 
 -- a step of a gateway leads from a sound world to a sound one
 module _ (go : StepsGo) (read : AreRead) (keep : StepsKeep) (anywhere : StepsAnywhere) (account : StepsAccount) (others : OthersStep) (inner : InnerSteps) (stays : PartsStay) where
-  inner-sound : (w : World) (i : GatewayId) (g new : GatewayState) (event : Event) (told told2 : Output) → IsSound w → state_at w i ≡ Some g → IsGateway g → KeepsParts new → IsLink new.shown.link → IsHanded w i event
+  inner-sound : (w : World) (i : GatewayId) (g new : GatewayState) (event : Event) (told told2 : Output) → IsSound w → state_at w i ≡ Some g → IsGateway g → KeepsParts new → IsLink new.shown.link → new.shown.link.values ≡ g.shown.link.values → IsHanded w i event
       → IsInner g told event new told2 → IsSound (stepped w i new told told2)
-  inner-sound w i g new event told told2 sound up was parts link handed (inl x) =
+  inner-sound w i g new event told told2 sound up was parts link values handed (inl x) =
       let up2 : gateway_at w i ≡ Some g.shown = ap shown_at up in
-      let there = step-sound go read keep anywhere account others w i g.shown new x.inner told x.whole sound up2 x.step x.bytes was.shown.book was.shown.lone was.shown.bytes parts link (inner-handed w i event x.inner x.letters x.words handed) in
+      let there = step-sound go read keep anywhere account others w i g.shown new x.inner told x.whole sound up2 x.step x.bytes was.shown.book was.shown.lone was.shown.bytes parts link values (inner-handed w i event x.inner x.letters x.words handed) in
       so-told w i new told x.whole told2 x.notes x.datagrams there
-  inner-sound w i g new event told told2 sound up was parts link handed (inr x) =
+  inner-sound w i g new event told told2 sound up was parts link values handed (inr x) =
       let same : shown_at (Some new) ≡ gateway_at w i = ap (λ (s : Shown). let o : Option Shown = Some s in o) x.shown ∙ sym (ap shown_at up) in
       so-still w i new told told2 x.notes x.datagrams (still-sound w i (Some new) sound same parts)
 
@@ -72,7 +72,7 @@ module _ (go : StepsGo) (read : AreRead) (keep : StepsKeep) (anywhere : StepsAny
   steps-sound w i (Some g) event told o told2 h2 trace2 sound handed up s =
       let parts : KeepsParts g = subst KeepsPartsAt up (sound.parts i) in
       sound-so w i _ h2 (w.trace ++ since told.notes told2.notes) trace2 s.half_is s.trace_is
-      (inner-sound w i g s.new event told told2 sound up s.was (stays g told event s.new told2 s.step s.bytes parts) s.link handed (inner g told event s.new told2 s.step s.bytes parts))
+      (inner-sound w i g s.new event told told2 sound up s.was (stays g told event s.new told2 s.step s.bytes parts) s.link s.values handed (inner g told event s.new told2 s.step s.bytes parts))
 
   pub hand-sound : {E : Type 0} (w : World) (i : GatewayId) (result : Result Outcome E) (event : Event) (told told2 : Output) (h2 : Half) (trace2 : List Note) → IsSound w → IsHanded w i event
       → IfOk result (λ o. StepsAt (half w i) (state_at w i) w.trace event told o told2 h2 trace2) → OnErr result (h2 ≡ half w i) → OnErr result (trace2 ≡ w.trace) → IsSound (with_half w i h2 trace2)
@@ -85,7 +85,7 @@ module _ (go : StepsGo) (read : AreRead) (keep : StepsKeep) (anywhere : StepsAny
       steps-sound w i (state_at w i) (given.Datagram ok.bytes) told o told2 h2 trace2 sound (hands-datagram w i number ok.bytes ok.was_sent) refl ok.steps
   receive-sound w i (Err e) number told told2 h2 trace2 sound ok same noted = sound-so w i (half w i) h2 w.trace trace2 same noted (same-world w i sound)
 
-unmoved : (w : World) (i : GatewayId) (h2 : Half) (trace2 : List Note) → h2 ≡ half w i → trace2 ≡ w.trace → with_half w i h2 trace2 ≡ w
+pub unmoved : (w : World) (i : GatewayId) (h2 : Half) (trace2 : List Note) → h2 ≡ half w i → trace2 ≡ w.trace → with_half w i h2 trace2 ≡ w
 unmoved w i h2 trace2 same noted = ap (λ (h : Half). with_half w i h trace2) same ∙ ap (λ (t : List Note). with_half w i (half w i) t) noted ∙ same-so w i
   where
     same-so : (w : World) (i : GatewayId) → with_half w i (half w i) w.trace ≡ w

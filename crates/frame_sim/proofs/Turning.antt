@@ -8,7 +8,10 @@ use Rattle.nat_types.specs.declared.gateways.GatewayId.TheVariants.{Zero, One}
 use Rattle.nat_types.specs.declared.notes.NoteKind.TheVariants.{Crashed, Booted}
 use Rattle.nat_types.specs.declared.notes.Note.{Note}
 use Rattle.nat_types.specs.declared.records.Record.{Record}
+use Rattle.settings.specs.declared.ranges.PortRange.{PortRange}
 use Rattle.settings.specs.declared.ranges.PortRanges.{PortRanges}
+use Rattle.settings.specs.declared.values.Values.{Values}
+use Rattle.settings.specs.Values.{values_of}
 use Rattle.settings.specs.declared.whole.Settings.{Settings}
 use Rattle.bindings.specs.Ports.{AreBounds}
 use Rattle.spec_pair.specs.Acts as act
@@ -19,7 +22,7 @@ use Rattle.spec_step.specs.Founding.{begun, bounds_of, founded, link_places, rul
 use Rattle.spec_step.specs.Machine.{box_of}
 use Rattle.spec_step.specs.Shown.{Shown}
 use Rattle.spec_gateway.specs.State.{beginning}
-use Rattle.frame_sim.specs.World.{HaveSameRanges, World, founding_of, gateway_at, half, is_up, settings_of, state_at, synced_at, with_half}
+use Rattle.frame_sim.specs.World.{HaveSameValues, World, founding_of, gateway_at, half, is_up, settings_of, state_at, synced_at, with_half}
 use Rattle.frame_sim.specs.Events.{may_boot, may_crash, noting}
 use Rattle.frame_sim.specs.Scene.{IsHalf, IsSound, IsThat, KeepsPartsAt, box_at, ranges_of, scene_of}
 use Rattle.frame_sim.proofs.Laws.{Begins, BegunAccounts, BoxBooted, BoxFounded, FoundedAccounts, GoesTo, OthersBoot, OthersCrash, PartsBegin}
@@ -86,7 +89,7 @@ pub crash-sound : GoesTo → OthersCrash → (w : World) (i : GatewayId) (moment
 crash-sound goes others w i moment sound may =
     let r = ranges_of w.settings.ports in
     record {
-      ranges = record { zero = sound.ranges.zero; one = sound.ranges.one };
+      values = sound.values;
       pushed = with_pushed sound.pushed i [];
       halves = halves-are w sound.pushed i (record (half w i) { gateway = None }) [] (w.trace ++ noting i moment Crashed ∷ []) sound.halves tt;
       scene = subst (IsWorld r) (crashed-is w sound.pushed i moment sound.halves)
@@ -119,16 +122,23 @@ begun-box : BoxBooted → (settings : Settings) (i : GatewayId) (n : ℕ) → bo
 unfolding begun
 begun-box law settings i n =
     let zero = bounds_of settings.ports.zero in let one = bounds_of settings.ports.one in
-    sym (law i zero one (rules_of settings) n (link_places zero one))
+    sym (law i zero one (rules_of settings) n (link_places zero one) (values_of settings))
 
 -- a gateway that begins is that of its number, by the ranges of either settings
 begun-that : (settings own : Settings) (i : GatewayId) (n : ℕ) → own.ports.zero ≡ settings.ports.zero → own.ports.one ≡ settings.ports.one → IsThat settings.ports i n (begun own i n) []
 unfolding begun
 begun-that settings own i n zero one = record { id = refl; zero = ap bounds_of zero; one = ap bounds_of one; boot = refl; pushed = record { counted = omega arith; coming = refl; behind = refl } }
 
-begun-at : (w : World) (i : GatewayId) (n : ℕ) → HaveSameRanges w.settings w.settings_one → IsThat w.settings.ports i n (begun (settings_of w i) i n) []
+-- settings with the same values have the same ranges
+range-zero : (settings settings_one : Settings) → HaveSameValues settings settings_one → settings_one.ports.zero ≡ settings.ports.zero
+range-zero settings settings_one same = ap (λ (v : Values). let r : PortRange = record { lowest = v.zero_lowest; highest = v.zero_highest } in r) same
+
+range-one : (settings settings_one : Settings) → HaveSameValues settings settings_one → settings_one.ports.one ≡ settings.ports.one
+range-one settings settings_one same = ap (λ (v : Values). let r : PortRange = record { lowest = v.one_lowest; highest = v.one_highest } in r) same
+
+begun-at : (w : World) (i : GatewayId) (n : ℕ) → HaveSameValues w.settings w.settings_one → IsThat w.settings.ports i n (begun (settings_of w i) i n) []
 begun-at w Zero n same = begun-that w.settings w.settings Zero n refl refl
-begun-at w One n same = begun-that w.settings w.settings_one One n same.zero same.one
+begun-at w One n same = begun-that w.settings w.settings_one One n (range-zero w.settings w.settings_one same) (range-one w.settings w.settings_one same)
 
 booted-is : BoxBooted → (w : World) (pushed : GatewayId → List Record) (i : GatewayId) (n : ℕ)
     → after_event (ranges_of w.settings.ports) (scene_of w pushed) (boot i n) ≡ scene_of (booted_world w i n) (with_pushed pushed i [])
@@ -145,9 +155,9 @@ pub boot-sound : GoesTo → BoxBooted → OthersBoot → BegunAccounts → Parts
 boot-sound goes law others begins bytes w i n sound may =
     let r = ranges_of w.settings.ports in
     record {
-      ranges = record { zero = sound.ranges.zero; one = sound.ranges.one };
+      values = sound.values;
       pushed = with_pushed sound.pushed i [];
-      halves = halves-are w sound.pushed i (record (half w i) { gateway = Some (beginning (begun (settings_of w i) i n)); boot = n }) [] (w.trace ++ noting i 0 (Booted n) ∷ []) sound.halves (begun-at w i n sound.ranges);
+      halves = halves-are w sound.pushed i (record (half w i) { gateway = Some (beginning (begun (settings_of w i) i n)); boot = n }) [] (w.trace ++ noting i 0 (Booted n) ∷ []) sound.halves (begun-at w i n sound.values);
       scene = subst (IsWorld r) (booted-is law w sound.pushed i n)
           (goes r (scene_of w sound.pushed) (boot i n) sound.scene (can-boot w sound.pushed i n sound.halves may));
       accounted = boot-accounted others begins w sound.pushed i n sound.halves sound.accounted;
@@ -161,15 +171,15 @@ founded-box : BoxFounded → (settings settings_one : Settings) → AreBounds (b
 unfolding founded begun
 founded-box law settings settings_one are =
     let zero = bounds_of settings.ports.zero in let one = bounds_of settings.ports.one in
-    ap (λ (b : Box). let x : Scene = record (machine.founding (ranges_of settings.ports)) { mine = b } in x) (sym (law zero one (rules_of settings) (link_places zero one) are))
+    ap (λ (b : Box). let x : Scene = record (machine.founding (ranges_of settings.ports)) { mine = b } in x) (sym (law zero one (rules_of settings) (link_places zero one) (values_of settings) are))
 
 founded-that : (settings : Settings) → IsThat settings.ports Zero 1 (founded settings 1) []
 unfolding founded begun
 founded-that settings = record { id = refl; zero = refl; one = refl; boot = refl; pushed = record { counted = omega arith; coming = refl; behind = refl } }
 
-pub founding-sound : Begins → BoxFounded → FoundedAccounts → PartsBegin → (settings settings_one : Settings) → AreBounds (bounds_of settings.ports.zero) → HaveSameRanges settings settings_one → IsSound (founding_of settings settings_one)
+pub founding-sound : Begins → BoxFounded → FoundedAccounts → PartsBegin → (settings settings_one : Settings) → AreBounds (bounds_of settings.ports.zero) → HaveSameValues settings settings_one → IsSound (founding_of settings settings_one)
 founding-sound begins law founds bytes settings settings_one are same = record {
-  ranges = same;
+  values = same;
   pushed = λ i. [];
   halves = halves;
   scene = subst (IsWorld (ranges_of settings.ports)) (founded-box law settings settings_one are) (begins (ranges_of settings.ports));

@@ -5,11 +5,14 @@ use Rattle.nat_types.specs.declared.gateways.GatewayId.{GatewayId}
 use Rattle.nat_types.specs.declared.notes.NoteKind.{NoteKind}
 use Rattle.nat_types.specs.declared.notes.NoteKind.TheVariants.{Crashed, Booted}
 use Rattle.nat_types.specs.declared.notes.Note.{Note}
+use Rattle.link.specs.Reading.{reading}
+use Rattle.link.specs.Strays.{is_stray}
 use Rattle.output.specs.Output.{Output, with_note}
+use Rattle.packet_rules.specs.declared.reasons.Reason.TheVariants.{BadDatagram}
 use Rattle.spec_step.specs.declared.events.Event.{Event}
 use Rattle.spec_step.specs.declared.events.Event.TheVariants as given
 use Rattle.spec_step.specs.declared.events.Outcome.{Outcome}
-use Rattle.spec_step.specs.declared.events.Outcome.TheVariants.{Done}
+use Rattle.spec_step.specs.declared.events.Outcome.TheVariants.{Done, Dropped}
 use Rattle.spec_step.specs.Founding.{begun}
 use Rattle.spec_step.specs.Machine.{HasBytes}
 use Rattle.spec_step.specs.Shown.{scene}
@@ -18,10 +21,10 @@ use Rattle.spec_gateway.specs.State.{GatewayState, beginning}
 use Rattle.spec_gateway.specs.Steps.{IsGatewayStep, hand_at, lent, outcome_of}
 use Rattle.gateway.specs.Gateway.{IsGateway}
 use Rattle.nat_types.specs.declared.events.WorldEvent.{WorldEvent}
-use Rattle.nat_types.specs.declared.events.WorldEvent.TheVariants.{Frame, Tick, Stop, Deliver, Crash, Boot, PeerOff, Side as Cable}
+use Rattle.nat_types.specs.declared.events.WorldEvent.TheVariants.{Frame, Tick, Stop, Deliver, Crash, Boot, PeerOff, Side as Cable, Stray}
 use Rattle.frame_sim.specs.declared.events.WorldFault.{WorldFault}
 use Rattle.frame_sim.specs.declared.events.WorldFault.TheVariants.{PremiseBroken, NoSuchDatagram}
-use Rattle.frame_sim.specs.World.{Half, World, gateway_at, half, is_up, moment_of, settings_of, state_at, synced_at, with_half}
+use Rattle.frame_sim.specs.World.{Half, World, gateway_at, half, is_up, moment_of, settings_of, state_at, synced_at, values_in, with_half}
 
 -- ---- which events are refused
 
@@ -41,6 +44,11 @@ abbrev pub may_be_told : World → GatewayId → ℕ → Bool
 may_be_told w i n =
     let h = half w (other i) in
     is_up (gateway_at w i) && (not (is_up (gateway_at w (other i))) && (nat_lt 0 n && (h.boot == n)))
+
+-- whether bytes may come as a stray, a datagram that neither gateway sent: they are no datagram, or one with other values
+-- than those of the world's settings
+abbrev pub may_stray : World → List ℕ → Bool
+may_stray w bytes = is_stray (values_in w) (reading bytes)
 
 -- the value at place `k` of a list, counted from 1
 abbrev pub kth : {A : Type 0} → ℕ → List A → Option A
@@ -64,6 +72,7 @@ refusal w (Crash i) = unless (may_crash w i) PremiseBroken
 refusal w (Boot i n) = unless (may_boot w i n) PremiseBroken
 refusal w (PeerOff i n) = unless (may_be_told w i n) PremiseBroken
 refusal w (Cable i side up) = None
+refusal w (Stray i bytes) = unless (may_stray w bytes.items) PremiseBroken
 
 -- ---- what an event does
 
@@ -102,6 +111,22 @@ Comes w i None told outcome told2 w2 = ⊥
 Comes w i (Some bytes) told outcome told2 w2 =
     TakesAt w i (state_at w i) (given.Datagram (lent bytes)) told outcome told2 w2
 
+-- a stray comes to a gateway
+abbrev pub Strays : World → GatewayId → List ℕ → Output → Outcome → Output → World → Type 0
+Strays w i bytes = TakesAt w i (state_at w i) (given.Datagram (lent bytes))
+
+-- the outcome of a stray: Dropped 16 at a gateway that is up, else Done
+abbrev pub outcome_of_stray : Option GatewayState → Outcome
+outcome_of_stray None = Done
+outcome_of_stray (Some g) = Dropped BadDatagram
+
+-- What a stray does to a world: nothing. No frame and no datagram is sent, nothing is noted, and both gateways are as they
+-- were.
+pub record ChangesNothing (w : World) (i : GatewayId) (told : Output) (outcome : Outcome) (told2 : Output) (w2 : World) : Type 0 where
+  pub answer : outcome ≡ outcome_of_stray (state_at w i)
+  pub silent : told2 ≡ told
+  pub same : w2 ≡ w
+
 -- a crash or a boot: the gateway is down or up afterwards, which is noted
 abbrev pub Turns : World → GatewayId → Half → Note → Output → Outcome → Output → World → Type 0
 Turns w i h note told outcome told2 w2 =
@@ -123,3 +148,4 @@ Does w (Boot i n) = let h = half w i in
     Turns w i (record h { gateway = Some (beginning (begun (settings_of w i) i n)); boot = n }) (noting i 0 (Booted n))
 Does w (PeerOff i n) = TakesAt w i (state_at w i) (given.PeerOff n)
 Does w (Cable i side up) = TakesAt w i (state_at w i) (given.Side side up)
+Does w (Stray i bytes) = Strays w i bytes.items

@@ -9,7 +9,7 @@ use Rattle.nat_types.specs.declared.gateways.GatewayId.TheVariants.{Zero}
 use Rattle.nat_types.specs.declared.notes.Note.{Note}
 use Rattle.nat_types.specs.declared.notes.NoteKind.TheVariants.{Crashed, Booted}
 use Rattle.nat_types.specs.declared.events.WorldEvent.{WorldEvent}
-use Rattle.nat_types.specs.declared.events.WorldEvent.TheVariants.{Frame, Tick, Stop, Deliver, Crash, Boot, PeerOff, Side as Cable}
+use Rattle.nat_types.specs.declared.events.WorldEvent.TheVariants.{Frame, Tick, Stop, Deliver, Crash, Boot, PeerOff, Side as Cable, Stray}
 use Rattle.settings.specs.declared.whole.Settings.{Settings}
 use Rattle.output.specs.Memory.{LacksPage}
 use Rattle.output.specs.Output.{Paged}
@@ -23,10 +23,10 @@ use Rattle.gateway.specs.Lacks.{LacksGateway, LacksMemory}
 use Rattle.frame_sim.specs.World.{Half, World, gateway_at, half, moment_of, settings_of, state_at}
 use Rattle.frame_sim.specs.Events.{kth, noting}
 
--- There was no memory for what a gateway may send and note in a step: for the longest datagram (2,214 bytes), for its
+-- There was no memory for what a gateway may send and note in a step: for the longest datagram (2,232 bytes), for its
 -- place among those sent, or for the notes' places on the trace.
 unfoldable pub WasUnready : Shown → Type 0
-WasUnready g = Unit {0} × (WasRefused 2214 ⊎ (WasRefused 1 ⊎ WasRefused (most_notes g)))
+WasUnready g = Unit {0} × (WasRefused 2232 ⊎ (WasRefused 1 ⊎ WasRefused (most_notes g)))
 
 -- The gateway was to take this event, and an allocation was refused that its step needs, on an output page without the
 -- space for it.
@@ -81,6 +81,10 @@ IsUnstepped (Some g) event = WasUnready g.shown ⊎ WasUnstepped g event
 abbrev pub IsUnreceived : Half → Half → ℕ → Type 0
 IsUnreceived h from number = (bytes : Bor (List ℕ)) × ((kth number from.sent ≡ Some bytes.now) × IsUnstepped h.gateway (given.Datagram bytes))
 
+-- a gateway took no step for these bytes, which came on the link
+abbrev pub IsUnheard : Option GatewayState → List ℕ → Type 0
+IsUnheard g bytes = (lent : Bor (List ℕ)) × ((lent.now ≡ bytes) × IsUnstepped g (given.Datagram lent))
+
 -- The memory that an event lacked, so that it wasn't applied: memory for the step of the gateway to which it happens;
 -- for a crash, a place for its note; for a boot, the gateway or a place for its note.
 abbrev pub Lacks : World → WorldEvent → Type 0
@@ -92,6 +96,7 @@ Lacks w (Crash i) = IsUnnoted (noting i (moment_of (gateway_at w i)) Crashed)
 Lacks w (Boot i n) = WasUnbegun (settings_of w i) i n ⊎ IsUnnoted (noting i 0 (Booted n))
 Lacks w (PeerOff i n) = IsUnstepped (state_at w i) (given.PeerOff n)
 Lacks w (Cable i side up) = IsUnstepped (state_at w i) (given.Side side up)
+Lacks w (Stray i bytes) = IsUnheard (state_at w i) bytes.items
 
 -- ---- of what a gateway holds; of one that is down there is none to list
 

@@ -6,7 +6,9 @@ use Rattle.nat_types.specs.declared.gateways.GatewayId.{GatewayId}
 use Rattle.nat_types.specs.declared.gateways.GatewayId.TheVariants.{Zero, One}
 use Rattle.nat_types.specs.declared.notes.Note.{Note}
 use Rattle.nat_types.specs.declared.records.Record.{Record}
+use Rattle.settings.specs.Values.{values_of}
 use Rattle.settings.specs.declared.ranges.PortRanges.{PortRanges}
+use Rattle.settings.specs.declared.whole.Settings.{Settings}
 use Rattle.bindings.specs.Ports.{in_bounds, in_either}
 use Rattle.link.specs.Reading.{reading}
 use Rattle.spec_trace.specs.Plain.{IsPlain}
@@ -21,7 +23,7 @@ use Rattle.spec_step.specs.Machine.{HasPushed, box_of, letter_in, letters_in, wo
 use Rattle.spec_step.specs.Rests.{AccountsOn}
 use Rattle.spec_step.specs.Shown.{Shown, id_of}
 use Rattle.spec_gateway.specs.State.{GatewayState, KeepsParts}
-use Rattle.frame_sim.specs.World.{HaveSameRanges, NeverAlone, World, gateway_at, half, settings_of, state_at}
+use Rattle.frame_sim.specs.World.{HaveSameValues, NeverAlone, World, gateway_at, half, settings_of, state_at}
 
 -- the two ranges: gateway 0 is founded with range zero, and ports move
 abbrev pub ranges_of : PortRanges → Ranges
@@ -72,10 +74,10 @@ pub record IsAccounted (w : World) : Type 0 where
   pub idle : Idle w.trace
   pub accounts : (i : GatewayId) → AccountsAt (gateway_at w i) w.trace
 
--- a gateway that is up is apart after as many centiseconds as its settings say
-abbrev pub AloneAfter : ℕ → Option Shown → Type 0
-AloneAfter alone None = Unit {0}
-AloneAfter alone (Some g) = g.ledger.book.alone ≡ alone
+-- a gateway that is up is apart after as many centiseconds as its settings say, and its link runs on their values
+abbrev pub GoesBy : Settings → Option Shown → Type 0
+GoesBy settings None = Unit {0}
+GoesBy settings (Some g) = (g.ledger.book.alone ≡ settings.alone) × (g.link.values ≡ values_of settings)
 
 -- the fragments of a gateway that is up are bytes
 abbrev pub KeepsPartsAt : Option GatewayState → Type 0
@@ -84,13 +86,13 @@ KeepsPartsAt (Some s) = KeepsParts s
 
 -- each gateway goes by its settings, so that no note is Alone where these never make a pair alone
 pub record IsBySettings (w : World) : Type 0 where
-  pub alone : (i : GatewayId) → AloneAfter (settings_of w i).alone (gateway_at w i)
+  pub each : (i : GatewayId) → GoesBy (settings_of w i) (gateway_at w i)
   pub plain : NeverAlone w → IsPlain (reverse w.trace)
 
 -- The world is sound: for some lists of pushed records its scene can come about, the trace is accounted for, both
--- gateways go by their settings, which have the same ranges, and their fragments are bytes.
+-- gateways go by their settings, which have the same values, and their fragments are bytes.
 pub record IsSound (w : World) : Type 0 where
-  pub ranges : HaveSameRanges w.settings w.settings_one
+  pub values : HaveSameValues w.settings w.settings_one
   pub pushed : GatewayId → List Record
   pub halves : (i : GatewayId) →
       IsHalf w.settings.ports i (half w i).boot (gateway_at w i) (pushed i)

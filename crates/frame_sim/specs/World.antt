@@ -10,6 +10,8 @@ use Rattle.nat_types.specs.declared.pairs.Pair.{Pair}
 use Rattle.settings.specs.declared.ranges.PortRanges.{PortRanges}
 use Rattle.settings.specs.declared.whole.Settings.{Settings}
 use Rattle.settings.specs.Ranges.{of_gateway}
+use Rattle.settings.specs.Values.{values_of}
+use Rattle.settings.specs.declared.values.Values.{Values}
 use Rattle.bindings.specs.declared.entries.Entry.{Entry}
 use Rattle.bindings.specs.Entries.{HasDistinctKeys, is_pair, pairs_in, translates}
 use Rattle.bindings.specs.Ports.{in_either}
@@ -89,10 +91,13 @@ founding_of settings settings_one = record {
 abbrev pub founding : Settings → World
 founding settings = founding_of settings settings
 
--- both settings have the same ranges
-pub record HaveSameRanges (settings settings_one : Settings) : Type 0 where
-  pub zero : settings_one.ports.zero ≡ settings.ports.zero
-  pub one : settings_one.ports.one ≡ settings.ports.one
+-- both settings have the same values: the two ranges, the virtual addresses and the prefix lengths
+abbrev pub HaveSameValues : Settings → Settings → Type 0
+HaveSameValues settings settings_one = values_of settings_one ≡ values_of settings
+
+-- the values of the world's settings, which are those of both gateways
+abbrev pub values_in : World → Values
+values_in w = values_of w.settings
 
 -- ---- a gateway that may be down
 

@@ -1,33 +1,38 @@
 //! The world of a script: two gateways, the events that they take, and the trace of their notes.
-ghost use Rattle.std.specs.Prelude.{◌≡◌, ◌<◌, ◌≤◌, ◌+◌, ◌++◌, ◌∷◌, [], true, length, option_map, reverse, vec_len, vec_capacity, IfOk, IsTrue, OnOk, OnErr, if◌then◌else◌};
+ghost use Rattle.std.specs.Prelude.{◌≡◌, ◌<◌, ◌≤◌, ◌+◌, ◌++◌, ◌∷◌, [], true, length, option_map, reverse, vec_len, vec_capacity, ℕ, List, IfErr, IfOk, IsTrue, OnOk, OnErr, if◌then◌else◌};
 ghost use Rattle.bindings.specs.Entries.{is_pair, translates};
 ghost use Rattle.spec_trace.specs.OneBox.{IsOneBox};
 ghost use Rattle.spec_trace.specs.Plain.{IsPlain};
 ghost use Rattle.spec_trace.specs.Trace.{AtMostTwo, GoesOn, Idle, Kept, OneEndpoint, OnePort, Silent};
-ghost use Rattle.output.specs.Output.{with_note};
+ghost use Rattle.link.specs.Reading.{reading};
+ghost use Rattle.link.specs.Strays.{IsStray, is_stray};
+ghost use Rattle.output.specs.Output.{Output, with_note};
+ghost use Rattle.nat_types.specs.declared.gateways.GatewayId.{GatewayId};
 ghost use Rattle.nat_types.specs.declared.gateways.GatewayId.TheVariants.{Zero};
+ghost use Rattle.spec_step.specs.declared.events.Outcome.{Outcome};
 ghost use Rattle.spec_step.specs.Founding.{begun, founded};
 ghost use Rattle.spec_gateway.specs.State.{beginning};
 ghost use Rattle.nat_types.specs.declared.events.WorldEvent.TheVariants as events;
 ghost use Rattle.frame_sim.specs.declared.events.WorldFault.TheVariants as faults;
-ghost use Rattle.frame_sim.specs.Events.{TakesAt, datagram_for, may_be_told, may_boot, may_crash};
-ghost use Rattle.frame_sim.specs.Lacks.{IsUnnoted, IsUnowned, IsUnpaired, IsUnstepped, IsUntranslated, WasUnbegun, WasUnrun, WasUntold, WasUntraced};
+ghost use Rattle.frame_sim.specs.Events.{ChangesNothing, Strays, TakesAt, datagram_for, may_be_told, may_boot, may_crash, may_stray, unless};
+ghost use Rattle.frame_sim.specs.Lacks.{IsUnheard, IsUnnoted, IsUnowned, IsUnpaired, IsUnstepped, IsUntranslated, WasUnbegun, WasUnrun, WasUntold, WasUntraced};
 ghost use Rattle.frame_sim.specs.Runs.{Answers, AreSteps, Gives, WasTaken, fault_of};
 ghost use Rattle.frame_sim.specs.Scene.{IsHanded};
-ghost use Rattle.frame_sim.specs.World.{HaveSameRanges, Holds, IsKeptTogether, IsOwned, IsShared, NeverAlone, ShowsSynced, Translates, founding, founding_of, gateway_at, half, is_up, networks_at, owned_by, pairs_of, settings_of, state_at, synced_at};
+ghost use Rattle.frame_sim.specs.World.{World};
+ghost use Rattle.frame_sim.specs.World.{HaveSameValues, Holds, IsKeptTogether, IsOwned, IsShared, NeverAlone, ShowsSynced, Translates, founding, founding_of, gateway_at, half, is_up, networks_at, owned_by, pairs_of, settings_of, state_at, synced_at, values_in};
 
 use crate::halves::Half;
 use crate::{Step, WorldEvent, WorldFault};
 use addresses::Port;
 use gateway::{Event, Gateway, Out, Outcome, Secrets};
-use link::one_spelling;
+use link::{one_spelling, parse};
 use memory::{reserve, with_room};
 use nat_types::{GatewayId, NoMemory, Note, NoteKind, Pair};
 use output::Room;
 use packet_rules::Networks;
-use settings::Settings;
+use settings::{Settings, Values};
 use spec_binding::books_begin;
-use spec_gateway::{inner_steps, parts_stay_bytes};
+use spec_gateway::{inner_steps, parts_stay_bytes, strays_change_nothing};
 use spec_pair::laws::{
     a_step_keeps, begins, goes_to, promises, promises_in_order, promises_without_alone,
     steps_anywhere,
@@ -149,6 +154,16 @@ fn begin(
     Gateway::new(alloc, settings, id, boot, found, Secrets::fixed())
 }
 
+/// Whether bytes are a stray: no datagram, or one with other values than these.
+fn is_stray(values: &Values, bytes: &[u8]) -> bool
+    ensures { result ≡ is_stray values.now (reading bytes.now) }
+{
+    match parse(bytes) {
+        Ok(datagram) => !datagram.values.is_same(values),
+        Err(_) => true,
+    }
+}
+
 impl<'a> World<'a> {
     /// Returns a world with gateway 0 founded with boot 1, and gateway 1 down.
     pub fn new(alloc: Global, settings: &'a Settings) -> Result<World<'a>, NoMemory>
@@ -158,14 +173,15 @@ impl<'a> World<'a> {
         World::of(alloc, settings, settings)
     }
 
-    /// Returns a world as `new` does, in which each gateway goes by its own settings. These have the same ranges of
-    /// ports; all else may differ, as the time after which a gateway makes pairs alone.
+    /// Returns a world as `new` does, in which each gateway goes by its own settings. These have the same values: the
+    /// ranges of ports, the virtual addresses and the prefix lengths. All else may differ, as the time after which a
+    /// gateway makes pairs alone.
     pub fn of(
         alloc: Global,
         settings: &'a Settings,
         settings_one: &'a Settings,
     ) -> Result<World<'a>, NoMemory>
-        requires ranges { HaveSameRanges settings.now settings_one.now }
+        requires values { HaveSameValues settings.now settings_one.now }
         ensures founding { IfOk result (λ w. w ≡ founding_of settings.now settings_one.now) }
         ensures unbegun { OnErr result (WasUnbegun settings.now Zero 1) }
     {
@@ -258,6 +274,18 @@ impl<'a> World<'a> {
         self.one.recall();
     }
 
+    /// A stray changes nothing: bytes that are no datagram, or a datagram with other values than those of the world's
+    /// settings. Its step sends no frame and no datagram, makes no note, and leaves the gateway as it was. The call does
+    /// nothing when it runs.
+    pub fn strays_change_nothing(&self)
+        ensures { (i : GatewayId) (bytes : List ℕ) (told : Output) (outcome : Outcome)
+            (told2 : Output) (w2 : World) → IsStray (values_in self.now) bytes
+            → Strays self.now i bytes told outcome told2 w2
+            → ChangesNothing self.now i told outcome told2 w2 }
+    {
+        strays_change_nothing();
+    }
+
     /// Returns all notes so far, the oldest first.
     pub fn trace(&self) -> &[Note]
         ensures { result.now ≡ self.now.trace }
@@ -331,6 +359,7 @@ impl<'a> World<'a> {
             WorldEvent::Boot(id, number) => self.boot(*id, *number, out),
             WorldEvent::PeerOff(id, number) => self.pass_word(*id, *number, out),
             WorldEvent::Side(id, side, up) => Ok(self.hand(*id, Event::Side(*side, *up), out)?),
+            WorldEvent::Stray(id, bytes) => self.stray(*id, bytes.as_slice(), out),
         }
     }
 
@@ -424,6 +453,35 @@ impl<'a> World<'a> {
         }
     }
 
+    /// Has one of the two gateways take bytes that neither sent, if they are a stray.
+    fn stray(
+        &mut self,
+        id: GatewayId,
+        bytes: &[u8],
+        out: &mut Out,
+    ) -> Result<Outcome, WorldFault>
+        ensures stray { OnOk result (may_stray self.old bytes.now ≡ true) }
+        ensures takes { IfOk result (λ o. Strays self.old id bytes.now out.old o
+            out.new self.new) }
+        ensures fault { IfErr result (λ fault. fault
+            ≡ fault_of (unless (may_stray self.old bytes.now) faults.PremiseBroken)) }
+        ensures short { IfErr result
+            (λ fault. fault ≡ faults.NoMemory → IsUnheard (state_at self.old id) bytes.now) }
+        ensures err { OnErr result (self.new ≡ self.old) }
+        ensures untold { OnErr result (out.new ≡ out.old) }
+    {
+        strays_change_nothing();
+        if !self.may_stray(bytes) {
+            return Err(WorldFault::PremiseBroken);
+        }
+        let trace = &mut self.trace;
+        let event = Event::Datagram(bytes);
+        match id {
+            GatewayId::Zero => Ok(self.zero.hand(self.alloc, trace, event, out)?),
+            GatewayId::One => Ok(self.one.hand(self.alloc, trace, event, out)?),
+        }
+    }
+
     /// Gives one of the two gateways the operator's word, if the word is true.
     fn pass_word(
         &mut self,
@@ -505,6 +563,12 @@ impl<'a> World<'a> {
     {
         let half = self.half(id);
         !half.up() && half.boot() < number
+    }
+
+    fn may_stray(&self, bytes: &[u8]) -> bool
+        ensures { result ≡ may_stray self.now bytes.now }
+    {
+        is_stray(&self.settings.values(), bytes)
     }
 
     fn may_be_told(&self, id: GatewayId, number: u64) -> bool

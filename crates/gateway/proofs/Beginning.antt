@@ -25,6 +25,7 @@ begun-is settings id boot stands settled placed = record {
   places = refl;
   house = record { placed = placed; inside_is = refl; outside_is = refl };
   settled = settled;
+  fed = refl;
 }
 
 founded-is : (settings : Settings) (boot : ℕ) → IsStanding (founded settings boot) [] → IsSettled (founded settings boot) → IsPlaced (networks_of settings Zero) → IsInOrder (founded settings boot)
@@ -39,6 +40,7 @@ founded-is settings boot stands settled placed = record {
   places = refl;
   house = record { placed = placed; inside_is = refl; outside_is = refl };
   settled = settled;
+  fed = refl;
 }
 
 -- the invariant doesn't depend on what a gateway drew
@@ -71,6 +73,7 @@ secrets-are secrets g is = let b = is.book in record {
   places = is.places;
   house = is.house;
   settled = record { running = is.settled.running; idle = is.settled.idle; answered = is.settled.answered; places = is.settled.places };
+  fed = is.fed;
 }
 
 -- a gateway that begins has the invariant, founded or not

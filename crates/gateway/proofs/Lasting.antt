@@ -1,4 +1,4 @@
--- What no step changes: the ranges of ports, the link's capacity, and the networks. And the clock goes on within its bounds.
+-- What no step changes: the ranges of ports, the link's capacity and values, and the networks. And the clock goes on within its bounds.
 use Rattle.std.proofs.Common.{◌≡◌, ℕ, Bool, true, false, List, [], ◌∷◌, Option, Some, None, Result, Ok, Err, refl, sym, ap, subst, ◌∙◌, arith, cond, ◌&&◌}
 use Rattle.nat_types.specs.declared.gateways.Side.{Side}
 use Rattle.nat_types.specs.declared.gateways.Side.TheVariants.{Inside, Outside}
@@ -39,7 +39,7 @@ use Rattle.spec_step.specs.Shown.{GatewayAndOutput, Shown, id_of, is_apart, is_r
 use Rattle.spec_step.specs.Steps.{Does, FrameDoes, IsStepOn, ended_on, stopped, ticked, word_by, word_refusal}
 use Rattle.spec_step.specs.Verdict.{reading_on}
 use Rattle.gateway.specs.Arrivals.{clock_by}
-use Rattle.gateway.proofs.Staying.{IsAsOn, Stays, answered-capacity, change-stays, flow-stays, released-stays, row-stays, station-stays, stays-here, stays-then, echo-stays, error-stays, refused-stays}
+use Rattle.gateway.proofs.Staying.{IsAsOn, Stays, answered-capacity, answered-values, change-stays, flow-stays, released-stays, row-stays, station-stays, stays-here, stays-then, echo-stays, error-stays, refused-stays}
 
 -- an equal pair of gateway and output
 stays-as : (g : Shown) (s s2 : GatewayAndOutput) → s2 ≡ s → Stays g s.shown → Stays g s2.shown
@@ -126,18 +126,23 @@ restart-capacity : (b : Book) (e : Link) (synced : Bool) → is_synced b.stage �
 restart-capacity b e true is = rw is refl
 restart-capacity b e false is = rw is refl
 
+restart-values : (b : Book) (e : Link) (synced : Bool) → is_synced b.stage ≡ synced → (restart_link b e).values ≡ e.values
+restart-values b e true is = rw is refl
+restart-values b e false is = rw is refl
+
 reset-stays : (s : GatewayAndOutput) → Stays s.shown (reset s).shown
 reset-stays s =
     let b = s.shown.ledger.book in
     let ranges = restarted-by b (is_synced b.stage) refl in
     let capacity = restart-capacity b s.shown.link (is_synced b.stage) refl in
+    let values = restart-values b s.shown.link (is_synced b.stage) refl in
     let g = s.shown in
     let begun = scene (record g { ledger = restarted_ledger g.ledger; link = restart_link b g.link }) (with_notes s.told (restart_notes b g.moment)) in
     let x = released-stays begun AllPairs in
-    record { moment = x.moment; capacity = x.capacity ∙ capacity; zero = x.zero ∙ ranges.zero; one = x.one ∙ ranges.one; networks = x.networks; inside = x.inside; outside = x.outside }
+    record { moment = x.moment; capacity = x.capacity ∙ capacity; values = x.values ∙ values; zero = x.zero ∙ ranges.zero; one = x.one ∙ ranges.one; networks = x.networks; inside = x.inside; outside = x.outside }
 
 with-routers-stays : (g g2 : Shown) (starts : Bool) → (has_synced g g2 && is_running g2) ≡ starts → Stays g2 (with_routers g g2)
-with-routers-stays g g2 true is = rw is (record { moment = refl; capacity = refl; zero = refl; one = refl; networks = refl; inside = refl; outside = refl })
+with-routers-stays g g2 true is = rw is (record { moment = refl; capacity = refl; values = refl; zero = refl; one = refl; networks = refl; inside = refl; outside = refl })
 with-routers-stays g g2 false is = rw is (stays-here g2)
 
 shown-stays : (g : Shown) (r : Record) → Stays g (record_shown g r)
@@ -149,7 +154,7 @@ shown-stays g r =
     let ranges = taken-by b rests r (is_synced b.stage) refl in
     stays-then g g2 (record_shown g r)
     (stays-then g g1 g2
-    (record { moment = refl; capacity = answered-capacity g.link (taken_answer b rests r); zero = ranges.zero; one = ranges.one; networks = refl; inside = refl; outside = refl })
+    (record { moment = refl; capacity = answered-capacity g.link (taken_answer b rests r); values = answered-values g.link (taken_answer b rests r); zero = ranges.zero; one = ranges.one; networks = refl; inside = refl; outside = refl })
     (change-stays g1 (taken_behind b g.link rests r)))
     (with-routers-stays g g2 (has_synced g g2 && is_running g2) refl)
 
@@ -173,6 +178,10 @@ met-capacity : (e : Link) (d : Datagram) (restarts : Bool) → is_restart e d �
 met-capacity e d true is = rw is refl
 met-capacity e d false is = rw is refl
 
+met-values : (e : Link) (d : Datagram) (restarts : Bool) → is_restart e d ≡ restarts → (met e d).values ≡ e.values
+met-values e d true is = rw is refl
+met-values e d false is = rw is refl
+
 reset-where : (s : GatewayAndOutput) (restarts : Bool) → Stays s.shown (let r : GatewayAndOutput = cond restarts (reset s) s in r.shown)
 reset-where s true = reset-stays s
 reset-where s false = stays-here s.shown
@@ -184,7 +193,7 @@ heard-stays s d =
     let restarts = is_restart e d in
     let start : GatewayAndOutput = cond restarts (reset after) after in
     stays-then s.shown after.shown (heard_by s d).shown
-    (record { moment = refl; capacity = met-capacity e d restarts refl; zero = refl; one = refl; networks = refl; inside = refl; outside = refl })
+    (record { moment = refl; capacity = met-capacity e d restarts refl; values = met-values e d restarts refl; zero = refl; one = refl; networks = refl; inside = refl; outside = refl })
     (stays-then after.shown start.shown (heard_by s d).shown (reset-where after restarts) (records-stay start (records_taken e d)))
 
 unless-stays : (s : GatewayAndOutput) (d : Datagram) (o : Option LinkFault) → Stays s.shown (heard_unless s d o).shown
@@ -202,7 +211,7 @@ word-stays s n None =
     let g = s.shown in
     let alone = scene (record g { ledger = lone_ledger g.moment g.ledger; link = closed_at g.link n }) (with_notes s.told (retaken (id_of g) g.moment (back_in g.ledger.book.entries))) in
     let x = released-stays alone AllPairs in
-    record { moment = x.moment; capacity = x.capacity; zero = x.zero; one = x.one; networks = x.networks; inside = x.inside; outside = x.outside }
+    record { moment = x.moment; capacity = x.capacity; values = x.values; zero = x.zero; one = x.one; networks = x.networks; inside = x.inside; outside = x.outside }
 word-stays s n (Some reason) = stays-here s.shown
 
 idle-stays : (s : GatewayAndOutput) (keys : List Key) → Stays s.shown (all_idle_done s keys).shown
@@ -239,13 +248,13 @@ begun_by s (SideIs side up) = s
 
 -- coming back changes none of these
 returned-stays : (g : Shown) (up : Bool) → is_up g ≡ up → Stays g (returned g)
-returned-stays g true is = rw is (record { moment = refl; capacity = refl; zero = refl; one = refl; networks = refl; inside = refl; outside = refl })
-returned-stays g false is = rw is (record { moment = refl; capacity = refl; zero = refl; one = refl; networks = refl; inside = refl; outside = refl })
+returned-stays g true is = rw is (record { moment = refl; capacity = refl; values = refl; zero = refl; one = refl; networks = refl; inside = refl; outside = refl })
+returned-stays g false is = rw is (record { moment = refl; capacity = refl; values = refl; zero = refl; one = refl; networks = refl; inside = refl; outside = refl })
 
 turn-stays : (s : GatewayAndOutput) (turn : Turn) (s2 : GatewayAndOutput) → TakesTurn s turn s2 → Stays s.shown s2.shown
 turn-stays s Leaves s2 takes =
     let x = both-stay s table.Stop takes.0 takes.1 in
-    stays-as s.shown (left takes.0) s2 takes.2 (record { moment = x.moment; capacity = x.capacity; zero = x.zero; one = x.one; networks = x.networks; inside = x.inside; outside = x.outside })
+    stays-as s.shown (left takes.0) s2 takes.2 (record { moment = x.moment; capacity = x.capacity; values = x.values; zero = x.zero; one = x.one; networks = x.networks; inside = x.inside; outside = x.outside })
 turn-stays s Returns s2 takes = stays-as s.shown (scene (returned s.shown) s.told) s2 takes (returned-stays s.shown (is_up s.shown) refl)
 turn-stays s Remains s2 takes = stays-as s.shown s s2 takes (stays-here s.shown)
 
@@ -264,21 +273,21 @@ does-stays s (Tick now) done does =
     stays-as (ticked s now).shown (alone_taken idle) done does.4
     (stays-then (ticked s now).shown idle.shown (alone_taken idle).shown
     (stays-then (ticked s now).shown middle.shown idle.shown x
-    (record { moment = y.moment; capacity = y.capacity; zero = y.zero; one = y.one; networks = y.networks; inside = y.inside; outside = y.outside }))
+    (record { moment = y.moment; capacity = y.capacity; values = y.values; zero = y.zero; one = y.one; networks = y.networks; inside = y.inside; outside = y.outside }))
     (alone-stays idle))
 does-stays s Stop done does =
     let middle = does.0 in
     let x = both-stay s table.Stop middle does.1 in
-    stays-as s.shown (stopped middle) done does.2 (record { moment = x.moment; capacity = x.capacity; zero = x.zero; one = x.one; networks = x.networks; inside = x.inside; outside = x.outside })
+    stays-as s.shown (stopped middle) done does.2 (record { moment = x.moment; capacity = x.capacity; values = x.values; zero = x.zero; one = x.one; networks = x.networks; inside = x.inside; outside = x.outside })
 does-stays s (PeerOff n) done does = stays-as s.shown (word_by s n (word_refusal s.shown n)) done does (word-stays s n (word_refusal s.shown n))
 does-stays s (SideIs side up) done does = stays-as s.shown (side_plugged s side up) done does (station-stays s.shown side (with_plug (station_on s.shown side) up s.shown.moment) refl)
 
 ticked-by : (s : GatewayAndOutput) (due : Bool) → is_due_on_tick (handed_in s.shown).link s.shown.moment ≡ due → Stays s.shown (link_ticked s).shown
-ticked-by s true is = rw is (record { moment = refl; capacity = refl; zero = refl; one = refl; networks = refl; inside = refl; outside = refl })
-ticked-by s false is = rw is (record { moment = refl; capacity = refl; zero = refl; one = refl; networks = refl; inside = refl; outside = refl })
+ticked-by s true is = rw is (record { moment = refl; capacity = refl; values = refl; zero = refl; one = refl; networks = refl; inside = refl; outside = refl })
+ticked-by s false is = rw is (record { moment = refl; capacity = refl; values = refl; zero = refl; one = refl; networks = refl; inside = refl; outside = refl })
 
 answer-stays : (s : GatewayAndOutput) → Stays s.shown (link_answered s).shown
-answer-stays s = record { moment = refl; capacity = refl; zero = refl; one = refl; networks = refl; inside = refl; outside = refl }
+answer-stays s = record { moment = refl; capacity = refl; values = refl; zero = refl; one = refl; networks = refl; inside = refl; outside = refl }
 
 ended-event : (event : Event) (done : GatewayAndOutput) → Stays done.shown (ended_on event done).shown
 ended-event (Frame side bytes) done = answer-stays done
@@ -307,6 +316,7 @@ step-moment s event s2 step =
 pub record Lasts (g g2 : Shown) : Type 0 where
   pub moment : IsMoment g2.moment
   pub capacity : g2.link.capacity ≡ g.link.capacity
+  pub values : g2.link.values ≡ g.link.values
   pub zero : g2.ledger.book.zero ≡ g.ledger.book.zero
   pub one : g2.ledger.book.one ≡ g.ledger.book.one
   pub networks : g2.networks ≡ g.networks
@@ -314,12 +324,12 @@ pub record Lasts (g g2 : Shown) : Type 0 where
   pub outside : g2.outside.network ≡ g.outside.network
 
 begun-lasts : (s : GatewayAndOutput) (event : Event) → IsMoment s.shown.moment → Lasts s.shown (begun_by s event).shown
-begun-lasts s (Frame side bytes) is = record { moment = is; capacity = refl; zero = refl; one = refl; networks = refl; inside = refl; outside = refl }
-begun-lasts s (Comes bytes) is = record { moment = is; capacity = refl; zero = refl; one = refl; networks = refl; inside = refl; outside = refl }
-begun-lasts s (Tick now) is = record { moment = omega (arith, is); capacity = refl; zero = refl; one = refl; networks = refl; inside = refl; outside = refl }
-begun-lasts s Stop is = record { moment = is; capacity = refl; zero = refl; one = refl; networks = refl; inside = refl; outside = refl }
-begun-lasts s (PeerOff n) is = record { moment = is; capacity = refl; zero = refl; one = refl; networks = refl; inside = refl; outside = refl }
-begun-lasts s (SideIs side up) is = record { moment = is; capacity = refl; zero = refl; one = refl; networks = refl; inside = refl; outside = refl }
+begun-lasts s (Frame side bytes) is = record { moment = is; capacity = refl; values = refl; zero = refl; one = refl; networks = refl; inside = refl; outside = refl }
+begun-lasts s (Comes bytes) is = record { moment = is; capacity = refl; values = refl; zero = refl; one = refl; networks = refl; inside = refl; outside = refl }
+begun-lasts s (Tick now) is = record { moment = omega (arith, is); capacity = refl; values = refl; zero = refl; one = refl; networks = refl; inside = refl; outside = refl }
+begun-lasts s Stop is = record { moment = is; capacity = refl; values = refl; zero = refl; one = refl; networks = refl; inside = refl; outside = refl }
+begun-lasts s (PeerOff n) is = record { moment = is; capacity = refl; values = refl; zero = refl; one = refl; networks = refl; inside = refl; outside = refl }
+begun-lasts s (SideIs side up) is = record { moment = is; capacity = refl; values = refl; zero = refl; one = refl; networks = refl; inside = refl; outside = refl }
 
 pub step-lasts : (s : GatewayAndOutput) (event : Event) (done s2 : GatewayAndOutput) → IsMoment s.shown.moment → Does s event done → s2 ≡ ended_on event done → Lasts s.shown s2.shown
 step-lasts s event done s2 is does sends =
@@ -329,6 +339,7 @@ step-lasts s event done s2 is does sends =
     record {
       moment = subst (λ (m : ℕ). IsMoment m) (sym (end.moment ∙ own.moment)) first.moment;
       capacity = end.capacity ∙ (own.capacity ∙ first.capacity);
+      values = end.values ∙ (own.values ∙ first.values);
       zero = end.zero ∙ (own.zero ∙ first.zero);
       one = end.one ∙ (own.one ∙ first.one);
       networks = end.networks ∙ (own.networks ∙ first.networks);

@@ -3,6 +3,7 @@ use Rattle.std.specs.Prelude.{◌≡◌, ◌≤◌, ℕ, ◌+◌, Option, List, 
 use Rattle.nat_types.specs.declared.gateways.Side.{Side}
 use Rattle.nat_types.specs.declared.gateways.Side.TheVariants.{Inside, Outside}
 use Rattle.nat_types.specs.declared.records.Record.{Record}
+use Rattle.link.specs.Link.{wanted}
 use Rattle.spec_binding.specs.Books.{IsBook}
 use Rattle.vrrp_states.specs.Table.{IsMoment}
 use Rattle.output.specs.Output.{Output, Sent}
@@ -37,6 +38,8 @@ pub record IsInOrder (g : Shown) : Type 0 where
   pub house : IsHouse g.networks g.inside.network g.outside.network
   -- the routers are idle where the gateway isn't up, no datagram is due, and the kept packets are within their limits
   pub settled : IsSettled g
+  -- the link has the records that it was promised, as far as it has places for them
+  pub fed : wanted g.link ≡ 0
 
 -- what holds of a gateway
 pub record IsGateway (s : GatewayState) : Type 0 where
@@ -56,10 +59,11 @@ pub record FitsAtBoth (count : ℕ) (networks : Networks) : Type 0 where
   pub inside : count ≤ 14 + mtu_of networks Inside
   pub outside : count ≤ 14 + mtu_of networks Outside
 
--- a gateway went on: its networks and its id are the same, and what it sent stands behind what was sent before
+-- a gateway went on: its networks, its id and its link's values are the same, and what it sent stands behind what was sent before
 pub record GoesOn (g : Shown) (told : Output) (g2 : Shown) (told2 : Output) : Type 0 where
   pub networks_are : g2.networks ≡ g.networks
   pub id_is : id_of g2 ≡ id_of g
+  pub values_are : g2.link.values ≡ g.link.values
   pub sent : List Sent
   pub sent_are : told2.frames ≡ told.frames ++ sent
 

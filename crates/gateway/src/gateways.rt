@@ -347,6 +347,9 @@ impl Gateway {
         ensures outcome { IfOk result (λ o. o ≡ outcome_of self.old event.entry) }
         ensures step { OnOk result (IsGatewayStep self.old page.old.told event.entry
             self.new page.new.told) }
+        // The gateway runs on the same values.
+        ensures values { OnOk result
+            (self.new.shown.link.values ≡ self.old.shown.link.values) }
         // The input consists of bytes.
         ensures bytes { HasBytes event.entry }
         ensures err { OnErr result (self.new ≡ self.old) }

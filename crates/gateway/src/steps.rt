@@ -43,7 +43,9 @@ use ipv4::Packet;
 use nat_types::Side;
 use output::OutputBuffer;
 use packet_rules::{Reading, Reason};
-use spec_step::{Event, Outcome, parts_stand, steps_go, steps_keep, steps_settle, steps_stay};
+use spec_step::{
+    Event, Outcome, parts_stand, steps_feed, steps_go, steps_keep, steps_settle, steps_stay,
+};
 use std::alloc::Global;
 
 /// Handles a frame with a UDP or TCP packet that no step of the reading refuses: the frames that
@@ -447,6 +449,7 @@ pub(crate) fn step(
     steps_go();
     steps_keep();
     steps_settle();
+    steps_feed();
     steps_stay();
     parts_stand();
     recall_event(event);

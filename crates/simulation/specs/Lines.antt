@@ -131,6 +131,7 @@ gateway_of (events.Crash i) = i
 gateway_of (events.Boot i number) = i
 gateway_of (events.PeerOff i number) = i
 gateway_of (events.Side i side up) = i
+gateway_of (events.Stray i bytes) = i
 
 -- what became of it
 abbrev pub answer_text : Result Outcome WorldFault → List ℕ

@@ -143,8 +143,8 @@ pub(crate) fn end_capture<W: Write + Drop>(
     }
 }
 
-/// Returns the bytes that an event brings, and the interface at which they arrive: a frame, or a datagram that was
-/// sent.
+/// Returns the bytes that an event brings, and the interface at which they arrive: a frame, a datagram that was sent,
+/// or a stray.
 pub(crate) fn input_of<'a>(
     world: &'a World<'_>,
     event: &'a WorldEvent,
@@ -157,6 +157,7 @@ pub(crate) fn input_of<'a>(
             let bytes = world.datagram(*id, *number)?;
             Some((Interface::Link(*id), bytes))
         }
+        WorldEvent::Stray(id, bytes) => Some((Interface::Link(*id), bytes.as_slice())),
         WorldEvent::Tick(_, _)
         | WorldEvent::Stop(_)
         | WorldEvent::Crash(_)

@@ -40,7 +40,8 @@ impl Clocks {
             | WorldEvent::Stop(_)
             | WorldEvent::Deliver(_, _)
             | WorldEvent::PeerOff(_, _)
-            | WorldEvent::Side(_, _, _) => {}
+            | WorldEvent::Side(_, _, _)
+            | WorldEvent::Stray(_, _) => {}
         }
     }
 

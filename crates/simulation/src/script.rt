@@ -9,8 +9,8 @@ use std::alloc::{AllocError, Global};
 /// The most events of a script.
 const MAX_EVENTS: usize = 1_000_000;
 
-/// The most bytes of a frame in a script.
-const MAX_FRAME: usize = 2_000;
+/// The most bytes of a frame or a stray in a script.
+const MAX_BYTES: usize = 2_000;
 
 /// The events of a script in order, and the settings of the gateways that they are run on.
 #[derive(Drop)]
@@ -34,7 +34,7 @@ impl From<AllocError> for LineFault {
 }
 
 const WANTS_EVENT: LineFault = LineFault::Wants(
-    "an event is tick I MOMENT, frame I SIDE HEX, deliver I K, stop I, crash I, boot I N, peer-off I N or side I SIDE up|down",
+    "an event is tick I MOMENT, frame I SIDE HEX, deliver I K, stop I, crash I, boot I N, peer-off I N, side I SIDE up|down or stray I HEX",
 );
 
 const WANTS_GATEWAY: LineFault = LineFault::Wants("a gateway is 0 or 1");
@@ -101,7 +101,10 @@ fn parse_event(alloc: Global, line: &str) -> Result<WorldEvent, LineFault> {
     let words: Vec<&str> = line.split(' ').collect(alloc)?;
     match words.as_slice() {
         [verb, gateway] => parse_stop(verb, gateway),
-        [verb, gateway, number] => parse_numbered(verb, gateway, number),
+        [verb, gateway, word] => match *verb {
+            "stray" => parse_stray(alloc, gateway, word),
+            _ => parse_numbered(verb, gateway, word),
+        },
         [verb, gateway, side, text] => match *verb {
             "side" => parse_cable(gateway, side, text),
             "frame" => parse_frame(alloc, gateway, side, text),
@@ -159,6 +162,13 @@ fn parse_frame(
     Ok(WorldEvent::Frame(id, side, bytes))
 }
 
+/// Parses the words of an event of a stray, as `stray 1 4E50`.
+fn parse_stray(alloc: Global, gateway: &str, text: &str) -> Result<WorldEvent, LineFault> {
+    let id = parse_gateway(gateway)?;
+    let bytes = parse_bytes(alloc, text)?;
+    Ok(WorldEvent::Stray(id, bytes))
+}
+
 fn parse_gateway(word: &str) -> Result<GatewayId, LineFault> {
     match word {
         "0" => Ok(GatewayId::Zero),
@@ -191,7 +201,7 @@ fn parse_bytes(alloc: Global, word: &str) -> Result<Vec<u8>, LineFault> {
     if word == "-" {
         return Ok(Vec::new(alloc));
     }
-    if word.is_empty() || word.len() > 2 * MAX_FRAME {
+    if word.is_empty() || word.len() > 2 * MAX_BYTES {
         return Err(WANTS_BYTES);
     }
     match hex::decode(alloc, word) {

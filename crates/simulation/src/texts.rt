@@ -18,7 +18,8 @@ pub fn gateway_of(event: &WorldEvent) -> GatewayId
         | WorldEvent::Crash(id)
         | WorldEvent::Boot(id, _)
         | WorldEvent::PeerOff(id, _)
-        | WorldEvent::Side(id, _, _) => *id,
+        | WorldEvent::Side(id, _, _)
+        | WorldEvent::Stray(id, _) => *id,
     }
 }
 

@@ -27,6 +27,7 @@ use Rattle.bindings.specs.Runs.{runs_of}
 use Rattle.bindings.proofs.Offered.{found-slot, is-rank, none-ranked, one-rank, ranked-serves, slot-without, slot-with_state, order-put, order-turn, order-drop, slot-put, keys-put, keys-filter, keys-turn, listed-all, listed-filter, listed-range, rise-filter, rise-range}
 use Rattle.port_range.specs.Ports.{is_listed, AreRising}
 use Rattle.link.specs.Grammar.{IsWellFormedPair, IsWellFormedRecord}
+use Rattle.settings.specs.declared.values.Values.{Values}
 use Rattle.link.specs.Link.{fresh}
 use Rattle.resync.specs.Batch.{AreHeldElsewhere, is_second, is_settled, owners_of, puts_of, record_for}
 use Rattle.resync.specs.Loading.{Load, is_beside, is_new, loaded_state, names_run, none_yet, with_pair, with_run}
@@ -656,6 +657,6 @@ founded-keeps z o rules az ao hz ho = record {
   unnamed = λ a n. absurd (cc);
 }
 
-pub founded-box : (zero one : PortBounds) (rules : Rules) (capacity : ℕ) → AreBounds zero → box_at (founded_book zero one rules) (fresh Zero 1 capacity) [] 0 ≡ founder (λ p. in_either zero one p && in_bounds zero p)
-founded-box z o rules capacity az = same_boxes (box_at (founded_book z o rules) (fresh Zero 1 capacity) [] 0) (founder (λ p. in_either z o p && in_bounds z p))
+pub founded-box : (zero one : PortBounds) (rules : Rules) (capacity : ℕ) (values : Values) → AreBounds zero → box_at (founded_book zero one rules) (fresh Zero 1 capacity values) [] 0 ≡ founder (λ p. in_either zero one p && in_bounds zero p)
+founded-box z o rules capacity values az = same_boxes (box_at (founded_book z o rules) (fresh Zero 1 capacity values) [] 0) (founder (λ p. in_either z o p && in_bounds z p))
     (record { up = refl; boot = refl; synced = refl; lone = refl; peer = refl; table = λ k. refl; sent = refl; taken = refl; loading = refl; owned = λ p. founded-owns z o p az; wants = refl; named = refl; promised = refl })

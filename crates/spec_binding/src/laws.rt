@@ -14,6 +14,7 @@ ghost use Rattle.bindings.specs.declared.entries.Entry.{Entry};
 ghost use Rattle.bindings.specs.declared.entries.PortBounds.{PortBounds};
 ghost use Rattle.bindings.specs.Entries.{is_pair, slot_of, translates};
 ghost use Rattle.bindings.specs.Ports.{AreBounds};
+ghost use Rattle.settings.specs.declared.values.Values.{Values};
 ghost use Rattle.link.specs.declared.datagrams.Datagram.{Datagram};
 ghost use Rattle.link.specs.declared.datagrams.Taken.{Taken};
 ghost use Rattle.link.specs.Grammar.{IsWellFormedRecord};
@@ -131,11 +132,12 @@ pub fn books_begin()
         → AreBounds one → IsPort zero.highest.0 → IsPort one.highest.0
         → IsBook (founded_book zero one rules) }
     ensures booted { (id : GatewayId) (zero one : PortBounds) (rules : Rules)
-        (boot capacity : ℕ)
-        → box_at (empty_book id zero one rules) (fresh id boot capacity) [] 0 ≡ booted boot }
-    ensures founder { (zero one : PortBounds) (rules : Rules) (capacity : ℕ)
+        (boot capacity : ℕ) (values : Values)
+        → box_at (empty_book id zero one rules) (fresh id boot capacity values) [] 0 ≡ booted boot }
+    ensures founder { (zero one : PortBounds) (rules : Rules) (capacity : ℕ) (values : Values)
         → AreBounds zero → let b = founded_book zero one rules in let r = ranges_of b in
-        box_at b (fresh Zero 1 capacity) [] 0 ≡ founder (λ p. r.in_ranges p && r.at_start p) }
+        box_at b (fresh Zero 1 capacity values) [] 0
+        ≡ founder (λ p. r.in_ranges p && r.at_start p) }
 {}
 
 /// A record ends the wait of an endpoint (`ended` of its row) exactly where the endpoint's own proposal waited for the

@@ -1,9 +1,11 @@
 -- The step inside: what a gateway's step does to all but its fragments.
-use Rattle.std.proofs.Common.{◌≡◌, ◌⊎◌, inl, inr, ℕ, Option, None, Some, List, [], ◌∷◌, ◌++◌, refl, ap, ◌∙◌, sym, subst}
+use Rattle.std.proofs.Common.{◌≡◌, ◌⊎◌, inl, inr, ℕ, Option, None, Some, List, [], ◌∷◌, ◌++◌, false, refl, ap, ◌∙◌, sym, subst}
 use Rattle.std.specs.Borrow.{Bor}
 use Rattle.std.specs.Option.{IfSome}
 use Rattle.std.proofs.lemmas.List.Sorted.{IsPermutation-refl}
 use Rattle.nat_types.specs.declared.gateways.Side.{Side}
+use Rattle.link.specs.Link.{wanted}
+use Rattle.link.specs.Strays.{IsStray}
 use Rattle.output.specs.Output.{Output, Sent}
 use Rattle.fragments.specs.Bytes.{AreBytes}
 use Rattle.fragments.specs.Gathered.{Gathered}
@@ -12,7 +14,7 @@ use Rattle.spec_step.specs.declared.events.Event.TheVariants.{Frame, Datagram, T
 use Rattle.spec_step.specs.Machine.{HasBytes}
 use Rattle.spec_step.specs.OwnAnswers.{SaysJust}
 use Rattle.spec_step.specs.PassedOn.{TellsAll}
-use Rattle.spec_step.specs.Shown.{Shown, id_of, scene}
+use Rattle.spec_step.specs.Shown.{GatewayAndOutput, Shown, id_of, scene}
 use Rattle.spec_step.specs.Steps.{IsStepOn}
 use Rattle.spec_step.specs.Truly.{Tells, packets_of}
 use Rattle.spec_gateway.specs.Arrivals.{arrival}
@@ -39,6 +41,19 @@ part-nothing s told side bytes s2 told2 step none =
     let takes = subst (λ (o : Option (List ℕ)). Takes s.shown told (frame_event side o) s2.shown step.whole) none step.takes in
     let is = nothing s told (Frame side bytes) s2 told2 step takes in
     (state-is is.shown step.gathered_is is.numbered, is.told_is)
+
+-- ---- a stray
+
+-- a stray changes nothing in a step on a whole event
+abbrev pub StraysDrop : Type 0
+StraysDrop = (s : GatewayAndOutput) (bytes : Bor (List ℕ)) (s2 : GatewayAndOutput) → IsStray s.shown.link.values bytes.now → s.shown.link.due ≡ false → wanted s.shown.link ≡ 0 → IsStepOn s (Datagram bytes) s2 → s2 ≡ s
+
+pub stray-nothing : StraysDrop → (s : GatewayState) (told : Output) (bytes : Bor (List ℕ)) (s2 : GatewayState) (told2 : Output) → IsGatewayStep s told (Datagram bytes) s2 told2 → IsStray s.shown.link.values bytes.now → s.shown.link.due ≡ false → wanted s.shown.link ≡ 0
+    → (s2 ≡ s) × (told2 ≡ told)
+stray-nothing drops s told bytes s2 told2 step is due fed =
+    let same = drops (scene s.shown told) bytes (scene s2.shown step.whole) is due fed step.takes in
+    let x = nothing s told (Datagram bytes) s2 told2 step (ap (λ (y : GatewayAndOutput). y.shown) same, ap (λ (y : GatewayAndOutput). y.told) same) in
+    (state-is x.shown step.gathered_is x.numbered, x.told_is)
 
 -- ---- the event that is taken whole
 stands-for : (s : GatewayState) (event whole : Event) → whole_event s event ≡ Some whole → StandsFor event whole

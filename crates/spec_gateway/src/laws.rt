@@ -5,7 +5,10 @@ ghost use Rattle.std.specs.Borrow.{Bor};
 ghost use Rattle.std.specs.List.{AllByRecursion};
 ghost use Rattle.nat_types.specs.declared.gateways.Side.{Side};
 ghost use Rattle.output.specs.Output.{Output, Sent};
+ghost use Rattle.link.specs.Link.{wanted};
+ghost use Rattle.link.specs.Strays.{IsStray};
 ghost use Rattle.packet_rules.specs.declared.networks.Networks.{Networks};
+ghost use Rattle.packet_rules.specs.declared.reasons.Reason.TheVariants.{BadDatagram};
 ghost use Rattle.nat_types.specs.declared.gateways.GatewayId.{GatewayId};
 ghost use Rattle.nat_types.specs.declared.gateways.GatewayId.TheVariants.{Zero, One};
 ghost use Rattle.packet_rules.specs.Networks.{mtu_of};
@@ -14,7 +17,8 @@ ghost use Rattle.fragments.specs.Cut.{cut, identified};
 ghost use Rattle.fragments.specs.Gathered.{IsKept, is_young, of_side};
 ghost use Rattle.spec_binding.specs.Books.{IsBook};
 ghost use Rattle.spec_step.specs.declared.events.Event.{Event};
-ghost use Rattle.spec_step.specs.declared.events.Event.TheVariants.{Frame, Tick};
+ghost use Rattle.spec_step.specs.declared.events.Event.TheVariants.{Datagram, Frame, Tick};
+ghost use Rattle.spec_step.specs.declared.events.Outcome.TheVariants.{Dropped};
 ghost use Rattle.spec_step.specs.Machine.{HasBytes, KeepsBytes};
 ghost use Rattle.spec_step.specs.OwnAnswers.{SaysJust};
 ghost use Rattle.spec_step.specs.PassedOn.{TellsAll};
@@ -31,7 +35,7 @@ ghost use Rattle.spec_gateway.specs.Without.{IsUncut, without};
 use fragments::{bounded, fragment_grammar};
 use ipv4::ipv4_grammar;
 use packet_rules::readings_law;
-use spec_step::{steps_pass_on, steps_say, steps_tell};
+use spec_step::{steps_pass_on, steps_say, steps_tell, strays_are_dropped};
 
 /// A frame that brings nothing whole changes the fragments that are there, and nothing else. It tells nothing.
 pub fn part_is_nothing()
@@ -42,6 +46,21 @@ pub fn part_is_nothing()
         → (s2 ≡ record s { gathered = (arrival s side bytes.now).gathered })
         × (told2 ≡ told) }
 {}
+
+/// A stray, which is no datagram or one with other values than the link's, is dropped and changes nothing, where the link
+/// owes no datagram and has the records that it was promised, as it does between steps: the gateway is as it was, and sends
+/// and notes nothing.
+pub fn strays_change_nothing()
+    ensures step { (s : GatewayState) (told : Output) (bytes : Bor (List ℕ))
+        (s2 : GatewayState) (told2 : Output)
+        → IsGatewayStep s told (Datagram bytes) s2 told2 → IsStray s.shown.link.values bytes.now
+        → s.shown.link.due ≡ false → wanted s.shown.link ≡ 0 → (s2 ≡ s) × (told2 ≡ told) }
+    ensures outcome { (s : GatewayState) (bytes : Bor (List ℕ))
+        → IsStray s.shown.link.values bytes.now
+        → outcome_of s (Datagram bytes) ≡ Dropped BadDatagram }
+{
+    strays_are_dropped();
+}
 
 /// Of each side at most 64 datagrams are there of which fragments are missing, of one source at most 16, and of each at most
 /// 64 fragments: that stays so. After a tick none of them began 300 centiseconds ago or earlier.

@@ -7,4 +7,5 @@ mod laws;
 pub use laws::{
     as_without, fragments_stay_few, gateway_passes_on, gateway_says, gateway_tells, inner_steps,
     part_is_nothing, parts_stay_bytes, pieces_are_numbered, short_frames_stay,
+    strays_change_nothing,
 };

@@ -1,25 +1,33 @@
 -- After a step the link has the records that it was promised, as far as it has places; so a fragment changes nothing.
-use Rattle.std.proofs.Common.{◌≡◌, ℕ, ◌+◌, ◌-◌, min, Bool, true, false, cond, Result, Err, List, length, take, drop, refl, sym, ap, subst, ◌∙◌, arith}
+use Rattle.std.proofs.Common.{◌≡◌, ℕ, ◌+◌, ◌-◌, min, Bool, true, false, not, cond, Option, Some, Result, Ok, Err, List, length, take, drop, refl, sym, ap, subst, ◌∙◌, arith}
 use Rattle.std.specs.Borrow.{Bor}
 use Rattle.std.proofs.lemmas.List.{append-nil, length-append, length-take}
+use Rattle.nat_types.specs.Same.{same}
 use Rattle.nat_types.specs.declared.gateways.GatewayId.{GatewayId}
 use Rattle.nat_types.specs.declared.gateways.Side.{Side}
 use Rattle.nat_types.specs.declared.gateways.Side.TheVariants.{Inside, Outside}
 use Rattle.nat_types.specs.declared.records.Record.{Record}
 use Rattle.settings.specs.declared.whole.Settings.{Settings}
-use Rattle.link.specs.Link.{is_due_on_tick, sent_on_answer, sent_on_tick, wanted, with_fed}
+use Rattle.settings.specs.Values.{same_values}
+use Rattle.link.specs.declared.datagrams.Datagram.{Datagram}
+use Rattle.link.specs.declared.faults.LinkFault.{LinkFault}
+use Rattle.link.specs.declared.faults.LinkFault.TheVariants.{NotOurs, OtherSettings}
+use Rattle.link.specs.Link.{Link, is_due_on_tick, refusal, sent_on_answer, sent_on_tick, taken_of, taken_unless, taking, wanted, with_fed}
+use Rattle.link.specs.Reading.{reading}
+use Rattle.link.specs.Strays.{IsStray, is_stray}
 use Rattle.packet_rules.specs.declared.readings.Reading.{Reading}
 use Rattle.packet_rules.specs.declared.reasons.Reason.{Reason}
-use Rattle.packet_rules.specs.declared.reasons.Reason.TheVariants.{Fragment, SourceRoute}
+use Rattle.packet_rules.specs.declared.reasons.Reason.TheVariants.{BadDatagram, Fragment, SourceRoute}
 use Rattle.output.specs.Output.{Output, with_datagram}
 use Rattle.spec_binding.specs.Books.{IsBook}
 use Rattle.spec_step.specs.declared.events.Event.{Event}
 use Rattle.spec_step.specs.declared.events.Event.TheVariants.{Frame, Datagram as Comes, Tick, Stop, PeerOff, Side as SideIs}
+use Rattle.spec_step.specs.declared.events.Outcome.TheVariants.{Dropped}
 use Rattle.spec_step.specs.Founding.{begun, founded}
 use Rattle.spec_step.specs.Machine.{HasBytes, HasPushed, IsLoneRightly, KeepsBytes}
-use Rattle.spec_step.specs.Parts.{answer_sent, datagram_in, handed_in, link_answered, link_ticked, side_plugged}
+use Rattle.spec_step.specs.Parts.{answer_sent, datagram_in, datagram_read, handed_in, heard_unless, link_answered, link_ticked, side_plugged}
 use Rattle.spec_step.specs.Shown.{GatewayAndOutput, Shown, scene}
-use Rattle.spec_step.specs.Steps.{Does, FrameDoes, IsStepOn, ended_on}
+use Rattle.spec_step.specs.Steps.{Does, FrameDoes, IsStepOn, ended_on, outcome_heard, outcome_on}
 use Rattle.spec_step.specs.Verdict.{reading_on}
 use Rattle.spec_step.proofs.Packets.{Reads}
 use Rattle.spec_step.proofs.Stepping.{parts-stand}
@@ -61,6 +69,33 @@ pub route-drops : (s : GatewayAndOutput) (side : Side) (bytes : Bor (List ℕ)) 
 route-drops s side bytes s2 reads due fed step =
     let same : step.done ≡ s = subst (λ (r : Result Reading Reason). FrameDoes s side bytes.now r step.done) reads step.does in
     step.sends ∙ ap (λ (x : GatewayAndOutput). link_answered x) same ∙ ends-alone s due fed
+
+-- ---- strays
+
+-- a datagram with other values is refused, whatever else it says
+other-refused : (e : Link) (d : Datagram) → not (same_values d.values e.values) ≡ true → (fault : LinkFault) × (refusal e d ≡ Some fault)
+other-refused e d other = by (same d.sender e.id) (not (same_values d.values e.values)) _ other
+  where
+    by : (own differs : Bool) (rest : Option LinkFault) → differs ≡ true → (fault : LinkFault) × ((let o : Option LinkFault = cond own (Some NotOurs) (cond differs (Some OtherSettings) rest) in o) ≡ Some fault)
+    by true differs rest is = (NotOurs, refl)
+    by false differs rest is = (OtherSettings, ap (λ (b : Bool). let o : Option LinkFault = cond b (Some OtherSettings) rest in o) is)
+
+-- it changes nothing, and what is no datagram doesn't either
+stray-unheard : (s : GatewayAndOutput) (r : Result Datagram LinkFault) → is_stray s.shown.link.values r ≡ true → datagram_read s r ≡ s
+stray-unheard s (Ok d) is = ap (λ (o : Option LinkFault). heard_unless s d o) (other-refused s.shown.link d is).1
+stray-unheard s (Err fault) is = refl
+
+pub stray-drops : (s : GatewayAndOutput) (bytes : Bor (List ℕ)) (s2 : GatewayAndOutput) → IsStray s.shown.link.values bytes.now → s.shown.link.due ≡ false → wanted s.shown.link ≡ 0 → IsStepOn s (Comes bytes) s2 → s2 ≡ s
+stray-drops s bytes s2 is due fed step =
+    let same : step.done ≡ s = step.does ∙ stray-unheard s (reading bytes.now) is in
+    step.sends ∙ ap (λ (x : GatewayAndOutput). link_answered x) same ∙ ends-alone s due fed
+
+stray-dropped : (e : Link) (r : Result Datagram LinkFault) → is_stray e.values r ≡ true → outcome_heard (taking e r) ≡ Dropped BadDatagram
+stray-dropped e (Ok d) is = ap (λ (o : Option LinkFault). outcome_heard (taken_unless o (taken_of e d))) (other-refused e d is).1
+stray-dropped e (Err fault) is = refl
+
+pub stray-outcome : (g : Shown) (bytes : Bor (List ℕ)) → IsStray g.link.values bytes.now → outcome_on g (Comes bytes) ≡ Dropped BadDatagram
+stray-outcome g bytes is = stray-dropped g.link (reading bytes.now) is
 
 -- ---- what is fed
 

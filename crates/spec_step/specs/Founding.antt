@@ -8,6 +8,7 @@ use Rattle.settings.specs.declared.choice.Choice.{Choice as Chosen}
 use Rattle.settings.specs.declared.choice.Choice.TheVariants as chosen
 use Rattle.settings.specs.declared.ranges.PortRange.{PortRange}
 use Rattle.settings.specs.declared.whole.Settings.{Settings}
+use Rattle.settings.specs.Values.{values_of}
 use Rattle.slots.specs.declared.hashers.Hashers.TheVariants.{Fixed}
 use Rattle.bindings.specs.declared.entries.PortBounds.{PortBounds}
 use Rattle.bindings.specs.Ports.{AreBounds, key_count}
@@ -64,7 +65,7 @@ begun settings id boot =
       stopped = false;
       away = false;
       ledger = bare_ledger book settings.inward_refresh Fixed;
-      link = fresh id boot (link_places zero one);
+      link = fresh id boot (link_places zero one) (values_of settings);
       inside = new_station settings id Inside;
       outside = new_station settings id Outside;
       kept = [];

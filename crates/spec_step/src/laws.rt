@@ -27,6 +27,7 @@ ghost use Rattle.icmp.specs.declared.packets.ErrorFlow.{ErrorFlow};
 ghost use Rattle.interfaces.specs.Stations.{is_active, new_station};
 ghost use Rattle.link.specs.Hearing.{peer_serves};
 ghost use Rattle.link.specs.Link.{wanted};
+ghost use Rattle.link.specs.Strays.{IsStray};
 ghost use Rattle.output.specs.Output.{Sent};
 ghost use Rattle.packet_rules.specs.declared.readings.Asked.{Asked as Echo};
 ghost use Rattle.ipv4.specs.declared.flows.Flow.{Flow};
@@ -38,7 +39,7 @@ ghost use Rattle.packet_rules.specs.declared.networks.Networks.{Networks};
 ghost use Rattle.packet_rules.specs.declared.networks.Peer.{Peer};
 ghost use Rattle.packet_rules.specs.declared.readings.Reading.TheVariants.{Arp};
 ghost use Rattle.packet_rules.specs.declared.reasons.Reason.{Reason};
-ghost use Rattle.packet_rules.specs.declared.reasons.Reason.TheVariants.{Fragment, HostLimit, NoPort, SourceRoute, TooLong};
+ghost use Rattle.packet_rules.specs.declared.reasons.Reason.TheVariants.{BadDatagram, Fragment, HostLimit, NoPort, SourceRoute, TooLong};
 ghost use Rattle.packet_rules.specs.declared.translations.Translation.{Translation};
 ghost use Rattle.packet_rules.specs.declared.translations.Translation.TheVariants as goes;
 ghost use Rattle.packet_rules.specs.Arping.{is_learnable};
@@ -59,7 +60,7 @@ ghost use Rattle.spec_binding.specs.Books.{IsBook, is_lone, is_synced};
 ghost use Rattle.spec_binding.specs.Ledgers.{go_on_all, release_all};
 ghost use Rattle.spec_binding.specs.Serving.{serving};
 ghost use Rattle.spec_step.specs.declared.events.Event.{Event};
-ghost use Rattle.spec_step.specs.declared.events.Event.TheVariants.{Frame, Tick};
+ghost use Rattle.spec_step.specs.declared.events.Event.TheVariants.{Datagram as Comes, Frame, Tick};
 ghost use Rattle.spec_step.specs.declared.events.Outcome.TheVariants as outcome;
 ghost use Rattle.spec_step.specs.declared.plans.Plan.TheVariants.{Send as SendBy, Wait as WaitForPair};
 ghost use Rattle.spec_step.specs.Apart.{IsUnmoved, WaitsForNobody};
@@ -82,7 +83,7 @@ ghost use Rattle.spec_step.specs.Shown.{GatewayAndOutput, Shown, has_side_out, i
 ghost use Rattle.spec_step.specs.Sayings.{AreOwnIn};
 ghost use Rattle.spec_step.specs.Seconds.{AreStepsSaying, StepOwn, answers_at, complaints_at, in_second};
 ghost use Rattle.spec_step.specs.Shown.{with_notes};
-ghost use Rattle.spec_step.specs.Steps.{Does, IsStepOn};
+ghost use Rattle.spec_step.specs.Steps.{Does, IsStepOn, outcome_on};
 ghost use Rattle.spec_step.specs.TakingOver.{AreSilentSteps, HearsAdvert, IsBehind, IsSilentStep};
 ghost use Rattle.spec_step.specs.TakingOver.{IsAdvertFrom, router_on};
 ghost use Rattle.vrrp_states.specs.declared.State.TheVariants.{Backup};
@@ -674,6 +675,17 @@ pub fn source_routes_are_dropped()
     ensures { (s : GatewayAndOutput) (side : Side) (bytes : Bor (List ℕ)) (s2 : GatewayAndOutput)
         → reading_on s.shown side bytes.now ≡ Err SourceRoute → s.shown.link.due ≡ false
         → wanted s.shown.link ≡ 0 → IsStepOn s (Frame side bytes) s2 → s2 ≡ s }
+{}
+
+/// A stray, which is no datagram or one with other values than the link's, is dropped and nothing else
+/// happens, where the link owes no datagram and has the records that it was promised, as it does
+/// between steps.
+pub fn strays_are_dropped()
+    ensures step { (s : GatewayAndOutput) (bytes : Bor (List ℕ)) (s2 : GatewayAndOutput)
+        → IsStray s.shown.link.values bytes.now → s.shown.link.due ≡ false
+        → wanted s.shown.link ≡ 0 → IsStepOn s (Comes bytes) s2 → s2 ≡ s }
+    ensures outcome { (g : Shown) (bytes : Bor (List ℕ)) → IsStray g.link.values bytes.now
+        → outcome_on g (Comes bytes) ≡ outcome.Dropped BadDatagram }
 {}
 
 /// The link has the records that it was promised, as far as it has places for them, after each step

@@ -25,6 +25,7 @@ returns-clause-gateway c =
       places = rw (lasts.zero, lasts.one) (lasts.capacity ∙ g.places);
       house = rw (lasts.networks, lasts.inside, lasts.outside) g.house;
       settled = c.steps_settle.ensures.settled s c.args.event s2 step g.settled;
+      fed = c.steps_feed.ensures.step s c.args.event s2 g.history step c.recall_event.ensures g.book g.lone g.bytes g.pushed g.fed;
     }
 
 pub returns-clause-stays : goal.returns-clause-stays
@@ -38,6 +39,7 @@ returns-clause-stays c =
     record {
       networks_are = c.steps_stay.ensures.networks s c.args.event s2 step c.recall_event.ensures g.book g.bytes c.recall_set_up.ensures;
       id_is = c.steps_stay.ensures.id s c.args.event s2 step c.recall_event.ensures g.book g.bytes;
+      values_are = (step-lasts s c.args.event done s2 g.moment c.in_ok-outcome.ensures.does c.end_event.ensures).values;
       sent = front.0;
       sent_are = front.1;
     }
