@@ -6,6 +6,7 @@ import os
 import pwd
 import socket
 import time
+import tomllib
 from typing import NamedTuple
 
 from cards import card
@@ -39,9 +40,18 @@ FORGER_MAC = b"\x02\0\0\0\0\x99"
 THROUGH, HELD = "gets through", "nothing changes"
 
 
+def values():
+    """The bytes of a datagram that say on which settings its sender runs. A forger may well know them."""
+    settings = tomllib.loads(SETTINGS.read_text(encoding="utf-8"))
+    ports = [port for name in ("zero", "one") for port in settings["ports"][name]]
+    sides = [settings[name] for name in ("inside", "outside")]
+    return (b"".join(port.to_bytes(2, "big") for port in ports) + b"".join(ip_bytes(side["virtual"]) for side in sides)
+            + bytes(side["prefix"] for side in sides))
+
+
 def header(sender, receiver_boot, count):
-    return (b"NP\x03" + bytes((sender,)) + FALSE_BOOT.to_bytes(8, "big") + receiver_boot.to_bytes(8, "big") + b"\0"
-            + (0).to_bytes(8, "big") + (1).to_bytes(8, "big") + bytes((count,)))
+    return (b"NP\x04" + bytes((sender,)) + FALSE_BOOT.to_bytes(8, "big") + receiver_boot.to_bytes(8, "big") + values()
+            + b"\0" + (0).to_bytes(8, "big") + (1).to_bytes(8, "big") + bytes((count,)))
 
 
 def install(sender):

@@ -6,7 +6,7 @@
 -- A UDP datagram that begins with the letters NP and has the version is taken for one, whatever its port; and so is
 -- what comes in a frame of EtherType 0x88b5, as at link0 and link1 of a capture of `natpair sim`.
 
-local VERSION = 3
+local VERSION = 4
 -- The link's port as a new box.conf has it, and the one that older pairs keep.
 local LINK_PORTS = { 340, 7000 }
 local LOCAL_EXPERIMENTS = 0x88b5
@@ -30,6 +30,14 @@ local field = {
   sender = ProtoField.uint8("natpair.sender", "Sender"),
   boot = ProtoField.uint64("natpair.boot", "Sender's boot"),
   receiver_boot = ProtoField.uint64("natpair.receiver_boot", "Receiver's boot"),
+  zero_first = ProtoField.uint16("natpair.zero_first", "First port of range zero"),
+  zero_last = ProtoField.uint16("natpair.zero_last", "Last port of range zero"),
+  one_first = ProtoField.uint16("natpair.one_first", "First port of range one"),
+  one_last = ProtoField.uint16("natpair.one_last", "Last port of range one"),
+  inside_virtual = ProtoField.ipv4("natpair.inside_virtual", "Inside virtual address"),
+  outside_virtual = ProtoField.ipv4("natpair.outside_virtual", "Outside virtual address"),
+  inside_prefix = ProtoField.uint8("natpair.inside_prefix", "Inside prefix"),
+  outside_prefix = ProtoField.uint8("natpair.outside_prefix", "Outside prefix"),
   status = ProtoField.uint8("natpair.status", "Status", base.DEC, STATUS),
   delivered = ProtoField.uint64("natpair.delivered", "Count delivered"),
   first = ProtoField.uint64("natpair.first", "First record's number"),
@@ -137,6 +145,18 @@ function Reader:record(tree, place)
   return TAGS[tag and tag:uint()] or "?"
 end
 
+-- On which settings the sender runs.
+function Reader:values(tree)
+  self:add(tree, field.zero_first, 2)
+  self:add(tree, field.zero_last, 2)
+  self:add(tree, field.one_first, 2)
+  self:add(tree, field.one_last, 2)
+  self:add(tree, field.inside_virtual, 4)
+  self:add(tree, field.outside_virtual, 4)
+  self:add(tree, field.inside_prefix, 1)
+  self:add(tree, field.outside_prefix, 1)
+end
+
 -- The fields before the records; how many records there are, and the first one's number.
 function Reader:header(tree)
   self:add(tree, field.start, 2)
@@ -144,6 +164,7 @@ function Reader:header(tree)
   local sender = self:add(tree, field.sender, 1)
   local boot = self:add(tree, field.boot, 8)
   self:add(tree, field.receiver_boot, 8)
+  self:values(tree)
   local status = self:add(tree, field.status, 1)
   self:add(tree, field.delivered, 8)
   local first = self:add(tree, field.first, 8)

@@ -48,8 +48,10 @@ const ACTIVE: u64 = 360;
 const ADVERT_INTERVAL: u64 = 100;
 const LINK_INTERVAL: u64 = 10;
 const HEARD_FOR: u64 = 300;
-const DATAGRAM_HEADER: usize = 38;
-const LONGEST_DATAGRAM: usize = 2214;
+const DATAGRAM_HEADER: usize = 56;
+const LONGEST_DATAGRAM: usize = 2232;
+/// What both boxes run on, as a datagram says it: two ranges of ports, two addresses, two prefix lengths.
+const VALUES: [u8; 18] = [0x4e, 0x20, 0x9c, 0x3f, 0x9c, 0x40, 0xea, 0x5f, 192, 168, 1, 1, 192, 0, 2, 1, 24, 24];
 const RECORDS: usize = 64;
 /// So many records may wait.
 const PLACES: usize = 240_066;
@@ -728,9 +730,10 @@ impl Link {
 
     fn write(&mut self, out: &mut Out) {
         let (start, count) = (out.datagrams.len(), self.waiting.len().min(RECORDS));
-        out.datagrams.extend_from_slice(&[b'N', b'P', 3, self.id]);
+        out.datagrams.extend_from_slice(&[b'N', b'P', 4, self.id]);
         out.datagrams.extend_from_slice(&self.boot.to_be_bytes());
         out.datagrams.extend_from_slice(&self.known.to_be_bytes());
+        out.datagrams.extend_from_slice(&VALUES);
         out.datagrams.push(1);
         out.datagrams.extend_from_slice(&self.taken.to_be_bytes());
         out.datagrams.extend_from_slice(&(self.acknowledged + 1).to_be_bytes());
@@ -743,15 +746,15 @@ impl Link {
     /// The new records of a datagram, and whether a greater boot was heard.
     fn take(&mut self, bytes: &[u8], now: u64, records: &mut [Record; RECORDS]) -> Option<(bool, usize)> {
         let word = |at: usize| u64::from_be_bytes(bytes[at..at + 8].try_into().expect("eight bytes"));
-        if bytes.len() < DATAGRAM_HEADER || bytes[..3] != [b'N', b'P', 3] || bytes[3] > 1 || bytes[20] > 1 || bytes[37] as usize > RECORDS {
+        if bytes.len() < DATAGRAM_HEADER || bytes[..3] != [b'N', b'P', 4] || bytes[3] > 1 || bytes[38] > 1 || bytes[55] as usize > RECORDS {
             return None;
         }
-        let (boot, receiver, delivered, first) = (word(4), word(12), word(21), word(29));
-        if bytes[3] == self.id || boot == 0 || boot < self.known || first == 0 {
+        let (boot, receiver, delivered, first) = (word(4), word(12), word(39), word(47));
+        if bytes[3] == self.id || bytes[20..38] != VALUES || boot == 0 || boot < self.known || first == 0 {
             return None;
         }
         let mut reader = Reader(&bytes[DATAGRAM_HEADER..]);
-        let count = usize::from(bytes[37]);
+        let count = usize::from(bytes[55]);
         for place in &mut records[..count] {
             *place = reader.record()?;
         }

@@ -12,10 +12,12 @@ import sys
 import time
 
 FIRST = {"synced": 1, "inside": 1, "outside": 1, "inside_up": 1, "outside_up": 1, "boot": 4, "heard": True,
-         "answers": True, "seen": [], "told": False}
+         "answers": True, "seen": [], "told": False, "other": 0}
 STATUS = """# HELP natpair_info The box, and a digest of its settings.
 # TYPE natpair_info gauge
 natpair_info{{box="0",digest="00000000deadbeef"}} 1
+natpair_other_settings {other}
+natpair_other_settings_datagrams_total {other}
 natpair_synced {synced}
 natpair_active{{side="inside"}} {inside}
 natpair_active{{side="outside"}} {outside}

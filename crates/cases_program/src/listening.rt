@@ -8,7 +8,7 @@ use std::io::{ErrorKind, Read};
 use std::net::{Ipv4Addr, SocketAddr, SocketAddrV4};
 
 /// The length of the longest datagram of the link, in bytes.
-const LONGEST: usize = 2_214;
+const LONGEST: usize = 2_232;
 
 /// Returns a port of the loopback address.
 fn at(port: u16) -> SocketAddr {

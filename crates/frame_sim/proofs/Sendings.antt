@@ -1,4 +1,4 @@
--- The datagram of a step: at most one, and at most 2,214 bytes long.
+-- The datagram of a step: at most one, and at most 2,232 bytes long.
 use Rattle.std.proofs.Common.{◌≡◌, ◌≤◌, ◌+◌, ℕ, zero, suc, inl, inr, List, [], ◌∷◌, length, map, drop, Option, Some, None, refl, sym, ap, subst, ◌∙◌, arith}
 use Rattle.std.specs.List.{AllByRecursion}
 use Rattle.std.specs.Prelude.{slice_get}
@@ -84,12 +84,12 @@ nth-first [] (suc n) = refl
 nth-first (x ∷ xs) zero = refl
 nth-first (x ∷ xs) (suc n) = nth-first xs n
 
-pub one-found : (xs : List (List ℕ)) (n : ℕ) (b : List ℕ) → IsShort (drop n xs) → Some b ≡ slice_get xs n → (drop n xs ≡ b ∷ []) × (length b ≤ 2214)
+pub one-found : (xs : List (List ℕ)) (n : ℕ) (b : List ℕ) → IsShort (drop n xs) → Some b ≡ slice_get xs n → (drop n xs ≡ b ∷ []) × (length b ≤ 2232)
 one-found xs n b is found = at (drop n xs) is (found ∙ nth-first xs n)
   where
-    at : (rest : List (List ℕ)) → IsShort rest → Some b ≡ slice_get rest 0 → (rest ≡ b ∷ []) × (length b ≤ 2214)
+    at : (rest : List (List ℕ)) → IsShort rest → Some b ≡ slice_get rest 0 → (rest ≡ b ∷ []) × (length b ≤ 2232)
     at [] is found = absurd (cc)
-    at (d ∷ []) is found = let same : b ≡ d = cc in (ap (λ x. x ∷ []) (sym same), subst (λ x. length x ≤ 2214) (sym same) is)
+    at (d ∷ []) is found = let same : b ≡ d = cc in (ap (λ x. x ∷ []) (sym same), subst (λ x. length x ≤ 2232) (sym same) is)
     at (d ∷ e ∷ ds) is found = absurd is
 
 pub none-found : (xs : List (List ℕ)) (n : ℕ) → (let o : Option (List ℕ) = None in o) ≡ slice_get xs n → drop n xs ≡ []

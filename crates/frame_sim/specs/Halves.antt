@@ -21,10 +21,10 @@ use Rattle.frame_sim.specs.Events.{kth, since}
 abbrev pub items_of : {Z : Type 0} → List (Vec ℕ Z) → List (List ℕ)
 items_of vs = map (λ v. v.items) vs
 
--- at most one datagram, and none longer than 2,214 bytes
+-- at most one datagram, and none longer than 2,232 bytes
 abbrev pub IsShort : List (List ℕ) → Type 0
 IsShort [] = Unit {0}
-IsShort (bytes ∷ []) = length bytes ≤ 2214
+IsShort (bytes ∷ []) = length bytes ≤ 2232
 IsShort (bytes ∷ more ∷ rest) = ⊥
 
 -- a gateway takes a step, in which it tells truly

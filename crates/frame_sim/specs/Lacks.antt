@@ -23,10 +23,10 @@ use Rattle.gateway.specs.Lacks.{LacksGateway, LacksMemory}
 use Rattle.frame_sim.specs.World.{Half, World, gateway_at, half, moment_of, settings_of, state_at}
 use Rattle.frame_sim.specs.Events.{kth, noting}
 
--- There was no memory for what a gateway may send and note in a step: for the longest datagram (2,214 bytes), for its
+-- There was no memory for what a gateway may send and note in a step: for the longest datagram (2,232 bytes), for its
 -- place among those sent, or for the notes' places on the trace.
 unfoldable pub WasUnready : Shown → Type 0
-WasUnready g = Unit {0} × (WasRefused 2214 ⊎ (WasRefused 1 ⊎ WasRefused (most_notes g)))
+WasUnready g = Unit {0} × (WasRefused 2232 ⊎ (WasRefused 1 ⊎ WasRefused (most_notes g)))
 
 -- The gateway was to take this event, and an allocation was refused that its step needs, on an output page without the
 -- space for it.

@@ -30,7 +30,7 @@ use std::alloc::Global;
 use std::marker::Model;
 
 /// The longest datagram, in bytes.
-const LONGEST_DATAGRAM: usize = 2214;
+const LONGEST_DATAGRAM: usize = 2232;
 
 /// One of the two gateways of a world: the gateway where it is up, the number of its last boot (0 where it never
 /// booted), and all datagrams that it ever sent.
@@ -88,7 +88,7 @@ fn append_datagram(sent: &mut Vec<Vec<u8>>, letter: Vec<u8>, out: &Out, told: us
     requires few { IsShort (drop told out.now.datagrams) }
     requires place { vec_len sent.old < vec_capacity sent.old }
     requires empty { letter.items ≡ [] }
-    requires room { vec_len letter + 2214 ≤ vec_capacity letter }
+    requires room { vec_len letter + 2232 ≤ vec_capacity letter }
     ensures { items_of sent.new.items ≡ items_of sent.old.items ++ drop told out.now.datagrams }
 {
     if let Some(bytes) = out.datagrams().nth(told) {
@@ -107,7 +107,7 @@ fn room_for_step(
     trace: &mut Vec<Note>,
 ) -> Result<Vec<u8>, NoMemory>
     ensures empty { IfOk result (λ letter. letter.items ≡ []) }
-    ensures room { IfOk result (λ letter. vec_len letter + 2214 ≤ vec_capacity letter) }
+    ensures room { IfOk result (λ letter. vec_len letter + 2232 ≤ vec_capacity letter) }
     ensures place { OnOk result (vec_len sent.new < vec_capacity sent.new) }
     ensures notes { OnOk result
         (vec_len trace.new + most_notes gateway.now.shown ≤ vec_capacity trace.new) }

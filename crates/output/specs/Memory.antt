@@ -14,4 +14,4 @@ LacksFrames frames octets = WasRefused frames ⊎ LacksPile frames (1514 * frame
 -- no memory was obtained for this capacity: for the frames, the datagrams, or the notes
 abbrev pub LacksPage : Room → Type 0
 LacksPage room = LacksFrames room.frames room.octets
-    ⊎ (LacksPile room.datagrams (2214 * room.datagrams) ⊎ WasRefused room.notes)
+    ⊎ (LacksPile room.datagrams (2232 * room.datagrams) ⊎ WasRefused room.notes)

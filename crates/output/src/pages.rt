@@ -19,9 +19,9 @@ use std::{mem, slice};
 const LONGEST_FRAME: usize = 1514;
 
 /// The most bytes of a datagram: a header of 38 and 64 records of at most 34.
-const LONGEST_DATAGRAM: usize = 2214;
+const LONGEST_DATAGRAM: usize = 2232;
 
-/// A capacity: numbers of frames of up to 1,514 bytes each, of datagrams of up to 2,214 bytes each,
+/// A capacity: numbers of frames of up to 1,514 bytes each, of datagrams of up to 2,232 bytes each,
 /// and of notes; and for frames that are longer the number of bytes beyond these.
 #[derive(Clone, Copy, Debug, PartialEq, Eq, Default)]
 pub struct Room {
@@ -61,7 +61,7 @@ impl Model for OutputBuffer {
     ghost invariant = { λ p. (length p.sides.items ≡ length p.frames.strings)
         × (vec_len p.sides + p.room.frames ≤ vec_capacity p.sides)
         × HasRoom p.room.frames 1514 p.room.octets p.frames.places p.frames.octets
-        × HasRoom p.room.datagrams 2214 0 p.datagrams.places p.datagrams.octets
+        × HasRoom p.room.datagrams 2232 0 p.datagrams.places p.datagrams.octets
         × (vec_len p.notes + p.room.notes ≤ vec_capacity p.notes) };
 }
 
@@ -186,7 +186,7 @@ impl OutputBuffer {
     pub fn make_datagram<W: WriteBytes>(&mut self, datagram: &W)
         requires ready { W.can_write datagram.now }
         requires room { 0 < self.old.room.datagrams }
-        requires short { W.room datagram.now ≤ 2214 }
+        requires short { W.room datagram.now ≤ 2232 }
         ensures told { self.new.told ≡ with_datagram self.old.told (W.bytes datagram.now) }
         ensures room { self.old.room
             ≡ record self.new.room { datagrams = self.new.room.datagrams + 1 } }

@@ -14,7 +14,7 @@ use std::time::{Duration, Instant};
 /// How long a socket waits for its own datagram, in milliseconds.
 const RECEIVE_TIMEOUT_MS: u64 = 1_000;
 
-/// The size of a receive buffer in bytes: a frame of a script has at most 2,000, and a datagram of the link 2,214.
+/// The size of a receive buffer in bytes: a frame of a script has at most 2,000, and a datagram of the link 2,232.
 const RECEIVE_BUFFER: usize = 4_096;
 
 /// A UDP socket on the loopback address that sends to itself.

@@ -6,7 +6,7 @@ use crate::Losses;
 use nat_types::Side;
 use std::time::Duration;
 
-/// How many bytes of a datagram are received or sent at most. A datagram of the link has at most 2,214 bytes, and a frame
+/// How many bytes of a datagram are received or sent at most. A datagram of the link has at most 2,232 bytes, and a frame
 /// 1,514. Of a longer datagram the end is lost, and what is received is too long for both.
 pub const MAX_DATAGRAM: usize = 4_096;
 
