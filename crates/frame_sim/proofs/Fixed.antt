@@ -14,7 +14,7 @@ use Rattle.spec_step.specs.declared.secrets.Secrets.{Secrets}
 use Rattle.spec_step.specs.Founding.{begun, choice_of, founded, keyed, with_secrets, zero_key}
 use Rattle.spec_step.specs.Shown.{Shown}
 
-fixed : Secrets
+abbrev fixed : Secrets
 fixed = record { hashers = Fixed; key = zero_key }
 
 -- hashers that weren't drawn are the fixed ones
@@ -27,7 +27,7 @@ keyed-is : (choice : Chosen) → keyed zero_key (choice_of choice) ≡ choice_of
 keyed-is chosen.Lowest = refl
 keyed-is chosen.Drawn = refl
 
-with-choice : Shown → Choice → Shown
+abbrev with-choice : Shown → Choice → Shown
 with-choice g choice = record g { ledger = record g.ledger { book = record g.ledger.book { choice = choice } } }
 
 -- a gateway begins with the fixed secrets
