@@ -1,7 +1,7 @@
 -- A stray changes nothing, so a sound world stays as it is.
-use Rattle.std.proofs.Common.{◌≡◌, false, ℕ, List, ◌++◌, Option, Some, None, Result, Ok, Err, refl, sym, ap, subst, ◌∙◌}
+use Rattle.std.proofs.Common.{◌≡◌, Bool, true, false, ℕ, List, ◌++◌, Option, Some, None, Result, Ok, Err, refl, sym, ap, subst, ◌∙◌}
 use Rattle.std.specs.Borrow.{Bor}
-use Rattle.std.specs.Prelude.{IfOk, OnErr}
+use Rattle.std.specs.Prelude.{IfErr, IfOk, OnErr, OnOk}
 use Rattle.nat_types.specs.declared.gateways.GatewayId.{GatewayId}
 use Rattle.nat_types.specs.declared.gateways.GatewayId.TheVariants.{Zero, One}
 use Rattle.nat_types.specs.declared.notes.Note.{Note}
@@ -18,7 +18,12 @@ use Rattle.spec_step.specs.Shown.{Shown}
 use Rattle.spec_gateway.specs.State.{GatewayState}
 use Rattle.spec_gateway.specs.Steps.{IsGatewayStep, lent, outcome_of}
 use Rattle.frame_sim.specs.World.{Half, World, half, settings_of, shown_at, state_at, values_in, with_half}
-use Rattle.frame_sim.specs.Events.{ChangesNothing, Strays, TakesAt, outcome_of_stray, since}
+use Rattle.nat_types.specs.declared.events.WorldEvent.{WorldEvent}
+use Rattle.frame_sim.specs.declared.events.WorldFault.{WorldFault}
+use Rattle.frame_sim.specs.declared.events.WorldFault.TheVariants.{NoMemory, PremiseBroken}
+use Rattle.frame_sim.specs.Events.{ChangesNothing, Does, Strays, TakesAt, may_stray, outcome_of_stray, refusal, since, unless}
+use Rattle.frame_sim.specs.Lacks.{IsUnheard, Lacks}
+use Rattle.frame_sim.specs.Runs.{Answers, fault_of}
 use Rattle.frame_sim.specs.Halves.{StepsAt}
 use Rattle.frame_sim.specs.Scene.{GoesBy, IsSound}
 use Rattle.frame_sim.proofs.Lending.{datagram-lent}
@@ -101,3 +106,11 @@ lent-so w i (Err e) bytes told told2 w2 t = tt
 pub stray-takes : {E : Type 0} (w : World) (i : GatewayId) (result : Result Outcome E) (bytes : Bor (List ℕ)) (told told2 : Output) (h2 : Half) (trace2 : List Note)
     → IfOk result (λ o. StepsAt (half w i) (state_at w i) w.trace (given.Datagram bytes) told o told2 h2 trace2) → IfOk result (λ o. Strays w i bytes.now told o told2 (with_half w i h2 trace2))
 stray-takes w i result bytes told told2 h2 trace2 s = lent-so w i result bytes told told2 (with_half w i h2 trace2) (hand-takes w i result (given.Datagram bytes) told told2 h2 trace2 s)
+
+-- the answer to an event that brings these bytes as a stray
+pub stray-answers : (w : World) (i : GatewayId) (e : WorldEvent) (bytes : List ℕ) (told told2 : Output) (w2 : World) → refusal w e ≡ unless (may_stray w bytes) PremiseBroken → ((o : Outcome) → Strays w i bytes told o told2 w2 → Does w e told o told2 w2)
+    → (IsUnheard (state_at w i) bytes → Lacks w e) → (result : Result Outcome WorldFault) → OnOk result (may_stray w bytes ≡ true) → IfOk result (λ o. Strays w i bytes told o told2 w2)
+    → IfErr result (λ fault. fault ≡ fault_of (unless (may_stray w bytes) PremiseBroken)) → IfErr result (λ fault. fault ≡ NoMemory → IsUnheard (state_at w i) bytes)
+    → OnErr result (w2 ≡ w) → OnErr result (told2 ≡ told) → Answers w e told result told2 w2
+stray-answers w i e bytes told told2 w2 why does lacks (Ok o) may takes fault short same untold = (why ∙ ap (λ (b : Bool). unless b PremiseBroken) may, does o takes)
+stray-answers w i e bytes told told2 w2 why does lacks (Err f) may takes fault short same untold = (fault ∙ ap fault_of (sym why), (λ none. lacks (short none)), untold, same)

@@ -8,11 +8,11 @@ use Rattle.nat_types.specs.declared.gateways.GatewayId.TheVariants.{Zero, One}
 use Rattle.nat_types.specs.declared.notes.NoteKind.TheVariants.{Crashed, Booted}
 use Rattle.nat_types.specs.declared.notes.Note.{Note}
 use Rattle.nat_types.specs.declared.records.Record.{Record}
-use Rattle.settings.specs.declared.ranges.PortRange.{PortRange}
 use Rattle.settings.specs.declared.ranges.PortRanges.{PortRanges}
 use Rattle.settings.specs.declared.values.Values.{Values}
 use Rattle.settings.specs.Values.{values_of}
 use Rattle.settings.specs.declared.whole.Settings.{Settings}
+use Rattle.bindings.specs.declared.entries.PortBounds.{PortBounds}
 use Rattle.bindings.specs.Ports.{AreBounds}
 use Rattle.spec_pair.specs.Acts as act
 use Rattle.spec_pair.specs.Box.{Box, bare, booted}
@@ -125,16 +125,16 @@ begun-box law settings i n =
     sym (law i zero one (rules_of settings) n (link_places zero one) (values_of settings))
 
 -- a gateway that begins is that of its number, by the ranges of either settings
-begun-that : (settings own : Settings) (i : GatewayId) (n : ℕ) → own.ports.zero ≡ settings.ports.zero → own.ports.one ≡ settings.ports.one → IsThat settings.ports i n (begun own i n) []
+begun-that : (settings own : Settings) (i : GatewayId) (n : ℕ) → bounds_of own.ports.zero ≡ bounds_of settings.ports.zero → bounds_of own.ports.one ≡ bounds_of settings.ports.one → IsThat settings.ports i n (begun own i n) []
 unfolding begun
-begun-that settings own i n zero one = record { id = refl; zero = ap bounds_of zero; one = ap bounds_of one; boot = refl; pushed = record { counted = omega arith; coming = refl; behind = refl } }
+begun-that settings own i n zero one = record { id = refl; zero = zero; one = one; boot = refl; pushed = record { counted = omega arith; coming = refl; behind = refl } }
 
 -- settings with the same values have the same ranges
-range-zero : (settings settings_one : Settings) → HaveSameValues settings settings_one → settings_one.ports.zero ≡ settings.ports.zero
-range-zero settings settings_one same = ap (λ (v : Values). let r : PortRange = record { lowest = v.zero_lowest; highest = v.zero_highest } in r) same
+range-zero : (settings settings_one : Settings) → HaveSameValues settings settings_one → bounds_of settings_one.ports.zero ≡ bounds_of settings.ports.zero
+range-zero settings settings_one same = ap (λ (v : Values). let b : PortBounds = record { lowest = v.zero_lowest; highest = v.zero_highest } in b) same
 
-range-one : (settings settings_one : Settings) → HaveSameValues settings settings_one → settings_one.ports.one ≡ settings.ports.one
-range-one settings settings_one same = ap (λ (v : Values). let r : PortRange = record { lowest = v.one_lowest; highest = v.one_highest } in r) same
+range-one : (settings settings_one : Settings) → HaveSameValues settings settings_one → bounds_of settings_one.ports.one ≡ bounds_of settings.ports.one
+range-one settings settings_one same = ap (λ (v : Values). let b : PortBounds = record { lowest = v.one_lowest; highest = v.one_highest } in b) same
 
 begun-at : (w : World) (i : GatewayId) (n : ℕ) → HaveSameValues w.settings w.settings_one → IsThat w.settings.ports i n (begun (settings_of w i) i n) []
 begun-at w Zero n same = begun-that w.settings w.settings Zero n refl refl

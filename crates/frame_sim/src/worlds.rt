@@ -18,7 +18,7 @@ ghost use Rattle.frame_sim.specs.Events.{ChangesNothing, Strays, TakesAt, datagr
 ghost use Rattle.frame_sim.specs.Lacks.{IsUnheard, IsUnnoted, IsUnowned, IsUnpaired, IsUnstepped, IsUntranslated, WasUnbegun, WasUnrun, WasUntold, WasUntraced};
 ghost use Rattle.frame_sim.specs.Runs.{Answers, AreSteps, Gives, WasTaken, fault_of};
 ghost use Rattle.frame_sim.specs.Scene.{IsHanded};
-ghost use Rattle.frame_sim.specs.World.{World};
+ghost use Rattle.frame_sim.specs.World.{World as Seen};
 ghost use Rattle.frame_sim.specs.World.{HaveSameValues, Holds, IsKeptTogether, IsOwned, IsShared, NeverAlone, ShowsSynced, Translates, founding, founding_of, gateway_at, half, is_up, networks_at, owned_by, pairs_of, settings_of, state_at, synced_at, values_in};
 
 use crate::halves::Half;
@@ -279,11 +279,12 @@ impl<'a> World<'a> {
     /// nothing when it runs.
     pub fn strays_change_nothing(&self)
         ensures { (i : GatewayId) (bytes : List ℕ) (told : Output) (outcome : Outcome)
-            (told2 : Output) (w2 : World) → IsStray (values_in self.now) bytes
+            (told2 : Output) (w2 : Seen) → IsStray (values_in self.now) bytes
             → Strays self.now i bytes told outcome told2 w2
             → ChangesNothing self.now i told outcome told2 w2 }
     {
         strays_change_nothing();
+        let _ = &self.settings;
     }
 
     /// Returns all notes so far, the oldest first.
@@ -470,15 +471,31 @@ impl<'a> World<'a> {
         ensures err { OnErr result (self.new ≡ self.old) }
         ensures untold { OnErr result (out.new ≡ out.old) }
     {
-        strays_change_nothing();
         if !self.may_stray(bytes) {
             return Err(WorldFault::PremiseBroken);
         }
-        let trace = &mut self.trace;
+        Ok(self.hand_stray(id, bytes, out)?)
+    }
+
+    /// Has one of the two gateways take a stray in a step.
+    fn hand_stray(
+        &mut self,
+        id: GatewayId,
+        bytes: &[u8],
+        out: &mut Out,
+    ) -> Result<Outcome, NoMemory>
+        requires { IsStray (values_in self.old) bytes.now }
+        ensures takes { IfOk result (λ o. Strays self.old id bytes.now out.old o
+            out.new self.new) }
+        ensures err { OnErr result (self.new ≡ self.old) }
+        ensures untold { OnErr result (out.new ≡ out.old) }
+        ensures short { OnErr result (IsUnheard (state_at self.old id) bytes.now) }
+    {
+        strays_change_nothing();
         let event = Event::Datagram(bytes);
         match id {
-            GatewayId::Zero => Ok(self.zero.hand(self.alloc, trace, event, out)?),
-            GatewayId::One => Ok(self.one.hand(self.alloc, trace, event, out)?),
+            GatewayId::Zero => self.zero.hand(self.alloc, &mut self.trace, event, out),
+            GatewayId::One => self.one.hand(self.alloc, &mut self.trace, event, out),
         }
     }
 

@@ -1,0 +1,9 @@
+use Rattle.std.proofs.Common.{subst}
+use Rattle.link.specs.Strays.{IsStray}
+use Rattle.frame_sim.specs.World.{World, values_in}
+use Rattle.frame_sim.specs.Events.{ChangesNothing, Strays}
+use Rattle.frame_sim.proofs.Strays.{strays-nothing}
+use Rattle.frame_sim.proofs.worlds.World.strays_change_nothing.Goals as goal
+
+pub returns : goal.returns
+returns c = rw (← c.self.view_is) (λ i bytes told outcome told2 w2 is takes. strays-nothing c.strays_change_nothing.ensures.step c.strays_change_nothing.ensures.outcome _ i bytes told outcome told2 w2 c.self.invariant is takes)
