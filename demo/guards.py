@@ -330,25 +330,26 @@ class Stranger:
 
 def guessed(current):
     """A resolver asks, each time by a new port; how many of its questions have a port that a stranger has named before, and how
-    many of the answers that he forged to those ports the resolver has taken."""
-    stranger, questions, met = Stranger(current), [], 0
+    many of these hear the answer that he forged to it."""
+    stranger, asked, met = Stranger(current), [], []
     for _ in range(QUESTIONS):
         named = stranger.names()
-        questions.append(Question(current, HOSTS[0]))
-        port = questions[-1].port()
-        met += port in named
+        asked.append(Question(current, HOSTS[0]))
+        port = asked[-1].port()
+        if port in named:
+            met.append(asked[-1])
         stranger.last[port % 2] = port
         stranger.forge(named)
     current.loop.until(lambda: False, SILENT)
-    return met, sum(FORGED in question.hear() for question in questions)
+    return len(met), sum(FORGED in question.hear() for question in met)
 
 
 def next_port(options):
     for way in by_setting(options, DRAWN):
-        met, taken = in_scene(options, way, guessed)
+        met, heard = in_scene(options, way, guessed)
         owed = f"at most {BY_CHANCE} of {QUESTIONS} are met" if way.is_guarded else "each is met"
-        holds = taken <= met <= BY_CHANCE if way.is_guarded else taken == met == QUESTIONS
-        seen = f"{met} of {QUESTIONS}, {taken} forged answers reach its port"
+        holds = heard == met and (met <= BY_CHANCE if way.is_guarded else met == QUESTIONS)
+        seen = f"{met} of {QUESTIONS}, {heard} of them hear a forged answer"
         yield Line("a stranger names two ports for a resolver's next question", way.name, owed, seen, holds)
 
 
