@@ -12,7 +12,7 @@ from scene import scene
 SECOND_ROUTER = "192.0.2.253"
 # What `check` says of a key in which files may differ.
 MAY = "may differ: "
-# The keys that must agree: all others have a row.
+# The keys that must agree, and VRIDs, with which hosts may keep a MAC that goes: all others have a row.
 MUST = {"ports.zero", "ports.one", *(f"{side}.{key}" for side in SIDES for key in ("virtual", "prefix", "vrid"))}
 
 

@@ -71,7 +71,10 @@ fn write_other_settings<W: fmt::Write>(
     settings: &SettingsReport,
 ) -> fmt::Result {
     let (now, refused) = (settings.other.is_some(), settings.refused);
-    write!(f, ",\"other_settings\":{{\"now\":{now},\"datagrams\":{refused}")?;
+    write!(
+        f,
+        ",\"other_settings\":{{\"now\":{now},\"datagrams\":{refused}"
+    )?;
     let other = settings.other.unwrap_or(settings.own);
     f.write_str(",\"differing\":[")?;
     let mut lead = "";

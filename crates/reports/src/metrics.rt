@@ -21,7 +21,7 @@ impl Display for MetricsText<'_> {
         let report = self.0;
         let gateway = &report.gateway;
         write_info(f, report)?;
-        write_other_settings(f, &report.settings)?;
+        write_settings(f, &report.settings)?;
         write_box(f, report)?;
         write_sides(f, &report.sides, gateway.uptime)?;
         write_peer(f, &gateway.peer)?;
@@ -91,19 +91,13 @@ fn write_info<W: fmt::Write>(f: &mut Formatter<W>, report: &Report) -> fmt::Resu
 }
 
 /// Writes whether the other box runs on other settings, and how many datagrams of such a box came.
-fn write_other_settings<W: fmt::Write>(
-    f: &mut Formatter<W>,
-    settings: &SettingsReport,
-) -> fmt::Result {
+fn write_settings<W: fmt::Write>(f: &mut Formatter<W>, settings: &SettingsReport) -> fmt::Result {
     let is_other = u64::from(settings.other.is_some());
     let help = "Whether the other box runs on other settings, by its last datagram.";
     write_gauge(f, "natpair_other_settings", help, &[("", is_other)])?;
-    write_counter(
-        f,
-        "natpair_other_settings_datagrams_total",
-        "Datagrams of the other box with other settings. None was taken.",
-        &[("", settings.refused)],
-    )
+    let name = "natpair_other_settings_datagrams_total";
+    let help = "Datagrams of the other box with other settings. None was taken.";
+    write_counter(f, name, help, &[("", settings.refused)])
 }
 
 /// Writes the state of the box.

@@ -23,12 +23,7 @@ impl MissingTable {
 
     /// Logs how the other box stands, if the table isn't loaded and a record is due.
     /// `is_other`: the other box runs on other settings.
-    pub(crate) fn log<L: Journal>(
-        &mut self,
-        gateway: &Gateway,
-        is_other: bool,
-        log: &EventLog<L>,
-    ) {
+    pub(crate) fn log<L: Journal>(&mut self, gateway: &Gateway, is_other: bool, log: &EventLog<L>) {
         let now = gateway.moment();
         if gateway.synced() || now < self.due {
             return;
