@@ -2,7 +2,6 @@
 use Rattle.std.proofs.Common.{◌≡◌, ℕ, Bool, true, false, refl, ap, ◌∙◌}
 use Rattle.std.specs.Prelude.{if◌then◌else◌}
 use Rattle.nat_types.specs.declared.gateways.GatewayId.{GatewayId}
-use Rattle.nat_types.specs.declared.gateways.GatewayId.TheVariants.{Zero}
 use Rattle.settings.specs.declared.choice.Choice.{Choice as Chosen}
 use Rattle.settings.specs.declared.choice.Choice.TheVariants as chosen
 use Rattle.settings.specs.declared.whole.Settings.{Settings}

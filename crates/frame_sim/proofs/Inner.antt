@@ -2,7 +2,6 @@
 use Rattle.std.proofs.Common.{◌≡◌, ◌⊎◌, ◌∙◌, inl, inr, ap, sym, subst, List, ℕ}
 use Rattle.nat_types.specs.Same.{other}
 use Rattle.nat_types.specs.declared.gateways.GatewayId.{GatewayId}
-use Rattle.nat_types.specs.declared.records.Record.{Record}
 use Rattle.output.specs.Output.{Output}
 use Rattle.spec_pair.specs.Box.{Letter}
 use Rattle.spec_pair.specs.Step.{IsOff, WasSent}

@@ -1,5 +1,5 @@
 -- The laws of the crates below on which the proofs of a world rest.
-use Rattle.std.proofs.Common.{◌≡◌, ◌≤◌, ◌+◌, length, ℕ, ◌&&◌, false, Option, List, [], ◌∷◌, ◌++◌, reverse, Ok}
+use Rattle.std.proofs.Common.{◌≡◌, ◌≤◌, ◌+◌, length, ℕ, ◌&&◌, false, List, [], ◌∷◌, ◌++◌, reverse, Ok}
 use Rattle.nat_types.specs.Same.{other, same}
 use Rattle.nat_types.specs.declared.gateways.GatewayId.{GatewayId}
 use Rattle.nat_types.specs.declared.gateways.GatewayId.TheVariants.{Zero}

@@ -14,7 +14,6 @@ use Rattle.packet_rules.specs.declared.reasons.Reason.TheVariants.{BadDatagram}
 use Rattle.spec_step.specs.declared.events.Event.TheVariants as given
 use Rattle.spec_step.specs.declared.events.Outcome.{Outcome}
 use Rattle.spec_step.specs.declared.events.Outcome.TheVariants.{Dropped}
-use Rattle.spec_step.specs.Shown.{Shown}
 use Rattle.spec_gateway.specs.State.{GatewayState}
 use Rattle.spec_gateway.specs.Steps.{IsGatewayStep, lent, outcome_of}
 use Rattle.frame_sim.specs.World.{Half, World, half, settings_of, shown_at, state_at, values_in, with_half}

@@ -455,12 +455,7 @@ impl<'a> World<'a> {
     }
 
     /// Has one of the two gateways take bytes that neither sent, if they are a stray.
-    fn stray(
-        &mut self,
-        id: GatewayId,
-        bytes: &[u8],
-        out: &mut Out,
-    ) -> Result<Outcome, WorldFault>
+    fn stray(&mut self, id: GatewayId, bytes: &[u8], out: &mut Out) -> Result<Outcome, WorldFault>
         ensures stray { OnOk result (may_stray self.old bytes.now ≡ true) }
         ensures takes { IfOk result (λ o. Strays self.old id bytes.now out.old o
             out.new self.new) }

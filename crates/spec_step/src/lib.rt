@@ -14,9 +14,9 @@ pub use laws::{
     idle_at_once, never_alone, never_too_long, not_moved, other_frames, others_account,
     own_frames_show_nothing, own_leaves_pairs, parts_stand, peer_alone, sought_at_once,
     source_routes_are_dropped, steps_account, steps_count, steps_feed, steps_go, steps_keep,
-    steps_note, steps_pass_on, steps_say, steps_settle, steps_stay, steps_tell, strays_are_dropped,
-    stranger_keeps_nothing, takes_over, takings_say, ticks_let_go, true_owner_heals,
-    uses_are_marked, waits_where_there_is_place,
+    steps_note, steps_pass_on, steps_say, steps_settle, steps_stay, steps_tell,
+    stranger_keeps_nothing, strays_are_dropped, takes_over, takings_say, ticks_let_go,
+    true_owner_heals, uses_are_marked, waits_where_there_is_place,
 };
 pub use plans::{Plan, Reply};
 pub use secrets::Secrets;

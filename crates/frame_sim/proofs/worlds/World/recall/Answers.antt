@@ -1,6 +1,6 @@
 use Rattle.frame_sim.specs.Scene.{IsSound}
 use Rattle.frame_sim.proofs.Owning.{sound-owned}
-use Rattle.frame_sim.proofs.Keeping.{sound-goes, sound-kept, sound-plain, sound-promise, sound-says, sound-shared, sound-two}
+use Rattle.frame_sim.proofs.Keeping.{sound-goes, sound-kept, sound-plain, sound-says, sound-shared, sound-two}
 use Rattle.frame_sim.proofs.worlds.World.recall.Goals as goal
 
 pub returns-clause-at_most_two : goal.returns-clause-at_most_two

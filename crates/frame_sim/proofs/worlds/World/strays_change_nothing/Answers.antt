@@ -1,7 +1,3 @@
-use Rattle.std.proofs.Common.{subst}
-use Rattle.link.specs.Strays.{IsStray}
-use Rattle.frame_sim.specs.World.{World, values_in}
-use Rattle.frame_sim.specs.Events.{ChangesNothing, Strays}
 use Rattle.frame_sim.proofs.Strays.{strays-nothing}
 use Rattle.frame_sim.proofs.worlds.World.strays_change_nothing.Goals as goal
 
