@@ -28,7 +28,7 @@ TOP = pathlib.Path(__file__).resolve().parent.parent
 SIZES = {
     "README.md": 10, "CHANGELOG.md": 11, "CONTRIBUTING.md": 10, "crates/README.md": 9,
     "docs/ARCHITECTURE.md": 14, "docs/CONTRACTS.md": 6, "docs/DECISIONS.md": 22, "docs/DEMO.md": 12, "docs/FENCING.md": 8,
-    "docs/GLOSSARY.md": 6, "docs/INSTALL.md": 22, "docs/OPERATING.md": 23, "docs/PROTOCOL.md": 16, "docs/REFERENCE.md": 39,
+    "docs/GLOSSARY.md": 6, "docs/INSTALL.md": 22, "docs/OPERATING.md": 24, "docs/PROTOCOL.md": 17, "docs/REFERENCE.md": 40,
     "docs/RFC.md": 34, "docs/SIZING.md": 10, "docs/THEOREM.md": 18, "docs/WRONG_BODIES.md": 20,
     "bench/README.md": 8, "bench/GATE.md": 3,
 }
