@@ -2,7 +2,7 @@
 """Tries the commands of docs/INSTALL.md, "Joining the boxes", and of docs/OPERATING.md, as they stand there, on two machines
 made of namespaces.
 
-    sudo demo/joining.py [--program FILE] [--root FOLDER] [--before FILE] [--wireguard] [--list]
+    sudo demo/joining.py [--program FILE] [--root FOLDER] [--wireguard] [--list]
 
 A machine is a network namespace with the interfaces eth1, eth2 and eth3, and a copy of this system's files in which
 what it writes stays its own. Each command of the page is run there, and has to end well. In place of some there stands
@@ -19,8 +19,6 @@ there still.
     --root FOLDER   a machine is a copy of this root of Debian, with its own systemd as its first process: of the
                     commands above only `./build`, `scp` and `sudo` are something else then. packaging/test makes it.
                     FOLDER may be layers with colons between, the upper one first
-    --before FILE   the package of the release before: the page is followed with that one to the working pair, and then
-                    its "A new release" with the new one, and no further
     --wireguard     tries the link's tunnel too
     --list          prints the commands, and runs none
 
@@ -324,19 +322,13 @@ class Site:
         copied = re.fullmatch(r"scp packaging/deb/out/natpair_\S+ box(\d):", command)
         if not copied:
             raise SystemExit(f"joining: {command!r} isn't a command that is known where one builds")
-        self.machines[f"box {copied[1]}"].receive(self.options.before or self.package())
+        self.machines[f"box {copied[1]}"].receive(self.package())
         return ""
 
     def package(self):
         """The new package, once it is made."""
         found, = self.work.glob("natpair_*.deb")
         return found
-
-    def new_release(self):
-        """The new package takes the place of the one before on both machines."""
-        for machine in self.machines.values():
-            (machine.root() / "home/user" / self.options.before.name).unlink()
-            machine.receive(self.package())
 
     def rest(self, seconds):
         """Lets the flows be while time passes."""
@@ -398,8 +390,6 @@ class Site:
     def go(self, page):
         """All that is tried; gives what came of it."""
         self.follow(page)
-        if self.options.before:
-            return "every command of the page ended well, and no flow was lost by the new release"
         self.fence()
         if self.options.root:
             self.hang()
@@ -415,19 +405,13 @@ class Site:
             print(f"{name}: its journal's end, and what runs there:\n{said.stdout}", flush=True)
 
     def is_left_out(self, block):
-        if self.options.before is None:
-            return block.section == TUNNEL and not self.options.wireguard
-        number = block.section.partition(".")[0]
-        return block.section != RELEASE and not (number.isdigit() and int(number) <= 8)
+        return block.section == TUNNEL and not self.options.wireguard
 
     def follow(self, page):
         """Runs the page. After each part of a section that does something to the boxes, the flows ask. At the end fresh
         flows are opened: the boxes have to agree on them by the link."""
         page = [block for block in page if not self.is_left_out(block)]
         for number, block in enumerate(page):
-            begins = number == 0 or page[number - 1].section != block.section
-            if self.options.before and block.section == RELEASE and begins:
-                self.new_release()
             self.do(block)
             if self.flows.flows:
                 self.rest(1)
@@ -446,23 +430,11 @@ class Site:
 
     def expect(self, section):
         """What has to hold at the end of a section."""
-        if self.options.before and section == RELEASE:
-            self.expect_new_release()
-        else:
-            self.expect_said(section)
+        self.expect_said(section)
         if section.startswith("11."):
             self.expect_metrics()
         if section.startswith("8."):
             self.open_flows()
-
-    def expect_new_release(self):
-        """The link has the port that it had, hears one hop alone, and its interface alone."""
-        for number, (name, machine) in enumerate(self.machines.items()):
-            lines = machine.do("cat /etc/natpair/box.conf").splitlines()
-            sockets = machine.do("ss -Huan").split()
-            own = f"10.0.0.{number + 1}%eth3:7000"
-            if not {"LINK_PORT=7000", "LINK_HOPS=1"} <= set(lines) or own not in sockets:
-                raise SystemExit(f"joining: {name}: box.conf says {lines}, and its sockets are {sockets}")
 
     def found_again(self):
         """Founding is begun at a box that runs: it fails, says why, and the box goes on as it is."""
@@ -538,7 +510,6 @@ def options_of(words):
     parser = argparse.ArgumentParser(prog="joining.py", description=__doc__.split("\n")[0])
     parser.add_argument("--program", type=pathlib.Path, default=TOP / "crates/natpair/out/natpair")
     parser.add_argument("--root", type=pathlib.Path)
-    parser.add_argument("--before", type=pathlib.Path)
     parser.add_argument("--wireguard", action="store_true")
     parser.add_argument("--list", action="store_true")
     return parser.parse_args(words)
@@ -554,8 +525,6 @@ def main():
         return 0
     if os.geteuid() != 0:
         raise SystemExit("joining: it makes namespaces, and has to be root for that")
-    if options.before and not options.root:
-        raise SystemExit("joining: --before is for machines with a systemd: --root")
     if not options.program.is_file():
         raise SystemExit(f"joining: no program at {options.program}, where ./build puts it")
     catch_signals()
