@@ -5,6 +5,7 @@ program of a release before, where one is named.
 """
 
 import argparse
+import json
 import socket
 import subprocess
 import time
@@ -47,6 +48,10 @@ OWN, BEYOND_OWN, A_SECOND, EACH = 100, 600, 300, 17
 FEW_OWN = ("zero = [20000, 39999]", f"zero = [20000, {20_000 + OWN - 1}]")
 AHEAD = ("one = [40000, 59999]", "one = [40000, 59999]\nahead = 64")
 NO_PORT = "inside dropped 14 NoPort"
+# By a slip the file of box 1 has ranges that overlap those of box 0's.
+OVERLAP = ("zero = [20000, 39999]\none = [40000, 59999]", "zero = [20000, 29999]\none = [30000, 59999]")
+# So long two boxes hear each other before they are asked.
+MEETING = 5
 # A box tells the drops of a second when it has ended.
 TOLD = 1.3
 
@@ -391,6 +396,40 @@ def ahead(options):
         yield Line("flows begin beyond a box's own ports", way.name, owed, seen, holds)
 
 
+def differing(box):
+    """The keys in which the other box runs on other settings, as this one says."""
+    said = json.loads(box.natpair("status", str(box.settings), "--id", str(box.number), "--json"))
+    found = said.get("other_settings", {})
+    return [each["key"] for each in found["differing"]] if found.get("now") else []
+
+
+def slipped(current):
+    """Box 1 starts again with a file whose ranges overlap: whether it has a table then, what each box says of the other's
+    settings, and for how long a flow wasn't answered meanwhile."""
+    def start_anew():
+        with settings_with(OVERLAP) as file:
+            path = current.networks.folder / "slip.toml"
+            path.write_text(file.read_text(encoding="utf-8"), encoding="utf-8")
+        current.kill(1)
+        current.boxes[1].settings = path
+        current.boxes[1].start()
+
+    silent = Silence(current).behind(start_anew)
+    current.loop.until(lambda: False, MEETING)
+    return current.boxes[1].is_synced(), [differing(box) for box in current.boxes], silent
+
+
+def overlap(options):
+    ranges = ["ports.zero", "ports.one"]
+    for way in by_program(options):
+        synced, said, silent = in_scene(options, way, slipped)
+        told = "both boxes name " + " and ".join(ranges) if said == [ranges, ranges] else f"said is {said}"
+        table = "a table" if synced else "no table"
+        owed = "no table, both boxes name the ranges" if way.is_guarded else "a table, and nobody says so"
+        holds = (not synced and said == [ranges, ranges] and silent <= SILENT) if way.is_guarded else synced and said == [[], []]
+        yield Line("box 1 starts on ranges that overlap", way.name, owed, f"{table}, {told}, {told_silence(silent)}", holds)
+
+
 def by_sim(options, ways, attack):
     """What an attack comes to in `natpair sim`, of which a way's changes are the settings."""
     for way in ways:
@@ -433,7 +472,7 @@ def ports(options):
 
 CONDITIONS = {"router": router, "advert": advert, "flood": flood, "places": places, "routes": routes,
               "neighbours": neighbours, "moved": moved, "host": host, "listed": listed, "pairs": pairs, "ports": ports,
-              "next": next_port, "ahead": ahead}
+              "next": next_port, "ahead": ahead, "overlap": overlap}
 
 
 def guards(options):
