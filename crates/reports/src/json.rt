@@ -77,12 +77,16 @@ fn write_other_settings<W: fmt::Write>(
     )?;
     let other = settings.other.unwrap_or(settings.own);
     f.write_str(",\"differing\":[")?;
-    let mut lead = "";
+    let mut is_first = true;
     for ((key, own), (_, other)) in rows(&settings.own).into_iter().zip(rows(&other)) {
         if own != other {
-            write!(f, "{lead}{{\"key\":\"{key}\"")?;
-            write!(f, ",\"own\":\"{own}\",\"other\":\"{other}\"}}")?;
-            lead = ",";
+            f.write_str(if is_first {
+                "{\"key\":\""
+            } else {
+                ",{\"key\":\""
+            })?;
+            write!(f, "{key}\",\"own\":\"{own}\",\"other\":\"{other}\"}}")?;
+            is_first = false;
         }
     }
     f.write_str("]}")
