@@ -2,13 +2,14 @@
 use Rattle.std.specs.Prelude.{Bool, IsTrue, List, Some, [], false, true, ℕ, ◌+◌, ◌<◌, ◌∷◌, ◌≡◌, ◌≤◌}
 use Rattle.nat_types.specs.Same.{other}
 use Rattle.nat_types.specs.declared.gateways.GatewayId.{GatewayId}
-use Rattle.nat_types.specs.declared.notes.NoteKind.TheVariants.{Released, Retaken, Synced, Crashed, Booted}
+use Rattle.nat_types.specs.declared.gateways.GatewayId.TheVariants.{Zero}
+use Rattle.nat_types.specs.declared.notes.NoteKind.TheVariants.{Released, Retaken, Synced, Founded, Crashed, Booted}
 use Rattle.nat_types.specs.declared.notes.Note.{Note}
 use Rattle.nat_types.specs.declared.pairs.Endpoint.{Endpoint}
 use Rattle.nat_types.specs.declared.pairs.Key.{Key}
 use Rattle.nat_types.specs.declared.pairs.Pair.{Pair}
-use Rattle.spec_pair.specs.Box.{AreLoadable, grants_ports, takes, booted, revived, hands_in, AreBack, put_off, does, Box, skips, retakes, with_table, AreMirrored, takes_begin, takes_done, takes_owner, StandsNext, empty, hears, wants_ports, takes_put, Letter, takes_ports, letter, hears_anew, crashed, IsVacant, Parcel, HasRoom, record_of}
-use Rattle.spec_pair.specs.Ownership.{left_to, Ranges, keyed, Run, AreRising, IsRisingRun, has, AreDistinct, LeaveRest}
+use Rattle.spec_pair.specs.Box.{AreLoadable, IsLacking, founder, founds, last_letter, grants_ports, takes, booted, revived, hands_in, AreBack, put_off, does, Box, skips, retakes, with_table, AreMirrored, takes_begin, takes_done, takes_owner, StandsNext, empty, hears, wants_ports, takes_put, Letter, takes_ports, letter, hears_anew, crashed, IsVacant, Parcel, HasRoom, record_of}
+use Rattle.spec_pair.specs.Ownership.{left_to, own_ports, Ranges, keyed, Run, AreRising, IsRisingRun, has, AreDistinct, LeaveRest}
 use Rattle.spec_pair.specs.Talk.{pair_of, MachineRecord, Refuse, Owner, Grant, Yes, Install, MayDo, Want, Accept, No, set_at, Begin, Ask, Live, Deed, Done, Free, taken_by, note, use_note, IsUnbound, IsUnboundOn, noted_by, Put, Tell, translated}
 
 -- an act of a gateway, with its free choices
@@ -29,6 +30,11 @@ pub data Act : Type 0 where
   -- synced, the gateway gets the operator's word that the peer's boot of this number is off, and takes the pairs `back`
   -- over
   PeerOff : (number : ℕ) (back : List Pair) → Act
+  -- synced, the gateway takes the last letter of a boot of the peer, which is as that word of this boot
+  PeerEnds : (l : Letter) (back : List Pair) → Act
+  -- Unsynced, gateway 0 takes a letter that says that the peer lacks a table, and founds the pair. The runs `os` are
+  -- named in its batch, which is promised where `part` holds.
+  Found : (l : Letter) (os : List Run) (part : Bool) → Act
   -- unsynced, the gateway takes the records of a batch, and passes over all others
   LoadBegin : (l : Letter) (offset : ℕ) → Act
   LoadOwner : (l : Letter) (offset : ℕ) (first last : ℕ) → Act
@@ -48,13 +54,19 @@ pub data Act : Type 0 where
   LoneUse : (k : Key) (e : Endpoint) (counts : Bool) → Act
   LoneDrop : (k : Key) (e : Endpoint) → Act
   Crash : Act
+  -- the gateway ends: it sends its last letter, with any part of the session's records, and is down
+  End : (first count : ℕ) → Act
   Boot : (number : ℕ) → Act
+  -- the gateway boots, and founds the pair as it starts
+  BootFounding : (number : ℕ) → Act
 
 -- the letter that the act reads, if any
 abbrev pub read_by : Act → List Letter
 read_by (Take l n r d) = l ∷ []
 read_by (Hear l back os xs part) = l ∷ []
 read_by (HearAnew l) = l ∷ []
+read_by (PeerEnds l back) = l ∷ []
+read_by (Found l os part) = l ∷ []
 read_by (LoadBegin l n) = l ∷ []
 read_by (LoadOwner l n first last) = l ∷ []
 read_by (LoadPut l n x) = l ∷ []
@@ -69,6 +81,7 @@ read_by x = []
 -- the letter that the act sends, if any
 abbrev pub letters_by : Box → Act → List Letter
 letters_by a (Send first count) = letter a first count ∷ []
+letters_by a (End first count) = last_letter a first count ∷ []
 letters_by a x = []
 
 -- the notes that the act makes, the newest first
@@ -77,14 +90,27 @@ act_notes i moment (Do d) = noted_by i moment d
 act_notes i moment (Take l n r d) = noted_by i moment d
 act_notes i moment (Hear l back os xs part) = retakes i moment back
 act_notes i moment (PeerOff number back) = retakes i moment back
+act_notes i moment (PeerEnds l back) = retakes i moment back
+act_notes i moment (Found l os part) = note i moment Founded ∷ []
 act_notes i moment (LoadPut l n x) = note i moment (Retaken x.pair) ∷ []
 act_notes i moment (LoadDone l n) = note i moment Synced ∷ []
 act_notes i moment (LoneNew k e) = note i moment (Retaken (pair_of k e)) ∷ []
 act_notes i moment (LoneUse k e counts) = use_note i moment (pair_of k e) counts ∷ []
 act_notes i moment (LoneDrop k e) = note i moment (Released (pair_of k e)) ∷ []
 act_notes i moment Crash = note i moment Crashed ∷ []
+act_notes i moment (End first count) = note i moment Crashed ∷ []
 act_notes i moment (Boot n) = note i moment (Booted n) ∷ []
+act_notes i moment (BootFounding n) = note i moment Founded ∷ note i moment (Booted n) ∷ []
 act_notes i moment x = []
+
+-- the gateway is up, and a letter with these records has none that is only promised
+abbrev pub MaySend : Box → ℕ → ℕ → Type 0
+MaySend a first count =
+    (a.up ≡ true) × ((m : ℕ) → a.promised ≡ Some m → first + count ≤ m)
+
+-- a letter without a record, and with none before it, goes only where none was pushed in the session
+abbrev pub SaysMore : Box → ℕ → ℕ → Type 0
+SaysMore a first count = IsLacking (letter a first count) → a.sent ≡ []
 
 -- each of these ports is owned, and the table has nothing there
 abbrev pub AreSpare : Box → List ℕ → Type 0
@@ -132,6 +158,12 @@ module _ (r : Ranges) where
       × AreMirrored (keyed (left_to r (other i) os)) (λ k. revived (a.table k)) xs
   MayAct i a (HearAnew l) = (a.up ≡ true) × (a.synced ≡ false) × (a.peer < l.boot)
   MayAct i a (PeerOff number back) = (a.synced ≡ true) × AreBack a.table back
+  MayAct i a (PeerEnds l back) =
+      (a.synced ≡ true) × (l.ends ≡ true) × (l.boot ≡ a.peer) × (l.to ≡ a.boot)
+      × AreBack a.table back
+  MayAct i a (Found l os part) =
+      (i ≡ Zero) × (a.up ≡ true) × (a.synced ≡ false) × IsLacking l × (a.peer ≤ l.boot)
+      × (l.to ≡ a.boot) × AreRising r.in_ranges 0 os × LeaveRest r i (own_ports r i) os
   MayAct i a (LoadBegin l n) = (a.synced ≡ false) × StandsNext a l n Begin
   MayAct i a (LoadOwner l n first last) =
       (a.synced ≡ false) × (a.loading ≡ true) × ((k : Key) → a.table k ≡ Free)
@@ -154,8 +186,7 @@ module _ (r : Ranges) where
   MayAct i a HandIn = a.synced ≡ true
   MayAct i a (Ignore l n q) =
       (a.synced ≡ true) × (a.lone ≡ false) × ((m : ℕ) × (a.promised ≡ Some m)) × StandsNext a l n q
-  MayAct i a (Send first count) =
-      (a.up ≡ true) × ((m : ℕ) → a.promised ≡ Some m → first + count ≤ m)
+  MayAct i a (Send first count) = MaySend a first count × SaysMore a first count
   MayAct i a (LoneNew k e) =
       (a.synced ≡ true) × (a.lone ≡ true) × IsTrue (keyed a.owned k) × (a.table k ≡ Free)
       × IsUnbound a.table e
@@ -164,7 +195,9 @@ module _ (r : Ranges) where
   MayAct i a (LoneDrop k e) =
       (a.synced ≡ true) × (a.lone ≡ true) × (translated (a.table k) ≡ Some e)
   MayAct i a Crash = a.up ≡ true
+  MayAct i a (End first count) = MaySend a first count
   MayAct i a (Boot n) = (a.up ≡ false) × (a.boot < n)
+  MayAct i a (BootFounding n) = (a.up ≡ false) × (a.boot < n)
 
   -- the box after the act
   abbrev pub box_after : GatewayId → Box → Act → Box
@@ -173,6 +206,8 @@ module _ (r : Ranges) where
   box_after i a (Hear l back os xs part) = hears a l.boot os xs part
   box_after i a (HearAnew l) = hears_anew a l.boot
   box_after i a (PeerOff number back) = put_off a number
+  box_after i a (PeerEnds l back) = put_off a l.boot
+  box_after i a (Found l os part) = founds a l.boot (own_ports r i) os part
   box_after i a (LoadBegin l n) = takes_begin (r.at_begin i) a
   box_after i a (LoadOwner l n first last) = takes_owner a first last
   box_after i a (LoadPut l n x) = takes_put a x.pair
@@ -189,4 +224,6 @@ module _ (r : Ranges) where
   box_after i a (LoneUse k e counts) = a
   box_after i a (LoneDrop k e) = with_table a (set_at a.table k Free)
   box_after i a Crash = crashed a
+  box_after i a (End first count) = crashed a
   box_after i a (Boot n) = booted n
+  box_after i a (BootFounding n) = founder n (own_ports r i)

@@ -63,6 +63,8 @@ pub record Letter : Type 0 where
   -- how many records of the session come before these
   pub first : ℕ
   pub records : List MachineRecord
+  -- the sender ends with this letter: it is down from then on
+  pub ends : Bool
 
 -- the value is in the list
 abbrev pub In : {A : Type 0} → A → List A → Type 0
@@ -268,9 +270,15 @@ crashed a = bare false a.boot
 abbrev pub booted : ℕ → Box
 booted n = bare true n
 
--- gateway 0 as it is founded, with these ports: boot 1, synced and lone
-abbrev pub founder : (ℕ → Bool) → Box
-founder owned = record (bare true 1) { synced = true; lone = true; owned = owned }
+-- a gateway that founds the pair as it boots, with this number and these ports: synced and lone
+abbrev pub founder : ℕ → (ℕ → Bool) → Box
+founder boot owned = record (bare true boot) { synced = true; lone = true; owned = owned }
+
+-- The box after an unsynced gateway founds the pair by what the peer's boot of this number says: its table is empty, it
+-- owns these ports, and it pushes its batch, which names these runs. It is as one that was synced and hears that boot.
+abbrev pub founds : Box → ℕ → (ℕ → Bool) → List Run → Bool → Box
+founds a boot owned os part =
+    hears (record (bare a.up a.boot) { synced = true; owned = owned }) boot os [] part
 
 -- the box of a gateway that never booted
 abbrev pub never : Box
@@ -311,7 +319,17 @@ letter a first count = record {
   to = a.peer;
   first = first;
   records = take count (drop first a.sent);
+  ends = false;
 }
+
+-- that letter as the sender's last one
+abbrev pub last_letter : Box → ℕ → ℕ → Letter
+last_letter a first count = record (letter a first count) { ends = true }
+
+-- The letter says that its sender lacks a table: it is no last one, and of its session it has no record, nor does any
+-- stand before it.
+abbrev pub IsLacking : Letter → Type 0
+IsLacking l = (l.first ≡ 0) × (l.records ≡ []) × (l.ends ≡ false)
 
 -- A record stands next at a gateway: the letter is of its session, and has the record at the number that the gateway
 -- takes next.

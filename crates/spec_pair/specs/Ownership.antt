@@ -12,8 +12,8 @@ use Rattle.nat_types.specs.declared.pairs.Key.{Key}
 pub record Ranges : Type 0 where
   -- the ports that may be given
   pub in_ranges : ℕ → Bool
-  -- the ports that gateway 0 owns when it is founded
-  pub at_start : ℕ → Bool
+  -- the ports that a gateway owns when it founds the pair
+  pub at_start : GatewayId → ℕ → Bool
   -- the ports that a gateway is to own when it takes Begin, before any Owner
   pub at_begin : GatewayId → ℕ → Bool
 
@@ -21,12 +21,12 @@ pub record Ranges : Type 0 where
 abbrev pub fixed : (ℕ → Bool) → (ℕ → GatewayId) → Ranges
 fixed in_ranges owner = record {
   in_ranges = in_ranges;
-  at_start = λ p. same Zero (owner p);
+  at_start = λ i p. same i (owner p);
   at_begin = λ j p. in_ranges p && same j (owner p);
 }
 
--- ports that move: gateway 0 is founded with the ports that `at_start` says
-abbrev pub moving : (ℕ → Bool) → (ℕ → Bool) → Ranges
+-- ports that move: a gateway founds the pair with the ports that `at_start` says
+abbrev pub moving : (ℕ → Bool) → (GatewayId → ℕ → Bool) → Ranges
 moving in_ranges at_start = record {
   in_ranges = in_ranges;
   at_start = at_start;
@@ -93,6 +93,10 @@ module _ (r : Ranges) where
   -- the ports that gateway j is to own beside one that owns these runs
   abbrev pub left_to : GatewayId → List Run → ℕ → Bool
   left_to j os = cuts (r.at_begin j) os
+
+  -- the ports that gateway i owns when it founds the pair
+  abbrev pub own_ports : GatewayId → ℕ → Bool
+  own_ports i p = r.in_ranges p && r.at_start i p
 
   -- beside gateway i, which owns the ports `owned`, the runs leave the other exactly the rest of the ranges
   abbrev pub LeaveRest : GatewayId → (ℕ → Bool) → List Run → Type 0

@@ -3,15 +3,17 @@
 use Rattle.std.specs.Prelude.{◌≡◌, ℕ, List, [], ◌∷◌, ◌++◌, false}
 use Rattle.nat_types.specs.declared.gateways.GatewayId.{GatewayId}
 use Rattle.nat_types.specs.declared.notes.Note.{Note}
-use Rattle.spec_pair.specs.Acts.{Act, PeerOff, Crash, Boot, read_by, letters_by, act_notes, MayAct, box_after}
+use Rattle.spec_pair.specs.Acts.{Act, PeerOff, Crash, End, Boot, BootFounding, read_by, letters_by, act_notes, MayAct, box_after}
 use Rattle.spec_pair.specs.Box.{Box, Letter, In}
 use Rattle.spec_pair.specs.Ownership.{Ranges}
 
--- the act is no crash and no boot; an operator's word that it uses is one of those that were given
+-- the act is no crash, no end and no boot; an operator's word that it uses is one of those that were given
 abbrev pub IsGiven : List ℕ → Act → Type 0
 IsGiven ws (PeerOff number back) = In number ws
 IsGiven ws Crash = ⊥
+IsGiven ws (End first count) = ⊥
 IsGiven ws (Boot n) = ⊥
+IsGiven ws (BootFounding n) = ⊥
 IsGiven ws x = Unit {0}
 
 -- the letter that the act reads is one of those that were given, and so is the operator's word

@@ -1,16 +1,17 @@
 -- The pair of gateways with its mail: every letter that was ever sent may come, any number of times and in any order. A
--- scene is the state of both gateways and their mail. An execution is a list of allowed events from the founding.
-use Rattle.std.specs.Prelude.{IsTrue, List, Some, [], false, length, true, ℕ, ◌&&◌, ◌++◌, ◌||◌, ◌∷◌, ◌≡◌, ◌+◌, ◌≤◌}
+-- scene is the state of both gateways and their mail. An execution is a list of allowed events from a beginning.
+use Rattle.std.specs.Prelude.{Bool, IsTrue, List, Some, [], false, length, true, ℕ, ◌&&◌, ◌++◌, ◌||◌, ◌∷◌, ◌≡◌, ◌+◌, ◌≤◌}
 use Rattle.nat_types.specs.declared.gateways.GatewayId.{GatewayId}
 use Rattle.nat_types.specs.declared.gateways.GatewayId.TheVariants.{Zero, One}
 use Rattle.nat_types.specs.declared.notes.Note.{Note}
+use Rattle.nat_types.specs.declared.notes.NoteKind.TheVariants.{Crashed}
 use Rattle.nat_types.specs.declared.pairs.Key.{Key}
 use Rattle.nat_types.specs.declared.pairs.Pair.{Pair}
-use Rattle.spec_trace.specs.Past.{OnePort, OneEndpoint, Silent, Kept, AtMostTwo, GoesOn}
-use Rattle.spec_pair.specs.Acts.{MayAct, Crash, Act, box_after, PeerOff, letters_by, read_by, act_notes}
+use Rattle.spec_trace.specs.Past.{OnePort, OneEndpoint, Silent, Kept, AtMostTwo, GoesOn, FoundedRightly}
+use Rattle.spec_pair.specs.Acts.{MayAct, Act, box_after, BootFounding, PeerOff, letters_by, read_by, act_notes}
 use Rattle.spec_pair.specs.Box.{never, Box, In, Letter, founder}
-use Rattle.spec_pair.specs.Ownership.{Ranges}
-use Rattle.spec_pair.specs.Talk.{Slot, held, translated}
+use Rattle.spec_pair.specs.Ownership.{Ranges, own_ports}
+use Rattle.spec_pair.specs.Talk.{Slot, held, note, translated}
 
 -- a scene, as one gateway sees it: its own box and the other's, all letters that each ever sent, and the notes of both,
 -- the newest first
@@ -31,10 +32,10 @@ flip s = record {
   trace = s.trace;
 }
 
--- what has to hold outside the gateway: the operator's word is true, and the last synced gateway doesn't crash
+-- what has to hold outside the gateway: the operator's words are true, which say that the other gateway is off
 abbrev pub Outside : Scene → Act → Type 0
 Outside s (PeerOff number back) = (s.theirs.up ≡ false) × (number ≡ s.theirs.boot)
-Outside s Crash = s.mine.synced ≡ true → s.theirs.synced ≡ true
+Outside s (BootFounding number) = s.theirs.up ≡ false
 Outside s x = Unit {0}
 
 -- An event: an act of one of the two gateways. The world is the scene as gateway 0 sees it.
@@ -52,12 +53,28 @@ seen_by One s = flip s
 -- the founding: gateway 0 is up with boot 1, synced and lone, and gateway 1 never booted
 abbrev pub founding : Ranges → Scene
 founding r = record {
-  mine = founder (λ p. r.in_ranges p && r.at_start p);
+  mine = founder 1 (own_ports r Zero);
   theirs = never;
   my_mail = [];
   their_mail = [];
   trace = [];
 }
+
+-- The beginning with nobody up: no gateway ever booted. Its trace has one note, a crash of gateway 0, since with no note
+-- at all that one would be synced.
+abbrev pub nobody : Scene
+nobody = record {
+  mine = never;
+  theirs = never;
+  my_mail = [];
+  their_mail = [];
+  trace = note Zero 0 Crashed ∷ [];
+}
+
+-- the two beginnings: with gateway 0 founded, or with nobody up
+abbrev pub beginning : Ranges → Bool → Scene
+beginning r true = founding r
+beginning r false = nobody
 
 -- of two values, the first belongs to gateway 0 and the second to gateway 1
 abbrev pub both : {A : Type 0} → A → A → GatewayId → A
@@ -96,6 +113,7 @@ pub record IsKept (t : List Note) (tables : GatewayId → Key → Slot) : Type 0
   pub at_most_two : AtMostTwo (TableHolds tables) t
   pub kept : Kept (TableHolds tables) t
   pub silent : Silent t
+  pub founded_rightly : FoundedRightly t
   pub goes_on : GoesOn (TableTranslates tables) t
 
 -- What is promised of the ports in each scene that can come about.
@@ -146,12 +164,13 @@ module _ (r : Ranges) where
   AreAllowed [] s = Unit {0}
   AreAllowed (e ∷ es) s = Can e.by (seen_by e.by s) e.act × AreAllowed es (after_event s e)
 
-  -- an execution that ends in this scene: events from the founding, each allowed where it comes
+  -- an execution that ends in this scene: events from a beginning, each allowed where it comes
   pub record Execution (s : Scene) : Type 0 where
+    pub founded : Bool
     pub events : List MachineEvent
-    pub allowed : AreAllowed events (founding r)
-    pub ends : after_events events (founding r) ≡ s
+    pub allowed : AreAllowed events (beginning r founded)
+    pub ends : after_events events (beginning r founded) ≡ s
 
-  -- a scene that can come about: some list of allowed events leads here from the founding
+  -- a scene that can come about: some list of allowed events leads here from a beginning
   abbrev pub IsWorld : Scene → Type 0
   IsWorld s = ∥ Execution s ∥₁

@@ -6,7 +6,7 @@ use Rattle.std.specs.Prelude.{◌≡◌, ℕ, ◌+◌, ◌≤◌, Bool, false, n
 use Rattle.nat_types.specs.declared.gateways.GatewayId.{GatewayId}
 use Rattle.nat_types.specs.declared.pairs.Pair.{Pair}
 use Rattle.nat_types.specs.declared.notes.NoteKind.{NoteKind}
-use Rattle.nat_types.specs.declared.notes.NoteKind.TheVariants.{Used, Released, Retaken, Alone, Synced, Crashed, Booted}
+use Rattle.nat_types.specs.declared.notes.NoteKind.TheVariants.{Used, Released, Retaken, Alone, Synced, Founded, Crashed, Booted}
 use Rattle.nat_types.specs.declared.notes.Note.{Note}
 use Rattle.nat_types.specs.Same.{same, same_pair}
 use Rattle.spec_trace.specs.Past.{is_synced, is_agreed, is_only_at, is_open, was_alone, UsedInLife, rest_of}
@@ -50,8 +50,8 @@ Leads alone map (move ∷ moves) last =
     MayMove alone map move × Leads alone (map_after map move) moves last
 
 -- What the box does at a note. At a use it uses the pair, after an Allot where the map doesn't have it; at an agreed
--- deletion of a pair in the map it drops the pair; and at a crash it loses the pairs in the map that are lost with that
--- box.
+-- deletion of a pair in the map it drops the pair; at a crash it loses the pairs in the map that are lost with that box;
+-- and where the pair of gateways is founded it loses all.
 abbrev pub moves_at : Map → GatewayId → NoteKind → List Note → List Move
 moves_at map by (Used pair) notes = cond (map pair) (Use pair ∷ []) (Allot pair ∷ Use pair ∷ [])
 moves_at map by (Released pair) notes =
@@ -59,6 +59,7 @@ moves_at map by (Released pair) notes =
 moves_at map by (Retaken pair) notes = []
 moves_at map by (Alone pair) notes = []
 moves_at map by Synced notes = []
+moves_at map by Founded notes = Lose map ∷ []
 moves_at map by Crashed notes = Lose (λ q. map q && is_only_at by q notes) ∷ []
 moves_at map by (Booted number) notes = []
 
@@ -70,6 +71,7 @@ release_after gateway pair by at (Released noted) last =
 release_after gateway pair by at (Retaken noted) last = last
 release_after gateway pair by at (Alone noted) last = last
 release_after gateway pair by at Synced last = last
+release_after gateway pair by at Founded last = last
 release_after gateway pair by at Crashed last = last
 release_after gateway pair by at (Booted number) last = last
 

@@ -1,8 +1,9 @@
 -- The words on a trace, as recursions over its notes: each list of notes has the newest first. A word has two
 -- definitions: what one more note changes, and the recursion. A note tells that a gateway used, released or retook a
--- pair, or goes on with it alone, without the other's answer; that it became synced, crashed, or booted. A life of a
--- gateway lasts from a boot, or from the founding, to the next boot. Each note has a mark that says whether a use
--- counts; the words on rest alone look at it, those from UsesAt on.
+-- pair, or goes on with it alone, without the other's answer; that it became synced, founded the pair, crashed, or
+-- booted. A life of a gateway lasts from a boot, or from the beginning, to the next boot. A Founded note, of either
+-- gateway, begins an era. Each note has a mark that says whether a use counts; the words on rest alone look at it, those
+-- from UsesAt on.
 use Rattle.std.specs.Prelude.{◌≡◌, ℕ, ◌+◌, ◌≤◌, Bool, true, false, not, ◌&&◌, ◌||◌, cond, List, [], ◌∷◌, IsTrue, ◌↔◌, ◌⊎◌}
 use Rattle.nat_types.specs.declared.gateways.GatewayId.{GatewayId}
 use Rattle.nat_types.specs.declared.gateways.GatewayId.TheVariants.{Zero}
@@ -10,7 +11,7 @@ use Rattle.addresses.specs.declared.transport.Protocol.{Protocol}
 use Rattle.addresses.specs.declared.transport.Protocol.TheVariants.{Icmp, Tcp, Udp}
 use Rattle.nat_types.specs.declared.pairs.Pair.{Pair}
 use Rattle.nat_types.specs.declared.notes.NoteKind.{NoteKind}
-use Rattle.nat_types.specs.declared.notes.NoteKind.TheVariants.{Used, Released, Retaken, Alone, Synced, Crashed, Booted}
+use Rattle.nat_types.specs.declared.notes.NoteKind.TheVariants.{Used, Released, Retaken, Alone, Synced, Founded, Crashed, Booted}
 use Rattle.nat_types.specs.declared.notes.Note.{Note}
 use Rattle.nat_types.specs.Same.{same, other, same_pair}
 
@@ -21,11 +22,12 @@ synced_after gateway by (Released pair) was = was
 synced_after gateway by (Retaken pair) was = was
 synced_after gateway by (Alone pair) was = was
 synced_after gateway by Synced was = cond (same gateway by) true was
+synced_after gateway by Founded was = cond (same gateway by) true was
 synced_after gateway by Crashed was = cond (same gateway by) false was
 synced_after gateway by (Booted number) was = cond (same gateway by) false was
 
--- Synced: the last note of the gateway among Synced, Crashed and Booted is Synced. With no such note, gateway 0 is
--- synced.
+-- Synced: the last note of the gateway among Synced, Founded, Crashed and Booted is Synced or Founded. With no such
+-- note, gateway 0 is synced.
 abbrev pub is_synced : GatewayId → List Note → Bool
 is_synced gateway [] = same gateway Zero
 is_synced gateway (note ∷ notes) = synced_after gateway note.by note.what (is_synced gateway notes)
@@ -41,6 +43,7 @@ released_after gateway pair by (Retaken noted) had =
 released_after gateway pair by (Alone noted) had =
     cond (same gateway by && same_pair pair noted) false had
 released_after gateway pair by Synced had = had
+released_after gateway pair by Founded had = had
 released_after gateway pair by Crashed had = had
 released_after gateway pair by (Booted number) had = had
 
@@ -61,17 +64,18 @@ goes_after gateway pair by (Retaken noted) did =
 goes_after gateway pair by (Alone noted) did =
     cond (same gateway by && same_pair pair noted) true did
 goes_after gateway pair by Synced did = did
+goes_after gateway pair by Founded did = false
 goes_after gateway pair by Crashed did = did
 goes_after gateway pair by (Booted number) did = cond (same gateway by) false did
 
--- the last note of the gateway on the pair in its present life, among Used, Released, Retaken and Alone, is there and
--- isn't Released
+-- the last note of the gateway on the pair in its present life and era, among Used, Released, Retaken and Alone, is
+-- there and isn't Released
 abbrev pub goes_on : GatewayId → Pair → List Note → Bool
 goes_on gateway pair [] = false
 goes_on gateway pair (note ∷ notes) =
     goes_after gateway pair note.by note.what (goes_on gateway pair notes)
 
--- In use: the gateway is synced, and its last note on the pair in its present life is there and isn't Released.
+-- In use: the gateway is synced, and its last note on the pair in its present life and era is there and isn't Released.
 abbrev pub is_in_use : GatewayId → Pair → List Note → Bool
 is_in_use gateway pair notes = is_synced gateway notes && goes_on gateway pair notes
 
@@ -85,10 +89,12 @@ private_after gateway pair by (Retaken noted) was =
 private_after gateway pair by (Alone noted) was =
     cond (same gateway by && same_pair pair noted) true was
 private_after gateway pair by Synced was = was
+private_after gateway pair by Founded was = false
 private_after gateway pair by Crashed was = was
 private_after gateway pair by (Booted number) was = cond (same gateway by) false was
 
--- Private: the last note of the gateway on the pair in its present life, among Alone, Retaken and Released, is Alone.
+-- Private: the last note of the gateway on the pair in its present life and era, among Alone, Retaken and Released, is
+-- Alone.
 abbrev pub is_private : GatewayId → Pair → List Note → Bool
 is_private gateway pair [] = false
 is_private gateway pair (note ∷ notes) =
@@ -115,10 +121,12 @@ open_after pair (Released noted) agreed lost was = cond (same_pair pair noted &&
 open_after pair (Retaken noted) agreed lost was = was
 open_after pair (Alone noted) agreed lost was = was
 open_after pair Synced agreed lost was = was
+open_after pair Founded agreed lost was = false
 open_after pair Crashed agreed lost was = cond lost false was
 open_after pair (Booted number) agreed lost was = was
 
--- Open: the pair was used, and since its last use there was no agreed deletion of it and it wasn't lost with a box.
+-- Open: the pair was used in the present era, and since its last use there was no agreed deletion of it and it wasn't
+-- lost with a box.
 abbrev pub is_open : Pair → List Note → Bool
 is_open pair [] = false
 is_open pair (note ∷ notes) =
@@ -132,6 +140,7 @@ is_alone_word pair (Released noted) = false
 is_alone_word pair (Retaken noted) = false
 is_alone_word pair (Alone noted) = same_pair pair noted
 is_alone_word pair Synced = false
+is_alone_word pair Founded = false
 is_alone_word pair Crashed = false
 is_alone_word pair (Booted number) = false
 
@@ -151,6 +160,7 @@ FitsAt (Released pair) notes = Unit {0}
 FitsAt (Retaken pair) notes = Unit {0}
 FitsAt (Alone pair) notes = Unit {0}
 FitsAt Synced notes = Unit {0}
+FitsAt Founded notes = Unit {0}
 FitsAt Crashed notes = Unit {0}
 FitsAt (Booted number) notes = Unit {0}
 
@@ -168,6 +178,7 @@ OnePortAt (Released pair) notes = Unit {0}
 OnePortAt (Retaken pair) notes = Unit {0}
 OnePortAt (Alone pair) notes = Unit {0}
 OnePortAt Synced notes = Unit {0}
+OnePortAt Founded notes = Unit {0}
 OnePortAt Crashed notes = Unit {0}
 OnePortAt (Booted number) notes = Unit {0}
 
@@ -186,6 +197,7 @@ OneEndpointAt (Released pair) notes = Unit {0}
 OneEndpointAt (Retaken pair) notes = Unit {0}
 OneEndpointAt (Alone pair) notes = Unit {0}
 OneEndpointAt Synced notes = Unit {0}
+OneEndpointAt Founded notes = Unit {0}
 OneEndpointAt Crashed notes = Unit {0}
 OneEndpointAt (Booted number) notes = Unit {0}
 
@@ -201,6 +213,7 @@ SilentAt by (Released pair) notes = Unit {0}
 SilentAt by (Retaken pair) notes = Unit {0}
 SilentAt by (Alone pair) notes = Unit {0}
 SilentAt by Synced notes = Unit {0}
+SilentAt by Founded notes = Unit {0}
 SilentAt by Crashed notes = Unit {0}
 SilentAt by (Booted number) notes = Unit {0}
 
@@ -208,6 +221,22 @@ SilentAt by (Booted number) notes = Unit {0}
 abbrev pub Silent : List Note → Type 0
 Silent [] = Unit {0}
 Silent (note ∷ notes) = SilentAt note.by note.what notes × Silent notes
+
+-- Founded rightly at a note: where it founds the pair, no gateway is synced after the notes before.
+abbrev pub FoundedRightlyAt : NoteKind → List Note → Type 0
+FoundedRightlyAt (Used pair) notes = Unit {0}
+FoundedRightlyAt (Released pair) notes = Unit {0}
+FoundedRightlyAt (Retaken pair) notes = Unit {0}
+FoundedRightlyAt (Alone pair) notes = Unit {0}
+FoundedRightlyAt Synced notes = Unit {0}
+FoundedRightlyAt Founded notes = (gateway : GatewayId) → is_synced gateway notes ≡ false
+FoundedRightlyAt Crashed notes = Unit {0}
+FoundedRightlyAt (Booted number) notes = Unit {0}
+
+-- Founded rightly: at each Founded note no gateway is synced just before it.
+abbrev pub FoundedRightly : List Note → Type 0
+FoundedRightly [] = Unit {0}
+FoundedRightly (note ∷ notes) = FoundedRightlyAt note.what notes × FoundedRightly notes
 
 -- a synced gateway to which the pair is private holds it
 abbrev pub IsHeldApart : (GatewayId → Pair → Type 0) → Pair → List Note → Type 0
@@ -252,6 +281,7 @@ UsesAt gateway pair use_at by at counts (Released noted) before = before
 UsesAt gateway pair use_at by at counts (Retaken noted) before = before
 UsesAt gateway pair use_at by at counts (Alone noted) before = before
 UsesAt gateway pair use_at by at counts Synced before = before
+UsesAt gateway pair use_at by at counts Founded before = before
 UsesAt gateway pair use_at by at counts Crashed before = before
 UsesAt gateway pair use_at by at counts (Booted number) before = (gateway ≡ by → ⊥) × before
 
@@ -274,6 +304,7 @@ IdleAt by at (Released pair) notes = IsIdle by pair at notes
 IdleAt by at (Retaken pair) notes = Unit {0}
 IdleAt by at (Alone pair) notes = Unit {0}
 IdleAt by at Synced notes = Unit {0}
+IdleAt by at Founded notes = Unit {0}
 IdleAt by at Crashed notes = Unit {0}
 IdleAt by at (Booted number) notes = Unit {0}
 

@@ -3,7 +3,7 @@ use Rattle.std.specs.Prelude.{Bool, true, false, not, ◌&&◌, ◌||◌, cond, 
 use Rattle.nat_types.specs.declared.gateways.GatewayId.{GatewayId}
 use Rattle.nat_types.specs.declared.pairs.Pair.{Pair}
 use Rattle.nat_types.specs.declared.notes.NoteKind.{NoteKind}
-use Rattle.nat_types.specs.declared.notes.NoteKind.TheVariants.{Used, Released, Retaken, Alone, Synced, Crashed, Booted}
+use Rattle.nat_types.specs.declared.notes.NoteKind.TheVariants.{Used, Released, Retaken, Alone, Synced, Founded, Crashed, Booted}
 use Rattle.nat_types.specs.declared.notes.Note.{Note}
 use Rattle.nat_types.specs.Same.{other, same, same_pair}
 use Rattle.spec_trace.specs.Past.{is_synced, has_released, open_after}
@@ -15,6 +15,7 @@ IsPlainWord (Released pair) = Unit {0}
 IsPlainWord (Retaken pair) = Unit {0}
 IsPlainWord (Alone pair) = ⊥
 IsPlainWord Synced = Unit {0}
+IsPlainWord Founded = Unit {0}
 IsPlainWord Crashed = Unit {0}
 IsPlainWord (Booted number) = Unit {0}
 
@@ -28,7 +29,7 @@ abbrev pub is_agreed : GatewayId → Pair → List Note → Bool
 is_agreed gateway pair notes =
     not (is_synced (other gateway) notes) || has_released (other gateway) pair notes
 
--- Open: the pair was used, and there was no agreed deletion of it since its last use.
+-- Open: the pair was used in the present era, and there was no agreed deletion of it since its last use.
 abbrev pub is_open : Pair → List Note → Bool
 is_open pair [] = false
 is_open pair (note ∷ notes) =
@@ -50,11 +51,12 @@ goes_after gateway pair by (Retaken noted) did =
     cond (same gateway by && same_pair pair noted) true did
 goes_after gateway pair by (Alone noted) did = did
 goes_after gateway pair by Synced did = did
+goes_after gateway pair by Founded did = false
 goes_after gateway pair by Crashed did = did
 goes_after gateway pair by (Booted number) did = cond (same gateway by) false did
 
--- the last note of the gateway on the pair in its present life, among Used, Released and Retaken, is there and isn't
--- Released
+-- the last note of the gateway on the pair in its present life and era, among Used, Released and Retaken, is there and
+-- isn't Released
 abbrev pub goes_on : GatewayId → Pair → List Note → Bool
 goes_on gateway pair [] = false
 goes_on gateway pair (note ∷ notes) =
