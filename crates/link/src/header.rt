@@ -20,7 +20,7 @@
 //! +---------------------------------------------------------------+
 //! |                    outside virtual address                    |  32
 //! +---------------+---------------+---------------+---------------+
-//! | inside prefix | outside prefix| status, 0 / 1 |               |  36
+//! | inside prefix | outside prefix| status, 0/1/2 |               |  36
 //! +---------------+---------------+---------------+               |
 //! |   how many of the receiver's records were taken (8 bytes)     |  39
 //! |                                               +---------------+
@@ -43,7 +43,7 @@
 //! 9c40 ea5f          40000 to 59999 for gateway 1,
 //! c0a80101 c0000201  192.168.1.1 inside, 192.0.2.1 outside,
 //! 18 18              and prefixes of 24 bits;
-//! 01                 it serves,
+//! 01                 it serves (00: it doesn't, 02: it ends),
 //! 0000000000000000   it took no record of the receiver,
 //! 0000000000000004   and its own records from number 4 on are not yet known to be taken:
 //! 01                 one,
@@ -54,13 +54,13 @@ ghost use Rattle.std.specs.Prelude.{◌≡◌, ◌+◌, ◌≤◌, ◌++◌, tru
 ghost use Rattle.byteorder.specs.Endian.{big_bytes, big_number};
 ghost use Rattle.link.specs.Grammar.{gateway_number, status_number};
 ghost use Rattle.link.specs.Reading.{Gives, header_at, header, header_spelling};
-ghost use Rattle.link.specs.Reading.{gateway_numbered as gateway_of};
+ghost use Rattle.link.specs.Reading.{gateway_numbered as gateway_of, status_numbered as status_of};
 ghost use Rattle.link.specs.Reading.{is_ours as is_datagram_of_ours};
 ghost use Rattle.link.specs.Reading.{is_sender as names_sender, is_in_range as fields_are_in_range};
 
 use crate::values::{put_values, values_from};
 use crate::writing::{LONGEST_PART, Part, put};
-use crate::{LinkFault, RECORDS_IN_A_DATAGRAM};
+use crate::{LinkFault, RECORDS_IN_A_DATAGRAM, Status};
 use byteorder::{BigEndian, ByteOrder};
 use nat_types::GatewayId;
 use settings::Values;
@@ -101,7 +101,7 @@ pub(crate) struct Header {
     pub boot: u64,
     pub receiver_boot: u64,
     pub values: Values,
-    pub serves: bool,
+    pub status: Status,
     pub delivered: u64,
     pub first: u64,
     pub count: u8,
@@ -114,6 +114,16 @@ fn gateway_numbered(number: u8) -> GatewayId
         GatewayId::Zero
     } else {
         GatewayId::One
+    }
+}
+
+fn status_numbered(number: u8) -> Status
+    ensures { result ≡ status_of number }
+{
+    match number {
+        0 => Status::NotServing,
+        1 => Status::Serving,
+        _ => Status::Ending,
     }
 }
 
@@ -136,7 +146,7 @@ fn is_in_range(status: u8, count: u8, first: u64) -> bool
     ensures exact { result ≡ fields_are_in_range status count first }
     ensures count { result ≡ true → count ≤ 64 }
 {
-    status < 2
+    status < 3
         && usize::from(count) <= RECORDS_IN_A_DATAGRAM
         && first > 0
         && first <= NUMBERS_END - u64::from(count)
@@ -159,7 +169,7 @@ fn fields_of(bytes: &[u8]) -> Header
         boot: number_from(bytes, field::BOOT),
         receiver_boot: number_from(bytes, field::RECEIVER_BOOT),
         values: values_from(bytes, field::VALUES),
-        serves: bytes[field::STATUS] == 1,
+        status: status_numbered(bytes[field::STATUS]),
         delivered: number_from(bytes, field::DELIVERED),
         first: number_from(bytes, field::FIRST),
         count: bytes[field::COUNT],
@@ -209,10 +219,14 @@ fn number_of(sender: GatewayId) -> u8
     }
 }
 
-fn status_of(serves: bool) -> u8
-    ensures { result ≡ status_number serves }
+fn number_of_status(status: Status) -> u8
+    ensures { result ≡ status_number status }
 {
-    if serves { 1 } else { 0 }
+    match status {
+        Status::NotServing => 0,
+        Status::Serving => 1,
+        Status::Ending => 2,
+    }
 }
 
 fn put_number(out: &mut Part, number: u64)
@@ -231,7 +245,7 @@ pub(crate) fn put_header(out: &mut Part, header: &Header)
     put_number(out, header.boot);
     put_number(out, header.receiver_boot);
     put_values(out, &header.values);
-    put(out, &[status_of(header.serves)]);
+    put(out, &[number_of_status(header.status)]);
     put_number(out, header.delivered);
     put_number(out, header.first);
     put(out, &[header.count]);
