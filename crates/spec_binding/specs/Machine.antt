@@ -7,8 +7,7 @@ use Rattle.nat_types.specs.declared.records.Record.{Record}
 use Rattle.bindings.specs.declared.entries.Entry.{Entry}
 use Rattle.bindings.specs.Entries.{slot_of}
 use Rattle.bindings.specs.Ports.{in_bounds}
-use Rattle.link.specs.Link.{Link, Agrees}
-use Rattle.link.specs.Status.{is_ending}
+use Rattle.link.specs.Link.{Link, Agrees, is_ending}
 use Rattle.link.specs.declared.datagrams.Datagram.{Datagram}
 use Rattle.spec_pair.specs.Talk as machine
 use Rattle.spec_pair.specs.Mapped.{slot_in, machine_record}

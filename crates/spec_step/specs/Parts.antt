@@ -31,8 +31,7 @@ use Rattle.link.specs.declared.faults.LinkFault.{LinkFault}
 use Rattle.link.specs.Grammar.{spelling}
 use Rattle.link.specs.declared.datagrams.Status.{Status}
 use Rattle.link.specs.declared.datagrams.Status.TheVariants.{Ending}
-use Rattle.link.specs.Status.{status_by}
-use Rattle.link.specs.Link.{Link, after_take, closed_at, datagram_of, is_due_on_tick, is_lacking, is_over, is_restart, left_by, records_taken, refusal, sent_on_answer, sent_on_tick, wanted, with_fed}
+use Rattle.link.specs.Link.{Link, after_take, closed_at, datagram_of, is_due_on_tick, is_lacking, is_over, is_restart, left_by, records_taken, refusal, sent_on_answer, sent_on_tick, status_by, wanted, with_fed}
 use Rattle.link.specs.Reading.{reading}
 use Rattle.spec_binding.specs.declared.changes.Transition.{Transition}
 use Rattle.spec_binding.specs.Books.{is_lone, is_synced}
