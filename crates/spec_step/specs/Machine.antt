@@ -2,6 +2,7 @@
 use Rattle.std.specs.Prelude.{◌≡◌, ◌<◌, ◌≤◌, ℕ, true, List, [], ◌∷◌, ◌++◌, get_or, length, map, reverse, Result, Ok, Err, ◌⊎◌}
 use Rattle.std.specs.List.{AllByRecursion}
 use Rattle.nat_types.specs.declared.notes.Note.{Note}
+use Rattle.nat_types.specs.declared.notes.NoteKind.TheVariants.{Crashed}
 use Rattle.nat_types.specs.declared.records.Record.{Record}
 use Rattle.link.specs.declared.datagrams.Datagram.{Datagram as Letters}
 use Rattle.link.specs.declared.faults.LinkFault.{LinkFault}
@@ -12,6 +13,7 @@ use Rattle.link.specs.Reading.{reading}
 use Rattle.spec_pair.specs.Acts.{MaySend}
 use Rattle.spec_pair.specs.Box.{Box, Letter, last_letter}
 use Rattle.spec_pair.specs.Step.{IsStep}
+use Rattle.spec_pair.specs.Talk.{note}
 use Rattle.spec_binding.specs.Books.{IsBook, is_lone}
 use Rattle.spec_binding.specs.Machine.{IsSameHouse, Stands, box_at, letter_of, ranges_of}
 use Rattle.spec_step.specs.declared.events.Event.{Event}
@@ -110,13 +112,13 @@ GoesFurther End = ⊥
 GoesFurther (PeerOff n) = Unit {0}
 GoesFurther (SideIs side up) = Unit {0}
 
--- The end of a gateway that had pushed `h`, from a scene to the last one: nothing is noted, acts of the machine lead to
--- the last box, and one datagram is sent, which is that box's last letter, with records of its session from number
--- `first` on, at most `count`.
+-- The end of a gateway that had pushed `h`, from a scene to the last one: acts of the machine that note nothing lead to
+-- the last box. One datagram is sent, which is that box's last letter, with records of its session from number `first` on,
+-- at most `count`; and the one note is Crashed.
 pub record Ends (old new : GatewayAndOutput) (h : List Record) : Type 0 where
   pub history : List Record
   pub pushed : HasPushed new.shown history
-  pub notes_are : new.told.notes ≡ old.told.notes
+  pub notes_are : new.told.notes ≡ old.told.notes ++ note (id_of old.shown) new.shown.moment Crashed ∷ []
   pub last : Letters
   pub datagrams_are : new.told.datagrams ≡ old.told.datagrams ++ spelling last ∷ []
   pub own : last ≡ datagram_of Ending new.shown.link

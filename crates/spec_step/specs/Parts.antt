@@ -9,6 +9,7 @@ use Rattle.addresses.specs.declared.transport.TcpFlags.{TcpFlags}
 use Rattle.nat_types.specs.Same.{same}
 use Rattle.nat_types.specs.declared.gateways.GatewayId.TheVariants.{Zero}
 use Rattle.nat_types.specs.declared.gateways.Side.{Side}
+use Rattle.nat_types.specs.declared.notes.NoteKind.TheVariants.{Crashed}
 use Rattle.nat_types.specs.declared.pairs.Endpoint.{Endpoint}
 use Rattle.nat_types.specs.declared.pairs.Key.{Key}
 use Rattle.nat_types.specs.declared.records.Record.{Record}
@@ -39,6 +40,7 @@ use Rattle.spec_binding.specs.Ledgers.{lone_ledger, carried_ledger, founded_ledg
 use Rattle.spec_binding.specs.Resets.{back_in, founding_link, founding_note, restart_link, restart_notes, retaken}
 use Rattle.spec_binding.specs.Rows.{alone_row, answered, behind, idle_row, is_full, noted_by, taken_answer, taken_behind, taken_ended, taken_what, wish_of}
 use Rattle.spec_binding.specs.Uses.{carried_notes}
+use Rattle.spec_pair.specs.Talk.{note}
 use Rattle.waiting.specs.declared.waits.Ended.{Ended}
 use Rattle.waiting.specs.declared.waits.Ended.TheVariants.{One, AllPairs}
 use Rattle.waiting.specs.declared.waits.WaitsFor.{WaitsFor}
@@ -590,7 +592,9 @@ tick_sent g told =
 abbrev pub link_ticked : GatewayAndOutput → GatewayAndOutput
 link_ticked s = tick_sent (handed_in s.shown) s.told
 
--- the scene after a gateway ended: the batch is fed, and its last datagram is sent, which says that it ends
+-- the scene after a gateway ended: the batch is fed, its last datagram is sent, which says that it ends, and the last
+-- note is Crashed
 abbrev pub link_ended : GatewayAndOutput → GatewayAndOutput
 link_ended s = let g = handed_in s.shown in
-    scene (record g { link = sent_on_answer g.link }) (with_datagram s.told (spelling (datagram_of Ending g.link)))
+    scene (record g { link = sent_on_answer g.link })
+    (with_notes (with_datagram s.told (spelling (datagram_of Ending g.link))) (note (id_of g) g.moment Crashed ∷ []))
