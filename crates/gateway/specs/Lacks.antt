@@ -17,7 +17,7 @@ use Rattle.packet_rules.specs.declared.readings.Reading.{Reading}
 use Rattle.packet_rules.specs.declared.reasons.Reason.{Reason}
 use Rattle.packet_rules.specs.declared.reasons.Reason.TheVariants.{TtlOver}
 use Rattle.spec_step.specs.declared.events.Event.{Event}
-use Rattle.spec_step.specs.declared.events.Event.TheVariants.{Frame, Datagram, Tick, Stop, PeerOff, Side as Cable}
+use Rattle.spec_step.specs.declared.events.Event.TheVariants.{Frame, Datagram, Tick, Stop, End, PeerOff, Side as Cable}
 use Rattle.spec_step.specs.declared.events.Outcome.TheVariants.{Waiting}
 use Rattle.spec_step.specs.Founding.{bounds_of, link_places}
 use Rattle.spec_step.specs.Shown.{Shown}
@@ -101,6 +101,7 @@ Lacks (Frame side bytes) f page = LacksForFrame side bytes.now (reading_on (show
 Lacks (Datagram bytes) f page = LacksForDatagram (may_restart f.link (header_at bytes.now)) f page
 Lacks (Tick now) f page = LacksForTick (is_apart_at (shown_of f) now) f page
 Lacks Stop f page = LacksRoom both_routers f page
+Lacks End f page = LacksRoom both_routers f page
 Lacks (PeerOff boot) f page = WasUnlisted f ⊎ LacksRoom (and_kept (waiting_needs f) f) f page
 Lacks (Cable side up) f page = ⊥
 
@@ -124,6 +125,7 @@ LacksGathering s (Frame side bytes) = LacksPart s side bytes.now
 LacksGathering s (Datagram bytes) = ⊥
 LacksGathering s (Tick now) = ⊥
 LacksGathering s Stop = ⊥
+LacksGathering s End = ⊥
 LacksGathering s (PeerOff boot) = ⊥
 LacksGathering s (Cable side up) = ⊥
 

@@ -4,7 +4,7 @@ use Rattle.nat_types.specs.declared.records.Record.{Record}
 use Rattle.link.specs.declared.datagrams.TheConstants.{RECORDS_IN_A_DATAGRAM}
 use Rattle.link.specs.Link.{needs_answer}
 use Rattle.spec_step.specs.declared.events.Event.{Event}
-use Rattle.spec_step.specs.declared.events.Event.TheVariants.{Frame, Datagram, Tick, Stop, PeerOff, Side}
+use Rattle.spec_step.specs.declared.events.Event.TheVariants.{Frame, Datagram, Tick, Stop, End, PeerOff, Side}
 use Rattle.output.specs.declared.pages.Room.{Room}
 use Rattle.waiting.specs.Packets.{HeldPacket, beyond, octets_in}
 use Rattle.forwarder.specs.declared.forwarders.Forwarder.{Forwarder}
@@ -22,6 +22,7 @@ is_of_side (Frame side bytes) = false
 is_of_side (Datagram bytes) = false
 is_of_side (Tick now) = false
 is_of_side Stop = false
+is_of_side End = false
 is_of_side (PeerOff boot) = false
 is_of_side (Side side up) = true
 
@@ -31,6 +32,7 @@ IsShort (Frame side bytes) = length bytes.now ≤ 65549
 IsShort (Datagram bytes) = ⊤
 IsShort (Tick now) = ⊤
 IsShort Stop = ⊤
+IsShort End = ⊤
 IsShort (PeerOff boot) = ⊤
 IsShort (Side side up) = ⊤
 
@@ -40,6 +42,7 @@ most_datagrams (Frame side bytes) = 1
 most_datagrams (Datagram bytes) = 1
 most_datagrams (Tick now) = 1
 most_datagrams Stop = 1
+most_datagrams End = 1
 most_datagrams (PeerOff boot) = 1
 most_datagrams (Side side up) = 0
 
