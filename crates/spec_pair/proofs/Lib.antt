@@ -15,8 +15,8 @@ mod Grants
 mod Lists
 mod Mirror
 mod Acts
-mod Sending
 mod Lives
+mod Sending
 mod Granting
 mod Loading
 mod Hearing
