@@ -20,6 +20,7 @@ mod Sending
 mod Granting
 mod Loading
 mod Hearing
+mod Founding
 mod Lone
 mod Cursor
 mod Kept

@@ -27,7 +27,7 @@ private_gone : (moment : ℕ) (j i : GatewayId) (table : Key → Slot) (t : List
 private_gone moment j i table t g = g
 
 -- after a crash, a boot or a founding of a gateway that isn't synced the same gateways are synced
-synced_off : (g i : GatewayId) (t : List Note) → is_synced i t ≡ false → cond (same g i) false (is_synced g t) ≡ is_synced g t
+pub synced_off : (g i : GatewayId) (t : List Note) → is_synced i t ≡ false → cond (same g i) false (is_synced g t) ≡ is_synced g t
 synced_off g i t off = elim (cases_Bool (same g i)) [
   | inl e ↦ ap (λ b. cond b false (is_synced g t)) e ∙ sym (ap (λ x. is_synced x t) (same-eq g i e) ∙ off)
   | inr e ↦ ap (λ b. cond b false (is_synced g t)) e
