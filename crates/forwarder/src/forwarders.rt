@@ -76,6 +76,13 @@ impl Forwarder {
         self.core.is_synced() && self.is_whole()
     }
 
+    /// The status that the gateway's datagrams have until it ends.
+    pub fn status(&self) -> Status
+        ensures { result ≡ status_in (shown_of self.now) }
+    {
+        Status::of_serving(self.serves())
+    }
+
     /// Whether the cable of one side or of both is out.
     fn has_side_out(&self) -> bool
         ensures { result ≡ has_side_out (shown_of self.now) }
