@@ -42,7 +42,7 @@ pub fn run_loop<R: Files + Net + Clock + AllocGlobal, W: Write>(
 ) -> Result<u8, Fault> {
     let job = read_job(rt.alloc(), settings, script)?;
     let mut channel = Loopback::open(rt, settings.path, &job.settings)?;
-    let mut file = begin_capture(rt, capture)?;
+    let mut file = begin_capture(rt, capture, job.founded)?;
     let status = run_loop_job(rt.alloc(), &job, &mut channel, &mut file, output);
     end_capture(rt.alloc(), capture, file)?;
     status

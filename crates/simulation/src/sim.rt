@@ -53,7 +53,7 @@ pub fn run_sim<R: Files + AllocGlobal, P: Progress, W: Write>(
     output: &mut W,
 ) -> Result<u8, Fault> {
     let job = read_job(rt.alloc(), settings, script)?;
-    let mut file = begin_capture(rt, capture)?;
+    let mut file = begin_capture(rt, capture, job.founded)?;
     let status = run_sim_job(rt.alloc(), &job, progress, &mut file, output);
     end_capture(rt.alloc(), capture, file)?;
     status
