@@ -49,16 +49,16 @@ unfit_open f n p xs s k t e unfit up opens it = (
 )
 
 -- of two gateways neither is synced
-neither : (i j : GatewayId) (t : List Note) (b : Bool) → same j i ≡ b → is_synced i t ≡ false → is_synced (other i) t ≡ false → is_synced j t ≡ false
-neither i j t true e a b = ap (λ (x : GatewayId). is_synced x t) (same-eq j i e) ∙ a
-neither i j t false e a b = ap (λ (x : GatewayId). is_synced x t) (differs-other j i e) ∙ b
+neither : (i j : GatewayId) (t : List Note) (b : Bool) → same i j ≡ b → is_synced i t ≡ false → is_synced (other i) t ≡ false → is_synced j t ≡ false
+neither i j t true e a b = ap (λ (x : GatewayId). is_synced x t) (sym (same-eq i j e)) ∙ a
+neither i j t false e a b = ap (λ (x : GatewayId). is_synced x t) (differs-other i j e) ∙ b
 
 -- a Founded note at which neither gateway is synced is well
 pub founded_well : (n : Note) (t : List Note) → n.what ≡ Founded → is_synced n.by t ≡ false → is_synced (other n.by) t ≡ false → IsWellAt t n
 founded_well n t e a b = (
   subst (λ (x : NoteKind). OnePortAt x t × OneEndpointAt x t) (sym e) (tt, tt),
   subst (λ (x : NoteKind). SilentAt n.by x t) (sym e) tt,
-  subst (λ (x : NoteKind). FoundedRightlyAt x t) (sym e) (λ j. neither n.by j t (same j n.by) refl a b),
+  subst (λ (x : NoteKind). FoundedRightlyAt x t) (sym e) (λ j. neither n.by j t (same n.by j) refl a b),
 )
 
 -- a Founded note at which a gateway is synced isn't

@@ -1,6 +1,6 @@
 //! The checker of traces. The checker goes through the notes once, and keeps the list of open pairs
 //! and which gateways are synced.
-ghost use Rattle.std.specs.Prelude.{◌≡◌, ◌+◌, not, List, ◌∷◌, filter, reverse, ◌&&◌, IsTrue, ◌↔◌, OnOk, OnErr, IfErr, All, Contains};
+ghost use Rattle.std.specs.Prelude.{◌≡◌, ◌+◌, not, List, ◌∷◌, filter, reverse, ◌&&◌, ◌||◌, IsTrue, ◌↔◌, OnOk, OnErr, IfErr, All, Contains};
 ghost use Rattle.nat_types.specs.Same.{other, same, same_pair};
 ghost use Rattle.nat_types.specs.declared.gateways.GatewayId.TheVariants.{Zero, One};
 ghost use Rattle.spec_trace.specs.Past as past;
@@ -227,6 +227,20 @@ fn fits_all(opens: &[Pair], before: &[Note], used: Pair) -> bool
     opens.iter().all(|open| do_fit(before, used, *open))
 }
 
+/// Whether a gateway is synced and holds a pair that is private to it.
+fn is_apart(trace: &[Note], synced: bool, held: bool, gateway: GatewayId, pair: Pair) -> bool
+    ensures { result ≡ (synced && (held && past.is_private gateway pair (reverse trace.now))) }
+{
+    synced && held && is_private(trace, gateway, pair)
+}
+
+/// Whether each synced gateway holds a pair, which gateway 0 and gateway 1 hold where these say so.
+fn are_both(synced: (bool, bool), at_zero: bool, at_one: bool) -> bool
+    ensures { result ≡ ((not synced.0 || at_zero) && (not synced.1 || at_one)) }
+{
+    (!synced.0 || at_zero) && (!synced.1 || at_one)
+}
+
 /// Whether an open pair is held by each synced gateway, or by a synced one to which it is private.
 /// `synced` says whether gateway 0 and gateway 1 are synced; `zero` and `one` are their tables.
 fn is_kept(trace: &[Note], synced: (bool, bool), zero: &[Pair], one: &[Pair], pair: Pair) -> bool
@@ -235,13 +249,9 @@ fn is_kept(trace: &[Note], synced: (bool, bool), zero: &[Pair], one: &[Pair], pa
 {
     let at_zero = has(zero, pair);
     let at_one = has(one, pair);
-    if synced.0 && at_zero && is_private(trace, GatewayId::Zero, pair) {
-        return true;
-    }
-    if synced.1 && at_one && is_private(trace, GatewayId::One, pair) {
-        return true;
-    }
-    (!synced.0 || at_zero) && (!synced.1 || at_one)
+    is_apart(trace, synced.0, at_zero, GatewayId::Zero, pair)
+        || is_apart(trace, synced.1, at_one, GatewayId::One, pair)
+        || are_both(synced, at_zero, at_one)
 }
 
 /// Whether each open pair is kept.
