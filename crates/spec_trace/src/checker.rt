@@ -249,9 +249,13 @@ fn is_kept(trace: &[Note], synced: (bool, bool), zero: &[Pair], one: &[Pair], pa
 {
     let at_zero = has(zero, pair);
     let at_one = has(one, pair);
-    is_apart(trace, synced.0, at_zero, GatewayId::Zero, pair)
-        || is_apart(trace, synced.1, at_one, GatewayId::One, pair)
-        || are_both(synced, at_zero, at_one)
+    if is_apart(trace, synced.0, at_zero, GatewayId::Zero, pair) {
+        return true;
+    }
+    if is_apart(trace, synced.1, at_one, GatewayId::One, pair) {
+        return true;
+    }
+    are_both(synced, at_zero, at_one)
 }
 
 /// Whether each open pair is kept.
