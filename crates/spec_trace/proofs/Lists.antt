@@ -1,18 +1,15 @@
 -- The list of open pairs that the checker keeps, and the notes that it has seen.
-use Rattle.std.proofs.Common.{◌≡◌, ℕ, ◌+◌, ◌<◌, inl, inr, Bool, true, false, not, ◌&&◌, ◌||◌, cond, List, [], ◌∷◌, ◌++◌, length, take, get_or, filter, reverse, IsTrue, ◌↔◌, refl, sym, ap, subst, ◌∙◌, arith}
+use Rattle.std.proofs.Common.{◌≡◌, ℕ, ◌+◌, ◌<◌, inl, inr, Bool, true, false, not, ◌&&◌, cond, List, [], ◌∷◌, ◌++◌, length, take, get_or, filter, reverse, IsTrue, ◌↔◌, refl, sym, ap, subst, ◌∙◌, arith}
 use Rattle.std.specs.Bool.{MatchBool}
 use Rattle.std.specs.List.{All, AllWithin, Contains}
-use Rattle.std.proofs.lemmas.Bool.{cases_Bool, both_ways, and_parts, and_from, or_cases, or_left, or_right, not-true}
+use Rattle.std.proofs.lemmas.Bool.{cases_Bool, both_ways, and_from, not-true}
 use Rattle.std.proofs.lemmas.List.{take_more, reverse-append}
 use Rattle.std.proofs.lemmas.List.Elements.{All-contains, All-from_all_within, All-filter, All-contains_itself, filter_passes, Contains-push_cases, Contains-append_cases, Contains-append_left, Contains-append_right, Contains-push}
 use Rattle.nat_types.specs.declared.gateways.GatewayId.{GatewayId}
-use Rattle.nat_types.specs.declared.gateways.GatewayId.TheVariants.{Zero, One}
 use Rattle.nat_types.specs.declared.pairs.Pair.{Pair}
 use Rattle.nat_types.specs.declared.notes.Note.{Note}
 use Rattle.nat_types.specs.Same.{same, same_pair}
 use Rattle.nat_types.proofs.Offered.{same-eq, same-true, pair-eq, pair-true}
-use Rattle.spec_trace.specs.Past.{is_private}
-use Rattle.spec_trace.specs.Audit.{ListsHold, IsHeld, by_gateway}
 
 iff_same : (a b : Bool) (P : Type 0) → (IsTrue a ↔ P) → (IsTrue b ↔ P) → a ≡ b
 iff_same true b P f g = sym (g.1 (f.0 refl))
@@ -79,34 +76,6 @@ less_iff q xs lost b f =
       | inl s ↦ subst (λ k. Contains (filter test xs) q ↔ IsTrue (cond k false b)) (sym s) (λ c. absurd (both_ways (lost q) (not-true (lost q) (passed c)) s), λ h. absurd (cc))
       | inr s ↦ subst (λ k. Contains (filter test xs) q ↔ IsTrue (cond k false b)) (sym s) (λ c. f.0 (had c), λ h. kept_by test xs q (f.1 h) (ap not s))
     ]
-
--- no synced gateway has the pair for itself alone
-not_apart : (u v a b : Bool) (zero one : List Pair) (t : List Note) (q : Pair) → (IsTrue a ↔ Contains zero q) → (IsTrue b ↔ Contains one q) → (u && (a && is_private Zero q t)) ≡ false → (v && (b && is_private One q t)) ≡ false → (i : GatewayId) → IsTrue (by_gateway i u v) → IsTrue (is_private i q t) → ListsHold zero one i q → ⊥
-not_apart u v a b zero one t q f g none never Zero up private holds = both_ways (u && (a && is_private Zero q t)) none (and_from u (a && is_private Zero q t) up (and_from a (is_private Zero q t) (f.1 holds) private))
-not_apart u v a b zero one t q f g none never One up private holds = both_ways (v && (b && is_private One q t)) never (and_from v (b && is_private One q t) up (and_from b (is_private One q t) (g.1 holds) private))
-
--- where a gateway is synced it holds the pair
-held_where : (u a : Bool) → (u ≡ true → a ≡ true) → (not u || a) ≡ true
-held_where true a f = f refl
-held_where false a f = refl
-
-where_held : (u a : Bool) → (not u || a) ≡ true → u ≡ true → a ≡ true
-where_held true a h e = h
-where_held false a h e = absurd (cc)
-
-both_held : (u v a b : Bool) (zero one : List Pair) (q : Pair) → (IsTrue a ↔ Contains zero q) → (IsTrue b ↔ Contains one q) → ((not u || a) && (not v || b)) ≡ true → (i : GatewayId) → IsTrue (by_gateway i u v) → ListsHold zero one i q
-both_held u v a b zero one q f g h Zero up = f.0 (where_held u a (and_parts (not u || a) (not v || b) h).0 up)
-both_held u v a b zero one q f g h One up = g.0 (where_held v b (and_parts (not u || a) (not v || b) h).1 up)
-
--- of a pair that no synced gateway has for itself alone: each synced gateway holds it where it is held
-pub both_iff : (r u v a b : Bool) (zero one : List Pair) (t : List Note) (q : Pair) → (IsTrue a ↔ Contains zero q) → (IsTrue b ↔ Contains one q) → (u && (a && is_private Zero q t)) ≡ false → (v && (b && is_private One q t)) ≡ false → r ≡ ((not u || a) && (not v || b)) → IsTrue r ↔ IsHeld u v zero one t q
-both_iff r u v a b zero one t q f g none never e =
-    let alone : (i : GatewayId) → IsTrue (by_gateway i u v) → IsTrue (is_private i q t) → ListsHold zero one i q → ⊥ = not_apart u v a b zero one t q f g none never in (
-      λ h i up. inl (both_held u v a b zero one q f g (sym e ∙ h) i up),
-      λ h. e ∙ and_from (not u || a) (not v || b)
-          (held_where u a (λ up. elim (h Zero up) [ inl c ↦ f.1 c | inr c ↦ absurd (alone c.0 c.1 c.2 c.3) ]))
-          (held_where v b (λ up. elim (h One up) [ inl c ↦ g.1 c | inr c ↦ absurd (alone c.0 c.1 c.2 c.3) ])),
-    )
 
 -- the first i + 1 notes, reversed, are note i before the first i notes, reversed
 pub reverse_take : (xs : List Note) (i : ℕ) (n : Note) → i < length xs → n ≡ get_or xs i n → reverse (take (i + 1) xs) ≡ n ∷ reverse (take i xs)

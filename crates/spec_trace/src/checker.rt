@@ -1,5 +1,6 @@
 //! The checker of traces. The checker goes through the notes once, and keeps the list of open pairs
-//! and which gateways are synced.
+//! and which gateways are synced. In all functions `founded` says how the world of the notes began:
+//! with gateway 0 founded, or with nobody up.
 ghost use Rattle.std.specs.Prelude.{◌≡◌, ◌+◌, not, List, ◌∷◌, filter, reverse, ◌&&◌, ◌||◌, IsTrue, ◌↔◌, OnOk, OnErr, IfErr, All, Contains};
 ghost use Rattle.nat_types.specs.Same.{other, same, same_pair};
 ghost use Rattle.nat_types.specs.declared.gateways.GatewayId.TheVariants.{Zero, One};
@@ -107,7 +108,7 @@ fn has_released(trace: &[Note], gateway: GatewayId, pair: Pair) -> bool
     gone
 }
 
-/// Whether a gateway is synced after these notes of a world that began so.
+/// Whether a gateway is synced after these notes.
 fn is_synced(founded: bool, trace: &[Note], gateway: GatewayId) -> bool
     ensures { result ≡ past.is_synced gateway (past.begun founded (reverse trace.now)) }
 {
@@ -176,8 +177,7 @@ fn is_in_use(founded: bool, trace: &[Note], gateway: GatewayId, pair: Pair) -> b
     is_synced(founded, trace, gateway) && goes_on(trace, gateway, pair)
 }
 
-/// Whether a pair is private to a gateway and not in use at the other, after these notes of a world
-/// that began so.
+/// Whether a pair is private to a gateway and not in use at the other, after these notes.
 #[tactic(auto, using(crate::proofs::Worlds::private_begun))]
 fn is_only_at(founded: bool, trace: &[Note], gateway: GatewayId, pair: Pair) -> bool
     ensures { result ≡ past.is_only_at gateway pair (past.begun founded (reverse trace.now)) }
@@ -234,8 +234,9 @@ fn is_apart(trace: &[Note], synced: bool, held: bool, gateway: GatewayId, pair: 
     synced && held && is_private(trace, gateway, pair)
 }
 
-/// Whether each synced gateway holds a pair, which gateway 0 and gateway 1 hold where these say so.
-fn are_both(synced: (bool, bool), at_zero: bool, at_one: bool) -> bool
+/// Whether each synced gateway holds a pair. `synced` says which are synced, and `at_zero` and `at_one`
+/// which hold it.
+fn is_shared(synced: (bool, bool), at_zero: bool, at_one: bool) -> bool
     ensures { result ≡ ((not synced.0 || at_zero) && (not synced.1 || at_one)) }
 {
     (!synced.0 || at_zero) && (!synced.1 || at_one)
@@ -255,7 +256,7 @@ fn is_kept(trace: &[Note], synced: (bool, bool), zero: &[Pair], one: &[Pair], pa
     if is_apart(trace, synced.1, at_one, GatewayId::One, pair) {
         return true;
     }
-    are_both(synced, at_zero, at_one)
+    is_shared(synced, at_zero, at_one)
 }
 
 /// Whether each open pair is kept.
@@ -281,7 +282,7 @@ fn remove(opens: &mut Vec<Pair>, pair: Pair)
 }
 
 /// Takes from the open pairs those that are lost with the box of a gateway that crashes after these
-/// notes of a world that began so.
+/// notes.
 fn lose(opens: &mut Vec<Pair>, founded: bool, before: &[Note], gateway: GatewayId)
     ensures { opens.new.items
         ≡ filter (λ q. not (past.is_only_at gateway q (past.begun founded (reverse before.now))))
@@ -299,8 +300,8 @@ fn of_gateway(gateway: GatewayId, zero: bool, one: bool) -> bool
     }
 }
 
-/// Judges one note of a world that began so. `before` has the notes before it, `opens` the pairs open
-/// there, and `synced` says whether its gateway is synced there.
+/// Judges one note. `before` has the notes before it, `opens` the pairs open there, and `synced` says
+/// whether its gateway is synced there.
 fn judge(
     opens: &[Pair],
     founded: bool,
@@ -337,8 +338,8 @@ fn judge(
     }
 }
 
-/// Whether a release of a pair after these notes of a world that began so is an agreed deletion.
-/// `alone` says that the other gateway isn't synced.
+/// Whether a release of a pair after these notes is an agreed deletion. `alone` says that the other
+/// gateway isn't synced.
 #[tactic(auto, using(crate::proofs::Worlds::released_begun))]
 fn is_agreed(founded: bool, before: &[Note], alone: bool, gateway: GatewayId, pair: Pair) -> bool
     requires { alone
@@ -350,9 +351,8 @@ fn is_agreed(founded: bool, before: &[Note], alone: bool, gateway: GatewayId, pa
         || is_only_at(founded, before, gateway, pair)
 }
 
-/// Changes the list of open pairs as one note does, of a world that began so. `before` has the notes
-/// before it, and `alone` says that the other gateway isn't synced. Answers `NoMemory` where the list
-/// can't grow.
+/// Changes the list of open pairs as one note does. `before` has the notes before it, and `alone`
+/// says that the other gateway isn't synced. Answers `NoMemory` where the list can't grow.
 fn follow(
     opens: &mut Vec<Pair>,
     founded: bool,
