@@ -1,6 +1,6 @@
 -- Where a gateway hasn't heard the other's boot it may hear it; where both have heard, they are in
 -- one session.
-use Rattle.std.proofs.Common.{◌≡◌, ℕ, ◌+◌, ◌<◌, ◌≤◌, Bool, true, false, nat_lt, inl, inr, List, [], ◌∷◌, refl, ap, arith}
+use Rattle.std.proofs.Common.{◌≡◌, ℕ, ◌+◌, ◌<◌, ◌≤◌, Bool, true, false, nat_lt, inl, inr, List, [], ◌∷◌, take, drop, refl, ap, arith}
 use Rattle.std.proofs.lemmas.Bool.{ltb-false}
 use Rattle.std.proofs.Math.Logic.{∥∥₁_elim}
 use Rattle.std.proofs.Props.{props}
@@ -16,7 +16,9 @@ use Rattle.spec_pair.specs.Ownership.{AreRising, LeaveRest, Ranges, Run, keyed, 
 use Rattle.spec_pair.specs.World.{Can, IsWorld, Scene, after_act, flip, seen_by}
 use Rattle.spec_pair.proofs.Invariant.{Inv, Side}
 use Rattle.spec_pair.proofs.Mirror.{inv_flip}
+use Rattle.spec_pair.proofs.Promised.{is-free}
 use Rattle.spec_pair.proofs.Props.{inv_world}
+use Rattle.spec_pair.specs.Talk.{MachineRecord}
 
 not-less : (m n : ℕ) → n ≤ m → nat_lt m n ≡ false
 not-less m n h = grind (arith, h)
@@ -31,9 +33,14 @@ both-none true false h = absurd (omega (arith, h))
 both-none false true h = absurd (omega (arith, h))
 both-none false false h = (refl, refl)
 
+-- a list without a first record is empty
+first-none : (xs : List MachineRecord) → take 1 (drop 0 xs) ≡ [] → xs ≡ []
+first-none [] h = refl
+first-none (x ∷ xs) h = absurd (cc)
+
 module _ (r : Ranges) where
-  pub it_is_said : (i : GatewayId) (v : Scene) → v.theirs.up ≡ true → Can r (other i) (flip v) (Send 0 0)
-  it_is_said i v up = ((up, λ m h. omega arith), λ l x. absurd x, tt)
+  pub it_is_said : (s : Scene) (i : GatewayId) → IsWorld r s → (seen_by i s).theirs.up ≡ true → Can r (other i) (flip (seen_by i s)) (Send 0 1)
+  it_is_said s i w up = (((up, λ m h. let some : 1 ≤ m = is-free r s i m w h in omega (arith, some)), λ k. first-none (seen_by i s).theirs.sent k.1), λ l x. absurd x, tt)
 
   reads : (v : Scene) (l : Letter) → In l (hello_of v ∷ []) → In l (hello_sent v).their_mail
   reads v l (inl e) = inl e

@@ -34,6 +34,7 @@ mod AloneRuns
 mod Taking
 mod Forged
 mod Counted
+mod Promised
 mod Living
 mod Behind
 mod Nexting

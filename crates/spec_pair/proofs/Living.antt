@@ -28,6 +28,10 @@ drop-nth (y ∷ ys) (suc n) x h = drop-nth ys n x h
 nth-part : {A : Type 0} (xs : List A) (n : ℕ) (x : A) → nth xs n ≡ Some x → nth (take 1 (drop n xs)) 0 ≡ Some x
 nth-part xs n x h = ap (λ ys. nth (take 1 ys) 0) (drop-nth xs n x h)
 
+-- a part of a list that has a record at its beginning isn't empty
+none-there : {X : Type 0} {A : Type 0} (xs : List A) (n : ℕ) (x : A) → nth xs n ≡ Some x → take 1 (drop n xs) ≡ [] → X
+none-there xs n x h none = let bad : None ≡ Some x = ap (λ ys. nth ys 0) (sym none) ∙ nth-part xs n x h in absurd (cc)
+
 pub weighs : (q : MachineRecord) → 0 < weight q
 weighs (Install k e) = omega arith
 weighs (Accept k) = omega arith
@@ -162,7 +166,7 @@ module _ (r : Ranges) (i : GatewayId) (a : Box) where
 
 module _ (r : Ranges) where
   pub it_is_sent : (i : GatewayId) (v : Scene) (q : MachineRecord) → IsNext v q → Can r (other i) (flip v) (Send v.mine.taken 1)
-  it_is_sent i v q h = ((h.their_up, h.free), λ l x. absurd x, tt)
+  it_is_sent i v q h = (((h.their_up, h.free), λ k. none-there v.theirs.sent v.mine.taken q h.next k.1), λ l x. absurd x, tt)
 
   stands : (v : Scene) (q : MachineRecord) → IsNext v q → StandsNext v.mine (next_letter v) 0 q
   stands v q h = record {

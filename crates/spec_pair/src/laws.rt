@@ -9,7 +9,7 @@ ghost use Rattle.nat_types.specs.declared.pairs.Key.{Key};
 ghost use Rattle.nat_types.specs.declared.pairs.Pair.{Pair};
 ghost use Rattle.spec_trace.specs.Past.{is_synced, was_alone};
 ghost use Rattle.spec_trace.specs.Plain as plain;
-ghost use Rattle.spec_trace.specs.Trace.{AtMostTwo, Fits, GoesOn, Kept, OneEndpoint, OnePort, Silent};
+ghost use Rattle.spec_trace.specs.Trace.{AtMostTwo, Fits, FoundedRightly, GoesOn, Kept, OneEndpoint, OnePort, Silent};
 ghost use Rattle.spec_pair.specs.Acts.{Act, AreGot, Hear, HearAnew, MayAct, Send, box_after, letters_by, act_notes};
 ghost use Rattle.spec_pair.specs.Batch.{AreApart, AreThose, LieWithin};
 ghost use Rattle.spec_pair.specs.Box.{AreBack, AreMirrored, AreLoadable, AreSame, revived, Box, In, Parcel, StandsNext, Letter, empty, nth};
@@ -20,7 +20,7 @@ ghost use Rattle.spec_pair.specs.RecordTable.{AreFacts, DoesTake, Facts, act_by_
 ghost use Rattle.spec_pair.specs.Step.{IsOff, IsStep, ReadsOnly, WasSent};
 ghost use Rattle.spec_pair.specs.AloneRows.{made_alone, made_alone_notes, meeting, meeting_notes, pair_b, pair_c, reloading, reloading_notes, tell_crosses, tell_crosses_notes, going_on, going_on_notes, taking_back, taking_back_notes, dying, dying_notes};
 ghost use Rattle.spec_pair.specs.Talk.{Adopt, Alone, Free, Held, Live, MachineRecord, Pending, Slot, Tell, pair_of};
-ghost use Rattle.spec_pair.specs.World.{AreAllowed, Can, EndsBy, MachineEvent, HasOwners, TableHolds, IsKept, IsWorld, Scene, TableTranslates, box_in, after_act, after_event, flip, mail_in, after_events, seen_by, founding, tables_of, with_step};
+ghost use Rattle.spec_pair.specs.World.{AreAllowed, Can, EndsBy, MachineEvent, HasOwners, TableHolds, IsKept, IsWorld, Scene, TableTranslates, box_in, after_act, after_event, flip, mail_in, after_events, seen_by, beginning, tables_of, with_step};
 
 /// The headline, for any loss, repetition and reordering of datagrams, for ever too, any crashes and boots that are
 /// allowed, and while both gateways make pairs by themselves too. No outside port of an open pair serves another
@@ -30,17 +30,17 @@ ghost use Rattle.spec_pair.specs.World.{AreAllowed, Can, EndsBy, MachineEvent, H
 /// port is owned by two synced gateways, and once both have taken all that was pushed each port of the ranges has an
 /// owner.
 pub fn the_pair_keeps()
-    ensures kept { (r : Ranges) (events : List MachineEvent)
-        → AreAllowed r events (founding r) →
-        let s = after_events r events (founding r) in IsKept s.trace (tables_of s) }
-    ensures owners { (r : Ranges) (events : List MachineEvent)
-        → AreAllowed r events (founding r) →
-        HasOwners r (after_events r events (founding r)) }
+    ensures kept { (r : Ranges) (founded : Bool) (events : List MachineEvent)
+        → AreAllowed r events (beginning r founded) →
+        let s = after_events r events (beginning r founded) in IsKept s.trace (tables_of s) }
+    ensures owners { (r : Ranges) (founded : Bool) (events : List MachineEvent)
+        → AreAllowed r events (beginning r founded) →
+        HasOwners r (after_events r events (beginning r founded)) }
 {}
 
-/// The scene at the founding can come about.
+/// Each of the two beginnings can come about: with gateway 0 founded, and with nobody up.
 pub fn begins()
-    ensures { (r : Ranges) → IsWorld r (founding r) }
+    ensures { (r : Ranges) (founded : Bool) → IsWorld r (beginning r founded) }
 {}
 
 /// A scene to which one more allowed event leads, from a scene that can come about, can come about.
@@ -68,6 +68,8 @@ pub fn promises_in_order()
         s.trace ≡ reverse trace → Kept (TableHolds (tables_of s)) trace }
     ensures silent { (r : Ranges) (s : Scene) (trace : List Note) → IsWorld r s →
         s.trace ≡ reverse trace → Silent trace }
+    ensures founded_rightly { (r : Ranges) (s : Scene) (trace : List Note) → IsWorld r s →
+        s.trace ≡ reverse trace → FoundedRightly trace }
     ensures goes_on { (r : Ranges) (s : Scene) (trace : List Note) → IsWorld r s →
         s.trace ≡ reverse trace → GoesOn (TableTranslates (tables_of s)) trace }
     ensures synced { (r : Ranges) (s : Scene) (trace : List Note) (i : GatewayId)
@@ -211,8 +213,8 @@ pub fn never_stuck()
 /// one gateway fewer hasn't heard (`fewer_anew`, `fewer_heard`). Where both have heard, they are in one session, and
 /// neither is lone (`together`).
 pub fn hears_next()
-    ensures said { (r : Ranges) (i : GatewayId) (v : Scene) → v.theirs.up ≡ true →
-        Can r (other i) (flip v) (Send 0 0) }
+    ensures said { (r : Ranges) (s : Scene) (i : GatewayId) → IsWorld r s →
+        let v = seen_by i s in v.theirs.up ≡ true → Can r (other i) (flip v) (Send 0 1) }
     ensures anew { (r : Ranges) (i : GatewayId) (v : Scene) → v.mine.up ≡ true →
         v.mine.synced ≡ false → v.mine.peer < v.theirs.boot →
         Can r i (hello_sent v) (HearAnew (hello_of v)) }
@@ -237,10 +239,11 @@ pub fn hears_next()
 
 /// In one session neither gateway took more than the other pushed (`counts`). Where one took less, and the next record
 /// isn't held back as promised, a record stands next (`next`), and `never_stuck` says what may be done with it. Where
-/// nothing is left to do both are synced (`done`).
+/// nothing is left to do, both are synced or neither is (`done`).
 pub fn some_is_next()
     ensures done { (r : Ranges) (s : Scene) (i : GatewayId) → IsWorld r s →
-        let v = seen_by i s in AreTogether v → outstanding v ≡ 0 → v.mine.synced ≡ true }
+        let v = seen_by i s in AreTogether v → outstanding v ≡ 0 →
+        v.mine.synced ≡ v.theirs.synced }
     ensures counts { (r : Ranges) (s : Scene) (i : GatewayId) → IsWorld r s →
         let v = seen_by i s in AreTogether v → v.theirs.taken ≤ length v.mine.sent }
     ensures next { (r : Ranges) (s : Scene) (i : GatewayId) → IsWorld r s →
@@ -270,8 +273,8 @@ pub fn batch_loads()
 
 /// Where ports move and the runs are the owned ports, the runs leave the rest of the ranges to the other gateway.
 pub fn runs_leave()
-    ensures { (in_ranges at_start owned : ℕ → Bool) (i : GatewayId) (os : List Run) →
-        ((p : ℕ) → in_runs p os ≡ owned p) → LeaveRest (moving in_ranges at_start) i owned os }
+    ensures { (in_ranges : ℕ → Bool) (at_start : GatewayId → ℕ → Bool) (owned : ℕ → Bool)
+        (i : GatewayId) (os : List Run) → ((p : ℕ) → in_runs p os ≡ owned p) → LeaveRest (moving in_ranges at_start) i owned os }
 {}
 
 /// With fixed ranges no run is named, and the other gateway has its own range.
