@@ -190,7 +190,7 @@ only_held false e n h = cc
 reloading-allowed : AreAllowed two_ranges reloading Met
 unfolding same_key
 reloading-allowed = (
-  (refl, λ l h. absurd h, λ h. refl),
+  (refl, λ l h. absurd h, tt),
   (
     ((refl, lit< tt), λ l h. absurd h, tt),
     (
@@ -404,7 +404,7 @@ dying-allowed = (
   (
     (at_will, λ l h. absurd h, tt),
     (
-      (refl, λ l h. absurd h, λ h. refl),
+      (refl, λ l h. absurd h, tt),
       (
         ((refl, lit< tt), λ l h. absurd h, tt),
         (

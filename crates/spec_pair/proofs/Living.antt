@@ -5,7 +5,7 @@ use Rattle.nat_types.specs.Same.{other}
 use Rattle.nat_types.specs.declared.gateways.GatewayId.{GatewayId}
 use Rattle.nat_types.specs.declared.pairs.Endpoint.{Endpoint}
 use Rattle.nat_types.specs.declared.pairs.Key.{Key}
-use Rattle.spec_pair.specs.Acts.{Act, Do, Take, Hear, HandIn, Ignore, HearAnew, PeerOff, LoadBegin, LoadOwner, LoadPut, LoadDone, LoadSkip, WantPorts, GrantPorts, TakePorts, LosePorts, Send, LoneNew, LoneUse, LoneDrop, Crash, Boot, MayAct, box_after}
+use Rattle.spec_pair.specs.Acts.{Act, Do, Take, Hear, HandIn, Ignore, HearAnew, PeerOff, LoadBegin, LoadOwner, LoadPut, LoadDone, LoadSkip, WantPorts, GrantPorts, TakePorts, LosePorts, Send, LoneNew, LoneUse, LoneDrop, PeerEnds, Found, Crash, End, Boot, BootFounding, MayAct, box_after}
 use Rattle.spec_pair.specs.Box.{Box, In, Letter, StandsNext, nth}
 use Rattle.spec_pair.specs.Live.{IsNext, next_letter, next_sent, outstanding, taken_now, to_do, weight}
 use Rattle.spec_pair.specs.Ownership.{Ranges}
@@ -110,8 +110,12 @@ module _ (r : Ranges) (i : GatewayId) (a : Box) where
   act-less (LoneNew k e) q h may = absurd (cc)
   act-less (LoneUse k e counts) q h may = absurd (cc)
   act-less (LoneDrop k e) q h may = absurd (cc)
+  act-less (PeerEnds l back) q h may = absurd (cc)
+  act-less (Found l os part) q h may = absurd (cc)
   act-less Crash q h may = absurd (cc)
+  act-less (End first count) q h may = absurd (cc)
   act-less (Boot number) q h may = absurd (cc)
+  act-less (BootFounding number) q h may = absurd (cc)
 
   -- ---- the act of the record table takes the record
 
@@ -188,7 +192,7 @@ module _ (r : Ranges) where
 
       no_word : (x : Act) → taken_now x ≡ q ∷ [] → Outside (next_sent v) x
       no_word (PeerOff number back) h = absurd (cc)
-      no_word Crash h = absurd (cc)
+      no_word (BootFounding number) h = absurd (cc)
       no_word x h = tt
 
   pub less_to_do : (i : GatewayId) (moment : ℕ) (v : Scene) (f : Facts) (q : MachineRecord) → IsNext v q → AreFacts r v.mine q f → outstanding (after_act r i moment (next_sent v) (act_by_table r i v.mine (next_letter v) 0 f q)) < outstanding v

@@ -12,7 +12,7 @@ use Rattle.spec_pair.specs.Batch.{AreThose, AreApart, LieWithin}
 use Rattle.spec_pair.specs.Box.{AreBack, Parcel, is_back, revived}
 use Rattle.spec_pair.specs.Ownership.{keyed, Ranges, has, in_run, left_to}
 use Rattle.spec_pair.specs.Rows.{parcel_p, live_first, held_first, pair_p, crossing, peer_off, using, wanting, asked_yes_notes, LeavesPorts, granting, loading_notes, granted, udp, revival_notes, asked_no_notes, pair_q, range_of, asked_no, loading, sharing, in_six, six_ports, slot_on, two_ranges, revival, losing_notes, host, peer_off_notes, LeadsTo, crossing_notes, losing, using_notes, asked_yes, doomed_notes, doomed}
-use Rattle.spec_pair.specs.Talk.{Slot, Live, Closing, Free, Doomed, held, Held, pair_of, Pending}
+use Rattle.spec_pair.specs.Talk.{MachineRecord, Slot, Live, Closing, Free, Doomed, held, Held, pair_of, Pending}
 use Rattle.spec_pair.proofs.Worlds.{allowed_join}
 use Rattle.spec_pair.specs.World.{MachineEvent, Scene, AreAllowed, founding, after_events}
 use Rattle.spec_pair.proofs.Batches.{fixed_leaves, batch_new, batch_mirrored}
@@ -286,7 +286,7 @@ unfolding same_key
 revival-allowed = (
   ((refl, refl, refl, refl), λ l h. absurd h, tt),
   (
-    (refl, λ l h. absurd h, λ h. refl),
+    (refl, λ l h. absurd h, tt),
     (
       ((refl, lit< tt), λ l h. absurd h, tt),
       (
@@ -373,7 +373,7 @@ doomed-allowed = (
         (
           ((refl, refl, refl, refl), λ l h. absurd h, tt),
           (
-            (refl, λ l h. absurd h, λ h. refl),
+            (refl, λ l h. absurd h, tt),
             (
               ((refl, lit< tt), λ l h. absurd h, tt),
               (
@@ -438,7 +438,7 @@ unfolding same_key
 off-allowed = (
   ((refl, refl, (refl, refl, λ x h. new_host (same_key (udp 20000) x) h), refl), λ l h. absurd h, tt),
   (
-    (refl, λ l h. absurd h, λ h. refl),
+    (refl, λ l h. absurd h, tt),
     (
       ((refl, waiting_back), λ l h. absurd h, (refl, refl)),
       (
@@ -611,7 +611,7 @@ six_high p h g = or_right (in_run 20000 20001 p) (in_run 40000 40003 p) (in_run_
 
 losing-allowed : AreAllowed six_ports losing Wanted
 losing-allowed = (
-  (refl, λ l h. absurd h, λ h. refl),
+  (refl, λ l h. absurd h, tt),
   (
     ((refl, lit< tt), λ l h. absurd h, tt),
     (
