@@ -31,6 +31,7 @@ mod Batches
 mod Runs
 mod MoreRuns
 mod AloneRuns
+mod EraRuns
 mod Taking
 mod Forged
 mod Counted

@@ -13,7 +13,7 @@ use Rattle.spec_pair.specs.Acts.{Act, LoneNew, LoneDrop, LoadOwner, HandIn, Send
 use Rattle.spec_pair.specs.Box.{Letter, Parcel, empty}
 use Rattle.spec_pair.specs.Ownership.{Ranges, moving, in_run, Run, fixed}
 use Rattle.spec_pair.specs.Talk.{Live, Held, Owner, Agree, Begin, note, Stayed, set_at, Ask, Yield, MachineRecord, Accept, Propose, Reject, Grant, Done, Stay, Want, No, Left, Rejected, Use, Agreed, Yes, pair_of, Slot, Refuse, Install, Close, Put, Leave}
-use Rattle.spec_pair.specs.World.{MachineEvent, after_events, AreAllowed, both, founding}
+use Rattle.spec_pair.specs.World.{MachineEvent, Scene, after_events, AreAllowed, both, founding}
 
 -- fixed ranges: gateway 0 owns the ports 20000 to 39999, gateway 1 the ports 40000 to 59999
 abbrev pub range_of : ℕ → GatewayId
@@ -75,14 +75,18 @@ live_first = slot_on 20000 (Live (host 5000)) ∷ []
 abbrev pub held_first : List Placed
 held_first = slot_on 20000 (Held (host 5000)) ∷ []
 
--- The events are allowed, one after another from the founding, and lead to these notes, the oldest first, and to these
+-- The events are allowed, one after another from this scene, and lead to these notes, the oldest first, and to these
 -- tables of gateway 0 and gateway 1.
-pub record LeadsTo (r : Ranges) (events : List MachineEvent)
+pub record LeadsFrom (start : Scene) (r : Ranges) (events : List MachineEvent)
     (trace : List Note) (zero one : List Placed) : Type 0 where
-  pub allowed : AreAllowed r events (founding r)
-  pub trace_is : reverse (after_events r events (founding r)).trace ≡ trace
-  pub zero_is : (k : Key) → (after_events r events (founding r)).mine.table k ≡ with zero k
-  pub one_is : (k : Key) → (after_events r events (founding r)).theirs.table k ≡ with one k
+  pub allowed : AreAllowed r events start
+  pub trace_is : reverse (after_events r events start).trace ≡ trace
+  pub zero_is : (k : Key) → (after_events r events start).mine.table k ≡ with zero k
+  pub one_is : (k : Key) → (after_events r events start).theirs.table k ≡ with one k
+
+-- the events lead there from the founding
+abbrev pub LeadsTo : Ranges → List MachineEvent → List Note → List Placed → List Placed → Type 0
+LeadsTo r events trace zero one = LeadsFrom (founding r) r events trace zero one
 
 -- the first letter of gateway 1's boot 1, without records
 abbrev pub hello : Letter

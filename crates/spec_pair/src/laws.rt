@@ -3,6 +3,7 @@
 ghost use Rattle.std.specs.Prelude.{◌≡◌, ◌≤◌, ◌<◌, ◌+◌, length, ℕ, Bool, false, ◌&&◌, ◌++◌, List, [], ◌∷◌, Some, IsTrue, filter, true, reverse};
 ghost use Rattle.nat_types.specs.Same.{other, same};
 ghost use Rattle.nat_types.specs.declared.gateways.GatewayId.{GatewayId};
+ghost use Rattle.nat_types.specs.declared.gateways.GatewayId.TheVariants.{Zero};
 ghost use Rattle.nat_types.specs.declared.notes.Note.{Note};
 ghost use Rattle.nat_types.specs.declared.pairs.Endpoint.{Endpoint};
 ghost use Rattle.nat_types.specs.declared.pairs.Key.{Key};
@@ -10,17 +11,18 @@ ghost use Rattle.nat_types.specs.declared.pairs.Pair.{Pair};
 ghost use Rattle.spec_trace.specs.Past.{is_synced, was_alone};
 ghost use Rattle.spec_trace.specs.Plain as plain;
 ghost use Rattle.spec_trace.specs.Trace.{AtMostTwo, Fits, FoundedRightly, GoesOn, Kept, OneEndpoint, OnePort, Silent};
-ghost use Rattle.spec_pair.specs.Acts.{Act, AreGot, Hear, HearAnew, MayAct, Send, box_after, letters_by, act_notes};
+ghost use Rattle.spec_pair.specs.Acts.{Act, AreGot, Found, Hear, HearAnew, MayAct, Send, box_after, letters_by, act_notes};
 ghost use Rattle.spec_pair.specs.Batch.{AreApart, AreThose, LieWithin};
 ghost use Rattle.spec_pair.specs.Box.{AreBack, AreMirrored, AreLoadable, AreSame, revived, Box, In, Parcel, StandsNext, Letter, empty, nth};
 ghost use Rattle.spec_pair.specs.Live.{AreTogether, IsNext, hello_of, hello_sent, unheard, next_letter, next_sent, outstanding};
-ghost use Rattle.spec_pair.specs.Ownership.{AreRising, LeaveRest, Ranges, Run, keyed, left_to, fixed, in_runs, moving};
-ghost use Rattle.spec_pair.specs.Rows.{live_first, held_first, LeadsTo, LeavesPorts, lone, lone_notes, promising, promising_notes, naming, naming_notes, returning, returning_notes, six_ports, asked_no, asked_no_notes, asked_yes, asked_yes_notes, crossing, crossing_notes, doomed, doomed_notes, granting, host, loading, loading_notes, losing, losing_notes, peer_off, peer_off_notes, slot_on, revival, revival_notes, sharing, two_ranges, using, using_notes, wanting};
+ghost use Rattle.spec_pair.specs.Ownership.{AreRising, LeaveRest, Ranges, Run, keyed, left_to, fixed, in_runs, moving, own_ports};
+ghost use Rattle.spec_pair.specs.Rows.{live_first, held_first, LeadsFrom, LeadsTo, LeavesPorts, lone, lone_notes, promising, promising_notes, naming, naming_notes, returning, returning_notes, six_ports, asked_no, asked_no_notes, asked_yes, asked_yes_notes, crossing, crossing_notes, doomed, doomed_notes, granting, host, loading, loading_notes, losing, losing_notes, peer_off, peer_off_notes, slot_on, revival, revival_notes, sharing, two_ranges, using, using_notes, wanting};
 ghost use Rattle.spec_pair.specs.RecordTable.{AreFacts, DoesTake, Facts, act_by_table, becomes_owned, told};
 ghost use Rattle.spec_pair.specs.Step.{IsOff, IsStep, ReadsOnly, WasSent};
 ghost use Rattle.spec_pair.specs.AloneRows.{made_alone, made_alone_notes, meeting, meeting_notes, pair_b, pair_c, reloading, reloading_notes, tell_crosses, tell_crosses_notes, going_on, going_on_notes, taking_back, taking_back_notes, dying, dying_notes};
+ghost use Rattle.spec_pair.specs.EraRows.{by_word, by_word_notes, coming_up, coming_up_notes, ending, ending_notes, found_again, found_again_notes, held_anew, live_anew, nobody_up, saving, saving_notes};
 ghost use Rattle.spec_pair.specs.Talk.{Adopt, Alone, Free, Held, Live, MachineRecord, Pending, Slot, Tell, pair_of};
-ghost use Rattle.spec_pair.specs.World.{AreAllowed, Can, EndsBy, MachineEvent, HasOwners, TableHolds, IsKept, IsWorld, Scene, TableTranslates, box_in, after_act, after_event, flip, mail_in, after_events, seen_by, beginning, tables_of, with_step};
+ghost use Rattle.spec_pair.specs.World.{AreAllowed, Can, EndsBy, MachineEvent, HasOwners, TableHolds, IsKept, IsWorld, Scene, TableTranslates, box_in, after_act, after_event, flip, mail_in, after_events, seen_by, beginning, nobody, tables_of, with_step};
 
 /// The headline, for any loss, repetition and reordering of datagrams, for ever too, any crashes and boots that are
 /// allowed, and while both gateways make pairs by themselves too. No outside port of an open pair serves another
@@ -237,6 +239,20 @@ pub fn hears_next()
         AreTogether v }
 {}
 
+/// Where neither of two gateways in one session is synced, gateway 0 may found the pair by the letter that the other may
+/// send (`founded`); then it is synced (`synced`), and they are in one session still (`together`).
+pub fn founds_next()
+    ensures founded { (r : Ranges) (s : Scene) (os : List Run) (part : Bool) → IsWorld r s →
+        AreTogether s → s.mine.synced ≡ false → s.theirs.synced ≡ false →
+        AreRising r.in_ranges 0 os → LeaveRest r Zero (own_ports r Zero) os →
+        Can r Zero (hello_sent s) (Found (hello_of s) os part) }
+    ensures synced { (r : Ranges) (moment : ℕ) (s : Scene) (os : List Run) (part : Bool) →
+        (after_act r Zero moment (hello_sent s) (Found (hello_of s) os part)).mine.synced ≡ true }
+    ensures together { (r : Ranges) (moment : ℕ) (s : Scene) (os : List Run) (part : Bool) →
+        AreTogether s →
+        AreTogether (after_act r Zero moment (hello_sent s) (Found (hello_of s) os part)) }
+{}
+
 /// In one session neither gateway took more than the other pushed (`counts`). Where one took less, and the next record
 /// isn't held back as promised, a record stands next (`next`), and `never_stuck` says what may be done with it. Where
 /// nothing is left to do, both are synced or neither is (`done`).
@@ -336,6 +352,22 @@ pub fn alone_rows_lead()
     ensures untold { LeadsTo two_ranges (loading ++ made_alone ++ dying)
         (loading_notes ++ made_alone_notes ++ dying_notes)
         (slot_on 20000 (Pending false (host 5001)) ∷ []) (slot_on 20000 (Held (host 5001)) ∷ []) }
+{}
+
+/// Whole runs over eras. With nobody up both gateways boot, and gateway 0 founds the pair by what it hears (`first`). Both
+/// crash while a pair is in use, and are founded again: the port serves another host (`again`). The last synced gateway
+/// crashes, and the other is loaded by the batch that it left (`saved`). A gateway ends, and the other makes pairs at
+/// once (`ended`). A boot of gateway 1 founds the pair (`by_word`).
+pub fn era_rows_lead()
+    ensures first { LeadsFrom nobody two_ranges coming_up (nobody_up ∷ coming_up_notes) [] [] }
+    ensures again { LeadsTo two_ranges (loading ++ using ++ found_again)
+        (loading_notes ++ using_notes ++ found_again_notes) live_anew held_anew }
+    ensures saved { LeadsTo two_ranges saving saving_notes [] held_first }
+    ensures ended { LeadsTo two_ranges (loading ++ using ++ ending)
+        (loading_notes ++ using_notes ++ ending_notes)
+        (slot_on 20001 (Live (host 5001)) ∷ live_first) [] }
+    ensures by_word { LeadsFrom nobody two_ranges by_word (nobody_up ∷ by_word_notes) []
+        (slot_on 40000 (Live (host 5000)) ∷ []) }
 {}
 
 /// Whole runs with six ports that move. While a Grant is on its way its ports are nobody's; then they are the asker's.
