@@ -1,5 +1,5 @@
 -- A promise never keeps back the first record of a session.
-use Rattle.std.proofs.Common.{◌≡◌, ℕ, Bool, true, false, suc, ◌+◌, ◌≤◌, cond, List, [], ◌∷◌, Option, None, Some, subst, arith}
+use Rattle.std.proofs.Common.{◌≡◌, ℕ, Bool, true, false, suc, ◌≤◌, cond, List, [], ◌∷◌, None, Some, subst, arith}
 use Rattle.std.proofs.Math.Logic.{∥∥₁_elim}
 use Rattle.std.proofs.Props.{props}
 use Rattle.nat_types.specs.declared.gateways.GatewayId.{GatewayId}
@@ -7,7 +7,7 @@ use Rattle.nat_types.specs.declared.gateways.GatewayId.TheVariants.{Zero, One}
 use Rattle.spec_pair.specs.Acts.{Act, Do, Take, Hear, HandIn, Ignore, HearAnew, PeerOff, PeerEnds, Found, LoadBegin, LoadOwner, LoadPut, LoadDone, LoadSkip, WantPorts, GrantPorts, TakePorts, LosePorts, Send, LoneNew, LoneUse, LoneDrop, Crash, End, Boot, BootFounding, box_after}
 use Rattle.spec_pair.specs.Box.{Box}
 use Rattle.spec_pair.specs.Ownership.{Ranges}
-use Rattle.spec_pair.specs.World.{AreAllowed, IsWorld, MachineEvent, Scene, after_act, after_event, after_events, beginning, seen_by}
+use Rattle.spec_pair.specs.World.{IsWorld, MachineEvent, Scene, after_act, after_event, after_events, beginning, seen_by}
 
 -- the first record may be sent
 abbrev pub IsFree : Box → Type 0

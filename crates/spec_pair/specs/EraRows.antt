@@ -1,6 +1,6 @@
 -- Whole runs over eras: the pair is founded by what is heard, or by a boot, a gateway ends, and a table is saved by the
 -- letters of a boot that is over.
-use Rattle.std.specs.Prelude.{false, true, ℕ, List, [], ◌∷◌}
+use Rattle.std.specs.Prelude.{false, true, List, [], ◌∷◌}
 use Rattle.nat_types.specs.declared.gateways.GatewayId.TheVariants.{Zero, One}
 use Rattle.nat_types.specs.declared.notes.NoteKind.TheVariants.{Used, Retaken, Synced, Founded, Crashed, Booted}
 use Rattle.nat_types.specs.declared.notes.Note.{Note}

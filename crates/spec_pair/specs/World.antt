@@ -1,6 +1,6 @@
 -- The pair of gateways with its mail: every letter that was ever sent may come, any number of times and in any order. A
 -- scene is the state of both gateways and their mail. An execution is a list of allowed events from a beginning.
-use Rattle.std.specs.Prelude.{Bool, IsTrue, List, Some, [], false, length, true, ℕ, ◌&&◌, ◌++◌, ◌||◌, ◌∷◌, ◌≡◌, ◌+◌, ◌≤◌}
+use Rattle.std.specs.Prelude.{Bool, IsTrue, List, Some, [], false, length, true, ℕ, ◌++◌, ◌||◌, ◌∷◌, ◌≡◌, ◌+◌, ◌≤◌}
 use Rattle.nat_types.specs.declared.gateways.GatewayId.{GatewayId}
 use Rattle.nat_types.specs.declared.gateways.GatewayId.TheVariants.{Zero, One}
 use Rattle.nat_types.specs.declared.notes.Note.{Note}

@@ -24,13 +24,14 @@ ghost use Rattle.spec_pair.specs.EraRows.{by_word, by_word_notes, coming_up, com
 ghost use Rattle.spec_pair.specs.Talk.{Adopt, Alone, Free, Held, Live, MachineRecord, Pending, Slot, Tell, pair_of};
 ghost use Rattle.spec_pair.specs.World.{AreAllowed, Can, EndsBy, MachineEvent, HasOwners, TableHolds, IsKept, IsWorld, Scene, TableTranslates, box_in, after_act, after_event, flip, mail_in, after_events, seen_by, beginning, nobody, tables_of, with_step};
 
-/// The headline, for any loss, repetition and reordering of datagrams, for ever too, any crashes and boots that are
-/// allowed, and while both gateways make pairs by themselves too. No outside port of an open pair serves another
-/// endpoint; no endpoint gets another port, save where one of the two pairs was alone, and no gateway holds more than
-/// two pairs of it; every open pair is held by each synced gateway, or, while it is private to one of them, by that
-/// one; no unsynced gateway uses a pair, and each synced gateway translates with the pairs that are in use there. No
-/// port is owned by two synced gateways, and once both have taken all that was pushed each port of the ranges has an
-/// owner.
+/// The headline, from either beginning, for any loss, repetition and reordering of datagrams, for ever too, for crashes, ends
+/// and boots, of both gateways at once too, and while both gateways make pairs by themselves too. The pair is founded only
+/// where no gateway is synced, and begins an era; a pair is open where it was used in the present one. No outside port of
+/// an open pair serves another endpoint; no endpoint gets another port, save where one of the two pairs was alone, and no
+/// gateway holds more than two pairs of it; every open pair is held by each synced gateway, or, while it is private to one
+/// of them, by that one; no unsynced gateway uses a pair, and each synced gateway translates with the pairs that are in
+/// use there. No port is owned by two synced gateways, and once both have taken all that was pushed each port of the
+/// ranges has an owner.
 pub fn the_pair_keeps()
     ensures kept { (r : Ranges) (founded : Bool) (events : List MachineEvent)
         → AreAllowed r events (beginning r founded) →
@@ -134,7 +135,7 @@ pub fn rests()
         IsStep r i moment a b ls ws t t mail mail }
 {}
 
-/// One act that a gateway may do, other than a crash or a boot, is a step.
+/// One act that a gateway may do, other than a crash, an end or a boot, is a step.
 pub fn one_act()
     ensures { (r : Ranges) (i : GatewayId) (moment : ℕ) (a b : Box) (x : Act) (ls : List Letter)
         (ws : List ℕ) (t : List Note) (mail : List Letter) → MayAct r i a x → ReadsOnly ls ws x →
@@ -210,8 +211,8 @@ pub fn never_stuck()
         (act_by_table r i v.mine (next_letter v) 0 f q)) < outstanding v }
 {}
 
-/// Of two gateways that are up, where one hasn't heard the other's boot, the other may send a letter that tells it
-/// (`said`), and the one may hear it: unsynced (`anew`), or synced with the pairs and runs of its batch (`heard`). Then
+/// A gateway that is up may always send a letter that tells its boot (`said`). Where the other hasn't heard that boot, the
+/// other may hear it: unsynced (`anew`), or synced with the pairs and runs of its batch (`heard`). Then
 /// one gateway fewer hasn't heard (`fewer_anew`, `fewer_heard`). Where both have heard, they are in one session, and
 /// neither is lone (`together`).
 pub fn hears_next()
@@ -290,7 +291,8 @@ pub fn batch_loads()
 /// Where ports move and the runs are the owned ports, the runs leave the rest of the ranges to the other gateway.
 pub fn runs_leave()
     ensures { (in_ranges : ℕ → Bool) (at_start : GatewayId → ℕ → Bool) (owned : ℕ → Bool)
-        (i : GatewayId) (os : List Run) → ((p : ℕ) → in_runs p os ≡ owned p) → LeaveRest (moving in_ranges at_start) i owned os }
+        (i : GatewayId) (os : List Run) → ((p : ℕ) → in_runs p os ≡ owned p) →
+        LeaveRest (moving in_ranges at_start) i owned os }
 {}
 
 /// With fixed ranges no run is named, and the other gateway has its own range.
