@@ -4,9 +4,10 @@ use Rattle.nat_types.proofs.Offered.{key-false}
 use Rattle.nat_types.specs.Same.{same_key}
 use Rattle.nat_types.specs.declared.gateways.GatewayId.TheVariants.{Zero}
 use Rattle.nat_types.specs.declared.pairs.Key.{Key}
+use Rattle.spec_trace.specs.Past.{nobody_up}
 use Rattle.spec_pair.specs.Batch.{AreThose, LieWithin}
 use Rattle.spec_pair.specs.Box.{is_back, revived}
-use Rattle.spec_pair.specs.EraRows.{by_word, by_word_notes, coming_up, coming_up_notes, ending, ending_notes, found_again, found_again_notes, held_anew, live_anew, nobody_up, saving, saving_notes}
+use Rattle.spec_pair.specs.EraRows.{by_word, by_word_notes, coming_up, coming_up_notes, ending, ending_notes, found_again, found_again_notes, held_anew, live_anew, saving, saving_notes}
 use Rattle.spec_pair.specs.Ownership.{in_run}
 use Rattle.spec_pair.specs.Rows.{LeadsFrom, LeadsTo, held_first, host, live_first, loading, loading_notes, pair_p, parcel_p, range_of, slot_on, two_ranges, udp, using, using_notes}
 use Rattle.spec_pair.specs.Talk.{Slot, Live, Free, held, Pending}

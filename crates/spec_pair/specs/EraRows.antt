@@ -11,10 +11,6 @@ use Rattle.spec_pair.specs.Rows.{Placed, empty_batch, hello, hello_2, host, k1, 
 use Rattle.spec_pair.specs.Talk.{Accept, Agree, Agreed, Begin, Done, Held, Install, Live, Propose, Put, Use, note, pair_of}
 use Rattle.spec_pair.specs.World.{MachineEvent}
 
--- the note before all others of a world that begins with nobody up
-abbrev pub nobody_up : Note
-nobody_up = note Zero 0 Crashed
-
 -- gateway 1's letter by which it says that it lacks a table to boot 1 of gateway 0
 abbrev pub lacking : Letter
 lacking = letter_of 1 1 0 []
