@@ -212,9 +212,9 @@ pub fn never_stuck()
 {}
 
 /// A gateway that is up may always send a letter that tells its boot (`said`). Where the other hasn't heard that boot, the
-/// other may hear it: unsynced (`anew`), or synced with the pairs and runs of its batch (`heard`). Then
-/// one gateway fewer hasn't heard (`fewer_anew`, `fewer_heard`). Where both have heard, they are in one session, and
-/// neither is lone (`together`).
+/// other may hear it: unsynced (`anew`), or synced with the pairs and runs of its batch (`heard`). Then one gateway fewer
+/// hasn't heard (`fewer_anew`, `fewer_heard`). Where both are up and have heard, they are in one session, and neither is
+/// lone (`together`).
 pub fn hears_next()
     ensures said { (r : Ranges) (s : Scene) (i : GatewayId) → IsWorld r s →
         let v = seen_by i s in v.theirs.up ≡ true → Can r (other i) (flip v) (Send 0 1) }
