@@ -14,7 +14,6 @@ use Rattle.std.proofs.lemmas.List.{append-nil, take-append-drop}
 use Rattle.spec_pair.specs.Box.{Letter}
 use Rattle.spec_binding.specs.Machine.{Works}
 use Rattle.nat_types.specs.declared.gateways.GatewayId.{GatewayId}
-use Rattle.nat_types.specs.declared.gateways.GatewayId.TheVariants.{Zero}
 use Rattle.bindings.specs.declared.entries.Entry.{Entry}
 use Rattle.bindings.specs.Revivals.{lives_of_pairs, revived_entries, woken_entry}
 use Rattle.bindings.proofs.Offered.{length-keep}
@@ -38,7 +37,7 @@ use Rattle.bindings.specs.Table.{Table, IsTable}
 use Rattle.spec_binding.specs.declared.changes.Change.{Change}
 use Rattle.spec_binding.specs.declared.changes.Change.TheVariants.{Keep, Add, Turn, Renew, Drop, Yield, Want, Give, Gain}
 use Rattle.spec_binding.specs.declared.changes.Transition.{Transition}
-use Rattle.spec_binding.specs.Books.{Book, IsBook, is_any, is_promised, is_synced, load_of, emptied, empty_book, founded_book, ports_of}
+use Rattle.spec_binding.specs.Books.{Book, IsBook, is_any, is_promised, is_synced, load_of, emptied, empty_book}
 use Rattle.spec_binding.specs.Rows.{after, changed, with_gained, is_gained, numbers_of, row_of, carry_row, use_row, used_row, quiet, answered, taken_book, taken_answer, taken_ended, taken_what, unsynced_after, unsynced_what, load_taken, load_what, noted_by, stage_after}
 use Rattle.spec_binding.specs.WellFormed.{Fits, HasOwnPair}
 use Rattle.spec_binding.specs.declared.setups.Rules.{Rules}
@@ -205,7 +204,7 @@ pub loaded-answer : (b : Book) (rests : Bool) (r : Record) → is_synced b.stage
 loaded-answer b rests r h = ap (λ (t : Bool). let x : Option Record = cond t (row_of b rests r).answer None in x) h
 
 -- a ledger from its parts
-ledger-parts : (c : Core) (b : Book) (ls : List Activity) (refresh : Bool) (hs : Hashers) → book_of c ≡ b → c.table.lives ≡ ls → c.inward_refresh ≡ refresh → c.table.hashers ≡ hs → ledger_of c ≡ record { book = b; lives = ls; inward_refresh = refresh; hashers = hs }
+pub ledger-parts : (c : Core) (b : Book) (ls : List Activity) (refresh : Bool) (hs : Hashers) → book_of c ≡ b → c.table.lives ≡ ls → c.inward_refresh ≡ refresh → c.table.hashers ≡ hs → ledger_of c ≡ record { book = b; lives = ls; inward_refresh = refresh; hashers = hs }
 ledger-parts c b ls refresh hs book lives same hashers =
     ap (λ (x : Book). let l : Ledger = record { book = x; lives = c.table.lives; inward_refresh = c.inward_refresh; hashers = c.table.hashers } in l) book
     ∙ ap (λ (x : List Activity). let l : Ledger = record { book = b; lives = x; inward_refresh = c.inward_refresh; hashers = c.table.hashers } in l) lives
@@ -392,16 +391,6 @@ pub forgotten : (c : Core) (t2 : Table) (p : Progress) (zero one : PortBounds) �
 forgotten c t2 p zero one same z o is =
     empty-is c.id c.table.zero c.table.one (rules_of c) t2 p (ap (λ (t : Table). t.zero) same) (ap (λ (t : Table). t.one) same) (ap (λ (t : Table). t.entries) same) (λ port. ap (λ (t : Table). is_listed port t.owned) same)
     (is ∙ ap (λ (x : PortBounds). progress.fresh x one) (sym z) ∙ ap (λ (x : PortBounds). progress.fresh c.table.zero x) (sym o))
-
--- the book of a gateway without a table that is founded, and owns the ports of range zero
-pub founded-is : (c : Core) (cursor : Cursor) (t2 : Table) (zero one : PortBounds) → c.coming ≡ coming cursor c.table → book_of c ≡ empty_book Zero zero one (rules_of c) → t2 ≡ record c.table { owned = ports_of zero }
-    → book_of (record c { table = t2; stage = Lone; coming = coming cursor t2 }) ≡ founded_book zero one (rules_of c)
-founded-is c cursor t2 zero one are empty same =
-    let none : c.coming ≡ [] = ap (λ (b : Book). b.coming) empty in
-    let bare : coming cursor t2 ≡ [] = none-coming cursor c.table t2 (λ any. let no : is_any (coming cursor c.table) ≡ false = ap is_any (sym are ∙ none) in cc) ∙ sym are ∙ none in
-    ap (λ (cs : List Record). book_of (record c { table = t2; stage = Lone; coming = cs })) bare
-    ∙ ap (λ (t : Table). book_of (record c { table = t; stage = Lone; coming = [] })) same
-    ∙ ap (λ (b : Book). let x : Book = record b { stage = Lone; owned = ports_of zero; coming = [] } in x) empty
 
 pub link-synced : (b : Book) (e : Link) → is_synced b.stage ≡ true → restart_link b e ≡ with_promised e (length (restart_batch b))
 link-synced b e h = ap (λ (t : Bool). let x : Link = cond t (with_promised e (length (restart_batch b))) e in x) h

@@ -21,7 +21,7 @@ use Rattle.bindings.specs.Table.{Table, alone_keys_of, idle_keys_of}
 use Rattle.bindings.specs.Revivals.{revived_entries}
 use Rattle.resync.specs.Cursor.{to_come}
 use Rattle.resync.specs.declared.cursor.Cursor.{Cursor}
-use Rattle.spec_binding.specs.Resets.{revived}
+use Rattle.spec_binding.specs.Resets.{own_ports, revived}
 use Rattle.spec_binding.specs.declared.changes.Transition.{Transition}
 use Rattle.spec_binding.specs.declared.setups.Choice.{Choice}
 use Rattle.spec_binding.specs.declared.setups.Rules.{Rules}
@@ -172,3 +172,8 @@ owned_of c = (if is_synced c.stage then map port_at c.table.owned else [])
 -- the book whose pairs are revived, with a batch to come from the cursor on
 abbrev pub revived_with : Stage → Cursor → Core → Book
 revived_with stage cursor c = record (revived (book_of c)) { stage = stage; coming = to_come cursor c.table.owned (revived_entries c.table.entries) }
+
+-- the book that owns the gateway's range, with a batch to come from the cursor on
+abbrev pub founded_with : Stage → Cursor → Core → Book
+founded_with stage cursor c =
+    record (book_of c) { stage = stage; owned = own_ports (book_of c); coming = to_come cursor (own_ports (book_of c)) c.table.entries }

@@ -12,16 +12,13 @@ ghost use Rattle.spec_binding.specs.WellFormed.{Fits};
 ghost use Rattle.spec_binding.specs.Rows.{noted_by, after, answered, behind, changed, row as row_with};
 ghost use Rattle.bind_core.specs.Changes.{adds, IsSteady, LivesOn};
 ghost use Rattle.bindings.specs.Ports.{AreBounds, key_count};
-ghost use Rattle.nat_types.specs.declared.gateways.GatewayId.TheVariants.{Zero};
-ghost use Rattle.spec_binding.specs.Resets.{restart_batch};
-ghost use Rattle.bind_core.specs.Cores.{book_of, core_after, core_behind, ledger_of, owned_of, rules_of};
+ghost use Rattle.spec_binding.specs.Resets.{founding_batch, restart_batch};
+ghost use Rattle.bind_core.specs.Cores.{book_of, core_after, core_behind, ledger_of, owned_of};
 ghost use Rattle.bind_core.specs.Memory.{LacksCore};
 ghost use Rattle.slots.specs.Memory.{LacksEndpoints};
 ghost use Rattle.memory.specs.Memory.{WasRefused};
 
-use crate::deeds::{
-    Bounds, change_table, count_keys, is_wanting, note, own_range, recall_port, tell,
-};
+use crate::deeds::{Bounds, change_table, count_keys, is_wanting, note, recall_port, tell};
 use crate::rows::{is_lone, is_paired, is_synced};
 use addresses::Port;
 use bindings::{Hashers, Table};
@@ -29,7 +26,7 @@ use link::Link;
 use memory::with_room;
 use nat_types::{Endpoint, GatewayId, Key, Note};
 use resync::{Cursor, Loading, steady_batch_law};
-use spec_binding::{Change, Rules, Stage, Transition, books_begin};
+use spec_binding::{Change, Rules, Stage, Transition, books_begin, rows_leave};
 use std::alloc::{AllocError, Global};
 use std::marker::Model;
 
@@ -72,8 +69,19 @@ impl Core {
         // The batch that the gateway would promise a peer that began anew.
         ensures batch { length (restart_batch (book_of self.now))
             ≤ 2 * self.now.table.capacity + 2 }
+        // The batch that the gateway would promise where it founded the pair.
+        ensures founding { length (founding_batch (book_of self.now))
+            ≤ 2 * self.now.table.capacity + 2 }
     {
+        rows_leave();
         self.table.recall();
+    }
+
+    /// Returns which of the two gateways it is.
+    pub fn id(&self) -> GatewayId
+        ensures { result ≡ self.now.id }
+    {
+        self.id
     }
 
     /// Whether the gateway's table is loaded.
@@ -252,10 +260,11 @@ impl Core {
         })
     }
 
-    /// Returns the core of gateway 0, founded alone, which owns the ports of its range. The Err is
-    /// that of `unsynced`.
+    /// Returns the core of a gateway that founds the pair as it boots: alone, and owner of the ports of
+    /// its range. The Err is that of `unsynced`.
     pub fn founder(
         alloc: Global,
+        id: GatewayId,
         bounds: Bounds,
         rules: Rules,
         hashers: Hashers,
@@ -263,31 +272,16 @@ impl Core {
         requires zero { AreBounds bounds.zero }
         requires one { AreBounds bounds.one }
         ensures ledger { IfOk result (λ c. ledger_of c
-            ≡ bare_ledger (founded_book bounds.zero bounds.one rules) rules.inward_refresh
+            ≡ bare_ledger (founded_book id bounds.zero bounds.one rules) rules.inward_refresh
             hashers) }
         ensures hashers { IfOk result (λ c. c.table.hashers ≡ hashers) }
         ensures refused { OnErr result (LacksCore bounds.zero bounds.one) }
     {
-        let mut core = Core::unsynced(alloc, GatewayId::Zero, bounds, rules, hashers)?;
-        core.found(bounds);
-        Ok(core)
-    }
-
-    fn found(&mut self, bounds: Bounds)
-        requires zero { AreBounds bounds.zero }
-        requires one { AreBounds bounds.one }
-        requires empty { book_of self.old
-            ≡ empty_book Zero bounds.zero bounds.one (rules_of self.old) }
-        ensures book { book_of self.new
-            ≡ founded_book bounds.zero bounds.one (rules_of self.old) }
-        ensures lives { self.new.table.lives ≡ self.old.table.lives }
-        ensures refresh { self.new.inward_refresh ≡ self.old.inward_refresh }
-        ensures hashers { self.new.table.hashers ≡ self.old.table.hashers }
-    {
         books_begin();
         recall_port(bounds.zero.highest);
         recall_port(bounds.one.highest);
-        own_range(&mut self.table, bounds.zero);
-        self.stage = Stage::Lone;
+        let mut core = Core::unsynced(alloc, id, bounds, rules, hashers)?;
+        core.own_first(Stage::Lone, Cursor::Over);
+        Ok(core)
     }
 }

@@ -14,7 +14,7 @@ ghost use Rattle.bindings.specs.Table.{AreInRanges, IsPast};
 ghost use Rattle.link.specs.Grammar.{IsWellFormedRecord};
 ghost use Rattle.link.specs.Link.{free_places};
 ghost use Rattle.spec_binding.specs.declared.changes.Change.TheVariants.{Renew, Yield};
-ghost use Rattle.spec_binding.specs.Books.{ports_of};
+ghost use Rattle.spec_binding.specs.Books.{own_bounds as own_bounds_of, ports_of};
 ghost use Rattle.spec_binding.specs.WellFormed.{Fits, GivesWay, HasOwnPair, MayGive};
 ghost use Rattle.spec_binding.specs.Rows.{answered, changed, noted_by, noted_with, is_gained as is_gained_in};
 ghost use Rattle.spec_binding.specs.Rows.{is_made as is_made_in};
@@ -171,6 +171,16 @@ pub(crate) fn count_keys(zero: PortBounds, one: PortBounds) -> usize
 pub struct Bounds {
     pub zero: PortBounds,
     pub one: PortBounds,
+}
+
+/// Returns the range of a gateway, of the two.
+pub(crate) fn own_bounds(id: GatewayId, bounds: Bounds) -> PortBounds
+    ensures { result ≡ own_bounds_of id bounds.zero bounds.one }
+{
+    match id {
+        GatewayId::Zero => bounds.zero,
+        GatewayId::One => bounds.one,
+    }
 }
 
 /// Makes the table own the ports of a range. It may own no others before.

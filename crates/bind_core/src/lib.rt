@@ -6,6 +6,7 @@ mod ahead;
 mod batches;
 mod cores;
 mod deeds;
+mod foundings;
 mod going_on;
 mod grants;
 mod loads;

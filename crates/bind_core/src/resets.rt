@@ -21,7 +21,7 @@ use bindings::{Entry, Table};
 use link::Link;
 use nat_types::{EntryState, GatewayId, Note, NoteKind};
 use resync::{Cursor, Loading};
-use spec_binding::{Stage, books_keep, restart_works, word_works};
+use spec_binding::{Stage, books_keep, end_works, restart_works, word_works};
 
 fn does_come_back(state: EntryState) -> bool
     ensures { result ≡ comes_back state }
@@ -120,7 +120,7 @@ impl Core {
     }
 
     /// Empties the table; the gateway isn't synced then, and has loaded nothing.
-    fn forget(&mut self)
+    pub(crate) fn forget(&mut self)
         requires kept { IsBook (emptied (book_of self.old)) }
         ensures book { book_of self.new ≡ emptied (book_of self.old) }
         ensures lives { self.new.table.lives ≡ [] }
@@ -135,8 +135,8 @@ impl Core {
         self.cursor = Cursor::Over;
     }
 
-    /// Goes on alone, on the operator's word that the peer is off. The caller has closed the link's
-    /// session before. Each pair that waited for the peer, or was made alone, is Live. The life of
+    /// Goes on alone, on the operator's word that the peer is off, or as the peer's known boot says
+    /// that it ends. The caller has closed the link's session before. Each pair that waited for the peer, or was made alone, is Live. The life of
     /// each pair begins anew, since the peer may have carried it until now. From now on no consent
     /// is needed.
     pub fn peer_off(&mut self, link: &Link, now: u64, notes: &mut Vec<Note>)
@@ -155,10 +155,17 @@ impl Core {
             → e.boot ≡ link.now.boot → link.now.known ≡ number
             → Works now [] (number ∷ []) (book_of self.old) e n (book_of self.new) link.now 0
             (retaken self.old.id now (back_in self.old.table.entries)) h }
+        // The end e is the link's as it was before the peer's end closed it.
+        ensures ends { (e : End) (h : List Rec) (n : ℕ) (l : Letter) → Agrees [] [] link.now
+            → e.boot ≡ link.now.boot → l.ends ≡ true → l.boot ≡ e.known → l.to ≡ e.boot
+            → link.now.known ≡ l.boot
+            → Works now (l ∷ []) [] (book_of self.old) e n (book_of self.new) link.now 0
+            (retaken self.old.id now (back_in self.old.table.entries)) h }
     {
         self.recall();
         books_keep();
         word_works();
+        end_works();
         self.put_lone(now, notes);
         let _ = link;
     }

@@ -1,42 +1,45 @@
 -- The events of a world: which are refused, and what the others do.
-use Rattle.std.specs.Prelude.{◌≡◌, ℕ, ◌-◌, ◌==◌, ◌&&◌, ◌||◌, Bool, not, nat_lt, true, Option, Some, None, List, [], ◌∷◌, ◌++◌, drop, length, slice_get, is_some, if◌then◌else◌}
+use Rattle.std.specs.Prelude.{◌≡◌, ℕ, ◌-◌, ◌==◌, ◌&&◌, Bool, not, nat_lt, true, Option, Some, None, List, [], ◌∷◌, ◌++◌, drop, length, slice_get, is_some, if◌then◌else◌}
 use Rattle.nat_types.specs.Same.{other}
 use Rattle.nat_types.specs.declared.gateways.GatewayId.{GatewayId}
 use Rattle.nat_types.specs.declared.notes.NoteKind.{NoteKind}
-use Rattle.nat_types.specs.declared.notes.NoteKind.TheVariants.{Crashed, Booted}
+use Rattle.nat_types.specs.declared.notes.NoteKind.TheVariants.{Founded, Crashed, Booted}
 use Rattle.nat_types.specs.declared.notes.Note.{Note}
 use Rattle.link.specs.Reading.{reading}
 use Rattle.link.specs.Strays.{is_stray}
-use Rattle.output.specs.Output.{Output, with_note}
+use Rattle.output.specs.Output.{Output}
 use Rattle.packet_rules.specs.declared.reasons.Reason.TheVariants.{BadDatagram}
 use Rattle.spec_step.specs.declared.events.Event.{Event}
 use Rattle.spec_step.specs.declared.events.Event.TheVariants as given
 use Rattle.spec_step.specs.declared.events.Outcome.{Outcome}
 use Rattle.spec_step.specs.declared.events.Outcome.TheVariants.{Done, Dropped}
-use Rattle.spec_step.specs.Founding.{begun}
+use Rattle.spec_step.specs.Founding.{begun, founded}
 use Rattle.spec_step.specs.Machine.{HasBytes}
-use Rattle.spec_step.specs.Shown.{scene}
+use Rattle.spec_step.specs.Shown.{scene, with_notes}
 use Rattle.spec_step.specs.Truly.{IsSetUp, Tells}
 use Rattle.spec_gateway.specs.State.{GatewayState, beginning}
 use Rattle.spec_gateway.specs.Steps.{IsGatewayStep, hand_at, lent, outcome_of}
 use Rattle.gateway.specs.Gateway.{IsGateway}
 use Rattle.nat_types.specs.declared.events.WorldEvent.{WorldEvent}
-use Rattle.nat_types.specs.declared.events.WorldEvent.TheVariants.{Frame, Tick, Stop, Deliver, Crash, Boot, PeerOff, Side as Cable, Stray}
+use Rattle.nat_types.specs.declared.events.WorldEvent.TheVariants.{Frame, Tick, Stop, Deliver, Crash, End, Boot, Found, PeerOff, Side as Cable, Stray}
 use Rattle.frame_sim.specs.declared.events.WorldFault.{WorldFault}
 use Rattle.frame_sim.specs.declared.events.WorldFault.TheVariants.{PremiseBroken, NoSuchDatagram}
-use Rattle.frame_sim.specs.World.{Half, World, gateway_at, half, is_up, moment_of, settings_of, state_at, synced_at, values_in, with_half}
+use Rattle.frame_sim.specs.World.{Half, World, gateway_at, half, is_up, moment_of, settings_of, state_at, values_in, with_half}
 
 -- ---- which events are refused
 
--- whether a gateway may crash: it is up, and where it is synced the other is synced too
+-- whether a gateway may crash, or end: it is up
 abbrev pub may_crash : World → GatewayId → Bool
-may_crash w i =
-    let g = gateway_at w i in
-    is_up g && (not (synced_at g) || synced_at (gateway_at w (other i)))
+may_crash w i = is_up (gateway_at w i)
 
 -- whether a gateway may boot: it is down, and the number is above all that it had
 abbrev pub may_boot : World → GatewayId → ℕ → Bool
 may_boot w i n = not (is_up (gateway_at w i)) && nat_lt (half w i).boot n
+
+-- whether a gateway may boot and found the pair as it starts, which is the operator's word that the other is off: both are
+-- down, and the number is above all that it had
+abbrev pub may_found : World → GatewayId → ℕ → Bool
+may_found w i n = not (is_up (gateway_at w (other i))) && may_boot w i n
 
 -- whether a gateway may be given the operator's word: it is up, the other is down, and this number was the other's last
 -- boot
@@ -69,7 +72,9 @@ refusal w (Tick i moment) = None
 refusal w (Stop i) = None
 refusal w (Deliver i k) = unless (is_some (datagram_for w i k)) NoSuchDatagram
 refusal w (Crash i) = unless (may_crash w i) PremiseBroken
+refusal w (End i) = unless (may_crash w i) PremiseBroken
 refusal w (Boot i n) = unless (may_boot w i n) PremiseBroken
+refusal w (Found i n) = unless (may_found w i n) PremiseBroken
 refusal w (PeerOff i n) = unless (may_be_told w i n) PremiseBroken
 refusal w (Cable i side up) = None
 refusal w (Stray i bytes) = unless (may_stray w bytes.items) PremiseBroken
@@ -128,9 +133,16 @@ pub record ChangesNothing (w : World) (i : GatewayId) (told : Output) (outcome :
   pub same : w2 ≡ w
 
 -- a crash or a boot: the gateway is down or up afterwards, which is noted
-abbrev pub Turns : World → GatewayId → Half → Note → Output → Outcome → Output → World → Type 0
-Turns w i h note told outcome told2 w2 =
-    (outcome ≡ Done) × (told2 ≡ with_note told note) × (w2 ≡ with_half w i h (w.trace ++ note ∷ []))
+abbrev pub Turns : World → GatewayId → Half → List Note → Output → Outcome → Output → World → Type 0
+Turns w i h notes told outcome told2 w2 =
+    (outcome ≡ Done) × (told2 ≡ with_notes told notes) × (w2 ≡ with_half w i h (w.trace ++ notes))
+
+-- an end: the gateway takes it in a step, whose last note is its crash, and is down afterwards
+abbrev pub EndsAt : World → GatewayId → Option GatewayState → Output → Outcome → Output → World → Type 0
+EndsAt w i None told outcome told2 w2 = ⊥
+EndsAt w i (Some g) told outcome told2 w2 =
+    (last : World) × Takes w i g given.End told outcome told2 last
+    × (w2 ≡ with_half last i (record (half last i) { gateway = None }) last.trace)
 
 -- a note of gateway `i` at a time
 abbrev pub noting : GatewayId → ℕ → NoteKind → Note
@@ -143,9 +155,14 @@ Does w (Tick i moment) = TakesAt w i (state_at w i) (given.Tick moment)
 Does w (Stop i) = TakesAt w i (state_at w i) given.Stop
 Does w (Deliver i k) = Comes w i (datagram_for w i k)
 Does w (Crash i) = let h = half w i in
-    Turns w i (record h { gateway = None }) (noting i (moment_of (gateway_at w i)) Crashed)
+    Turns w i (record h { gateway = None }) (noting i (moment_of (gateway_at w i)) Crashed ∷ [])
+Does w (End i) = EndsAt w i (state_at w i)
 Does w (Boot i n) = let h = half w i in
-    Turns w i (record h { gateway = Some (beginning (begun (settings_of w i) i n)); boot = n }) (noting i 0 (Booted n))
+    Turns w i (record h { gateway = Some (beginning (begun (settings_of w i) i n)); boot = n })
+    (noting i 0 (Booted n) ∷ [])
+Does w (Found i n) = let h = half w i in
+    Turns w i (record h { gateway = Some (beginning (founded (settings_of w i) i n)); boot = n })
+    (noting i 0 (Booted n) ∷ noting i 0 Founded ∷ [])
 Does w (PeerOff i n) = TakesAt w i (state_at w i) (given.PeerOff n)
 Does w (Cable i side up) = TakesAt w i (state_at w i) (given.Side side up)
 Does w (Stray i bytes) = Strays w i bytes.items

@@ -5,7 +5,7 @@ use Rattle.nat_types.specs.declared.notes.Note.{Note}
 use Rattle.link.specs.Link.{IsLink}
 use Rattle.output.specs.Output.{Output}
 use Rattle.spec_step.specs.declared.events.Event.{Event}
-use Rattle.spec_step.specs.declared.events.Event.TheVariants.{Datagram}
+use Rattle.spec_step.specs.declared.events.Event.TheVariants.{Datagram, End}
 use Rattle.spec_step.specs.declared.events.Outcome.{Outcome}
 use Rattle.spec_step.specs.declared.events.Outcome.TheVariants.{Done}
 use Rattle.spec_step.specs.Machine.{HasBytes}
@@ -56,6 +56,12 @@ StepsAt h None trace event told outcome told2 h2 trace2 =
     (outcome ≡ Done) × (told2 ≡ told) × (h2 ≡ h) × (trace2 ≡ trace)
 StepsAt h (Some g) trace event told outcome told2 h2 trace2 =
     Steps h g trace event told outcome told2 h2 trace2
+
+-- an end at a half: a gateway that is up takes it in a step, and is down afterwards
+abbrev pub EndsHalf : Half → Option GatewayState → List Note → Output → Outcome → Output → Half → List Note → Type 0
+EndsHalf h g trace told outcome told2 h2 trace2 =
+    (last : Half) × StepsAt h g trace End told outcome told2 last trace2
+    × (h2 ≡ record last { gateway = None })
 
 -- the half takes a datagram that the other one sent
 pub record Receives (h other : Half) (number : ℕ) (trace : List Note) (told : Output) (outcome : Outcome) (told2 : Output) (h2 : Half) (trace2 : List Note) : Type 0 where

@@ -1,15 +1,15 @@
 -- Names for the calls that found no memory. Each opaque name is given by one function, which makes exactly that call,
 -- and says what allocation was refused.
-use Rattle.std.specs.Prelude.{◌≡◌, ◌≢◌, ◌⊎◌, ℕ, false, Option, Some, None, List, length}
+use Rattle.std.specs.Prelude.{◌≡◌, ◌≢◌, ◌⊎◌, ℕ, false, Option, Some, None, List, [], ◌∷◌, length}
 use Rattle.std.specs.Borrow.{Bor}
 use Rattle.memory.specs.Memory.{WasRefused}
 use Rattle.nat_types.specs.Same.{other}
 use Rattle.nat_types.specs.declared.gateways.GatewayId.{GatewayId}
 use Rattle.nat_types.specs.declared.gateways.GatewayId.TheVariants.{Zero}
 use Rattle.nat_types.specs.declared.notes.Note.{Note}
-use Rattle.nat_types.specs.declared.notes.NoteKind.TheVariants.{Crashed, Booted}
+use Rattle.nat_types.specs.declared.notes.NoteKind.TheVariants.{Founded, Crashed, Booted}
 use Rattle.nat_types.specs.declared.events.WorldEvent.{WorldEvent}
-use Rattle.nat_types.specs.declared.events.WorldEvent.TheVariants.{Frame, Tick, Stop, Deliver, Crash, Boot, PeerOff, Side as Cable, Stray}
+use Rattle.nat_types.specs.declared.events.WorldEvent.TheVariants.{Frame, Tick, Stop, Deliver, Crash, End, Boot, Found, PeerOff, Side as Cable, Stray}
 use Rattle.settings.specs.declared.whole.Settings.{Settings}
 use Rattle.output.specs.Memory.{LacksPage}
 use Rattle.output.specs.Output.{Paged}
@@ -41,13 +41,14 @@ WasUnbegun settings i number = Unit {0} × LacksGateway settings
 abbrev pub WasUnfounded : Settings → Type 0
 WasUnfounded settings = WasUnbegun settings Zero 1
 
--- there was no place for this note on the trace
-unfoldable pub WasUntraced : Note → Type 0
-WasUntraced note = Unit {0} × WasRefused 1
+-- there were no places for these notes on the trace
+unfoldable pub WasUntraced : List Note → Type 0
+WasUntraced notes = Unit {0} × WasRefused (length notes)
 
--- there was no place for this note in the output
-unfoldable pub WasUntold : Note → Type 0
-WasUntold note = Unit {0} × LacksPage (record { frames = 0; octets = 0; datagrams = 0; notes = 1 })
+-- there were no places for these notes in the output
+unfoldable pub WasUntold : List Note → Type 0
+WasUntold notes =
+    Unit {0} × LacksPage (record { frames = 0; octets = 0; datagrams = 0; notes = length notes })
 
 -- there was no list for the steps of these events
 unfoldable pub WasUnrun : List WorldEvent → Type 0
@@ -67,9 +68,9 @@ WasUntranslated g = Unit {0} × WasRefused 1
 
 -- ---- of an event
 
--- the note had no place on the trace, or none in the output
-abbrev pub IsUnnoted : Note → Type 0
-IsUnnoted note = WasUntraced note ⊎ WasUntold note
+-- the notes had no places on the trace, or none in the output
+abbrev pub IsUnnoted : List Note → Type 0
+IsUnnoted notes = WasUntraced notes ⊎ WasUntold notes
 
 -- a gateway took no step for this event, because of WasUnready or WasUnstepped; one that is down takes none, and no
 -- memory
@@ -86,14 +87,17 @@ abbrev pub IsUnheard : Option GatewayState → List ℕ → Type 0
 IsUnheard g bytes = (lent : Bor (List ℕ)) × ((lent.now ≡ bytes) × IsUnstepped g (given.Datagram lent))
 
 -- The memory that an event lacked, so that it wasn't applied: memory for the step of the gateway to which it happens;
--- for a crash, a place for its note; for a boot, the gateway or a place for its note.
+-- for a crash, a place for its note; for a boot, the gateway or places for its notes.
 abbrev pub Lacks : World → WorldEvent → Type 0
 Lacks w (Frame i side bytes) = (lent : Bor (List ℕ)) × ((lent.now ≡ bytes.items) × IsUnstepped (state_at w i) (given.Frame side lent))
 Lacks w (Tick i moment) = IsUnstepped (state_at w i) (given.Tick moment)
 Lacks w (Stop i) = IsUnstepped (state_at w i) given.Stop
 Lacks w (Deliver i k) = IsUnreceived (half w i) (half w (other i)) k
-Lacks w (Crash i) = IsUnnoted (noting i (moment_of (gateway_at w i)) Crashed)
-Lacks w (Boot i n) = WasUnbegun (settings_of w i) i n ⊎ IsUnnoted (noting i 0 (Booted n))
+Lacks w (Crash i) = IsUnnoted (noting i (moment_of (gateway_at w i)) Crashed ∷ [])
+Lacks w (End i) = IsUnstepped (state_at w i) given.End
+Lacks w (Boot i n) = WasUnbegun (settings_of w i) i n ⊎ IsUnnoted (noting i 0 (Booted n) ∷ [])
+Lacks w (Found i n) =
+    WasUnbegun (settings_of w i) i n ⊎ IsUnnoted (noting i 0 (Booted n) ∷ noting i 0 Founded ∷ [])
 Lacks w (PeerOff i n) = IsUnstepped (state_at w i) (given.PeerOff n)
 Lacks w (Cable i side up) = IsUnstepped (state_at w i) (given.Side side up)
 Lacks w (Stray i bytes) = IsUnheard (state_at w i) bytes.items

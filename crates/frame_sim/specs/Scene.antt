@@ -17,19 +17,21 @@ use Rattle.spec_pair.specs.Box.{Box, Letter, bare}
 use Rattle.spec_pair.specs.Ownership.{Ranges, moving}
 use Rattle.spec_pair.specs.Step.{IsOff, WasSent}
 use Rattle.spec_pair.specs.World.{IsWorld, Scene}
+use Rattle.spec_binding.specs.Books.{own_bounds}
 use Rattle.spec_step.specs.Founding.{bounds_of}
 use Rattle.spec_step.specs.declared.events.Event.{Event}
 use Rattle.spec_step.specs.Machine.{HasPushed, box_of, letter_in, letters_in, words_in}
 use Rattle.spec_step.specs.Rests.{AccountsOn}
 use Rattle.spec_step.specs.Shown.{Shown, id_of}
 use Rattle.spec_gateway.specs.State.{GatewayState, KeepsParts}
-use Rattle.frame_sim.specs.World.{HaveSameValues, NeverAlone, World, gateway_at, half, settings_of, state_at}
+use Rattle.frame_sim.specs.World.{HaveSameValues, NeverAlone, World, gateway_at, half, settings_of, state_at, trace_of}
 
--- the two ranges: gateway 0 is founded with range zero, and ports move
+-- the two ranges: a gateway founds the pair with its own, and ports move
 abbrev pub ranges_of : PortRanges → Ranges
 ranges_of ports =
     let zero = bounds_of ports.zero in
-    moving (λ p. in_either zero (bounds_of ports.one) p) (in_bounds zero)
+    let one = bounds_of ports.one in
+    moving (λ p. in_either zero one p) (λ i. in_bounds (own_bounds i zero one))
 
 -- the machine's box of a gateway; one that is down has only the number of its last boot, and `h` has what one that is
 -- up pushed in its session
@@ -48,7 +50,7 @@ scene_of w pushed = record {
   theirs = box_at (gateway_at w One) w.one.boot (pushed One);
   my_mail = mail_of w.zero.sent;
   their_mail = mail_of w.one.sent;
-  trace = reverse w.trace;
+  trace = reverse (trace_of w);
 }
 
 -- the gateway is gateway i of the pair, in the life of this number, and pushed the records `h`
@@ -71,8 +73,8 @@ AccountsAt (Some g) trace = AccountsOn g (reverse trace)
 
 -- each release so far came where its pair was idle, and the ledgers of both gateways account for the trace
 pub record IsAccounted (w : World) : Type 0 where
-  pub idle : Idle w.trace
-  pub accounts : (i : GatewayId) → AccountsAt (gateway_at w i) w.trace
+  pub idle : Idle (trace_of w)
+  pub accounts : (i : GatewayId) → AccountsAt (gateway_at w i) (trace_of w)
 
 -- a gateway that is up is apart after as many centiseconds as its settings say, and its link runs on their values
 abbrev pub GoesBy : Settings → Option Shown → Type 0
@@ -87,7 +89,7 @@ KeepsPartsAt (Some s) = KeepsParts s
 -- each gateway goes by its settings, so that no note is Alone where these never make a pair alone
 pub record IsBySettings (w : World) : Type 0 where
   pub each : (i : GatewayId) → GoesBy (settings_of w i) (gateway_at w i)
-  pub plain : NeverAlone w → IsPlain (reverse w.trace)
+  pub plain : NeverAlone w → IsPlain (reverse (trace_of w))
 
 -- The world is sound: for some lists of pushed records its scene can come about, the trace is accounted for, both
 -- gateways go by their settings, which have the same values, and their fragments are bytes.

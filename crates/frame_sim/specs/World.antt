@@ -18,7 +18,7 @@ use Rattle.bindings.specs.Ports.{in_either}
 use Rattle.bindings.specs.Runs.{port_at}
 use Rattle.link.specs.Link.{pushed_count}
 use Rattle.spec_trace.specs.Plain as plain
-use Rattle.spec_trace.specs.Trace.{Fits, IsOpen, IsPrivate, IsSynced, WasAlone}
+use Rattle.spec_trace.specs.Trace.{Fits, IsOpen, IsPrivate, IsSynced, WasAlone, of_world}
 use Rattle.spec_binding.specs.Books.{is_synced}
 use Rattle.packet_rules.specs.Networks.{networks_of}
 use Rattle.packet_rules.specs.declared.networks.Networks.{Networks}
@@ -33,10 +33,12 @@ pub record Half : Type 0 where
   pub boot : ℕ
   pub sent : List (List ℕ)
 
--- the world: the settings of gateway 0 and those of gateway 1, the two gateways, and all notes, the oldest first
+-- the world: the settings of gateway 0 and those of gateway 1, whether it began with gateway 0 founded (else with nobody
+-- up), the two gateways, and all notes, the oldest first
 pub record World : Type 0 where
   pub settings : Settings
   pub settings_one : Settings
+  pub founded : Bool
   pub zero : Half
   pub one : Half
   pub trace : List Note
@@ -71,6 +73,7 @@ abbrev pub with_half : World → GatewayId → Half → List Note → World
 with_half w i h trace = record {
   settings = w.settings;
   settings_one = w.settings_one;
+  founded = w.founded;
   zero = of_gateway h w.zero i;
   one = of_gateway w.one h i;
   trace = trace;
@@ -82,7 +85,20 @@ abbrev pub founding_of : Settings → Settings → World
 founding_of settings settings_one = record {
   settings = settings;
   settings_one = settings_one;
-  zero = record { gateway = Some (beginning (founded settings 1)); boot = 1; sent = [] };
+  founded = true;
+  zero = record { gateway = Some (beginning (founded settings Zero 1)); boot = 1; sent = [] };
+  one = record { gateway = None; boot = 0; sent = [] };
+  trace = [];
+}
+
+-- the world that begins with nobody up, of two gateways with these settings: no gateway ever booted, nothing sent,
+-- nothing noted
+abbrev pub nobody_of : Settings → Settings → World
+nobody_of settings settings_one = record {
+  settings = settings;
+  settings_one = settings_one;
+  founded = false;
+  zero = record { gateway = None; boot = 0; sent = [] };
   one = record { gateway = None; boot = 0; sent = [] };
   trace = [];
 }
@@ -90,6 +106,11 @@ founding_of settings settings_one = record {
 -- the world at the founding of two gateways with the same settings
 abbrev pub founding : Settings → World
 founding settings = founding_of settings settings
+
+-- the world as it begins with these settings: with gateway 0 founded, or with nobody up
+abbrev pub world_of : Settings → Bool → World
+world_of settings true = founding settings
+world_of settings false = nobody_of settings settings
 
 -- both settings have the same values: the two ranges, the virtual addresses and the prefix lengths
 abbrev pub HaveSameValues : Settings → Settings → Type 0
@@ -136,6 +157,11 @@ moment_of (Some g) = g.moment
 
 -- ---- what the words on a trace speak of
 
+-- the trace of which the words on it speak: all notes, where the world began with nobody up behind a crash of gateway 0,
+-- which by the words would else be synced as it begins
+abbrev pub trace_of : World → List Note
+trace_of w = of_world w.founded w.trace
+
 -- a gateway's table holds the pair; a proposal given up is no pair
 abbrev pub Holds : World → GatewayId → Pair → Type 0
 Holds w i p = Contains (pairs_of is_pair (gateway_at w i)) p
@@ -151,21 +177,21 @@ pub record NeverAlone (w : World) : Type 0 where
 
 -- a gateway is synced exactly where the trace says so
 abbrev pub ShowsSynced : World → Type 0
-ShowsSynced w = (i : GatewayId) → IsTrue (synced_at (gateway_at w i)) ↔ IsSynced i w.trace
+ShowsSynced w = (i : GatewayId) → IsTrue (synced_at (gateway_at w i)) ↔ IsSynced i (trace_of w)
 
 -- Where no pair was ever alone: the trace fits, each open pair is in the table of each synced gateway, and a synced
 -- gateway translates with exactly the pairs that go on there, by the words as they are without the note Alone.
 pub record IsKeptTogether (w : World) : Type 0 where
-  pub none : (p : Pair) → WasAlone p w.trace → ⊥
-  pub fits : Fits w.trace
-  pub kept : plain.Kept (Holds w) (reverse w.trace)
-  pub goes_on : plain.GoesOn (Translates w) (reverse w.trace)
+  pub none : (p : Pair) → WasAlone p (trace_of w) → ⊥
+  pub fits : Fits (trace_of w)
+  pub kept : plain.Kept (Holds w) (reverse (trace_of w))
+  pub goes_on : plain.GoesOn (Translates w) (reverse (trace_of w))
 
 -- While no pair is private, each open pair is held by each synced gateway.
 abbrev pub IsShared : World → Type 0
 IsShared w =
-    ((i : GatewayId) (p : Pair) → IsPrivate i p w.trace → ⊥) →
-    (p : Pair) → IsOpen p w.trace → (i : GatewayId) → IsSynced i w.trace → Holds w i p
+    ((i : GatewayId) (p : Pair) → IsPrivate i p (trace_of w) → ⊥) →
+    (p : Pair) → IsOpen p (trace_of w) → (i : GatewayId) → IsSynced i (trace_of w) → Holds w i p
 
 -- ---- the ports that the two own
 

@@ -3,6 +3,7 @@ ghost use Rattle.std.specs.Prelude.{◌≡◌, ◌<◌, ◌≤◌, ◌+◌, ◌+
 ghost use Rattle.bindings.specs.Entries.{is_pair, translates};
 ghost use Rattle.link.specs.Link.{IsLink};
 ghost use Rattle.spec_binding.specs.Books.{is_synced};
+ghost use Rattle.spec_step.specs.declared.events.Event.TheVariants as given;
 ghost use Rattle.spec_step.specs.Machine.{HasBytes};
 ghost use Rattle.spec_step.specs.Rests.{most_notes};
 ghost use Rattle.spec_step.specs.Truly.{IsSetUp};
@@ -11,7 +12,7 @@ ghost use Rattle.gateway.specs.Gateway.{IsGateway};
 ghost use Rattle.frame_sim.specs.World.{is_up, moment_of, owned_by, pairs_of, shown_at, synced_at};
 ghost use Rattle.frame_sim.specs.declared.events.WorldFault.TheVariants as faults;
 ghost use Rattle.frame_sim.specs.Events.{kth, since, unless};
-ghost use Rattle.frame_sim.specs.Halves.{IsShort, Receives, StepsAt, TellsTruly, items_of};
+ghost use Rattle.frame_sim.specs.Halves.{EndsHalf, IsShort, Receives, StepsAt, TellsTruly, items_of};
 ghost use Rattle.frame_sim.specs.Scene.{KeepsPartsAt};
 ghost use Rattle.spec_gateway.specs.State.{KeepsParts};
 ghost use Rattle.frame_sim.specs.Lacks.{IsUnowned, IsUnpaired, IsUnreceived, IsUnstepped, IsUntranslated, WasUnowned, WasUnpaired, WasUnready, WasUnstepped, WasUntranslated};
@@ -214,6 +215,17 @@ fn told_ports(gateway: &Gateway) -> Result<Vec<Port>, NoMemory>
 }
 
 impl Half {
+    /// Returns the half of a gateway that never booted.
+    pub(crate) fn new(alloc: Global) -> Half
+        ensures { result ≡ record { gateway = None; boot = 0; sent = [] } }
+    {
+        Half {
+            gateway: None,
+            boot: 0,
+            sent: Vec::new(alloc),
+        }
+    }
+
     /// Ends the gateway, and frees its memory.
     pub(crate) fn end(self) {
         let Half {
@@ -250,6 +262,26 @@ impl Half {
             }
             None => Ok(Outcome::Done),
         }
+    }
+
+    /// Ends the gateway: it takes a last step, and is down then. One that is down takes nothing.
+    pub(crate) fn end_step(
+        &mut self,
+        alloc: Global,
+        trace: &mut Vec<Note>,
+        out: &mut Out,
+    ) -> Result<Outcome, NoMemory>
+        requires parts { KeepsPartsAt self.old.gateway }
+        ensures steps { IfOk result (λ o. EndsHalf self.old self.old.gateway trace.old.items
+            out.old o out.new self.new trace.new.items) }
+        ensures err { OnErr result (self.new ≡ self.old) }
+        ensures unnoted { OnErr result (trace.new.items ≡ trace.old.items) }
+        ensures untold { OnErr result (out.new ≡ out.old) }
+        ensures short { OnErr result (IsUnstepped self.old.gateway given.End) }
+    {
+        let outcome = self.hand(alloc, trace, Event::End, out)?;
+        self.stop();
+        Ok(outcome)
     }
 
     /// Puts the gateway down, as a crash does, and frees its memory. What it sent stays.

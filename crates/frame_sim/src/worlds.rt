@@ -3,23 +3,24 @@ ghost use Rattle.std.specs.Prelude.{◌≡◌, ◌<◌, ◌≤◌, ◌+◌, ◌+
 ghost use Rattle.bindings.specs.Entries.{is_pair, translates};
 ghost use Rattle.spec_trace.specs.OneBox.{IsOneBox};
 ghost use Rattle.spec_trace.specs.Plain.{IsPlain};
-ghost use Rattle.spec_trace.specs.Trace.{AtMostTwo, GoesOn, Idle, Kept, OneEndpoint, OnePort, Silent};
+ghost use Rattle.spec_trace.specs.Trace.{AtMostTwo, GoesOn, Idle, Kept, OneEndpoint, OnePort, FoundedRightly, Silent};
 ghost use Rattle.link.specs.Reading.{reading};
 ghost use Rattle.link.specs.Strays.{IsStray, is_stray};
-ghost use Rattle.output.specs.Output.{Output, with_note};
+ghost use Rattle.output.specs.Output.{Output};
 ghost use Rattle.nat_types.specs.declared.gateways.GatewayId.{GatewayId};
 ghost use Rattle.nat_types.specs.declared.gateways.GatewayId.TheVariants.{Zero};
 ghost use Rattle.spec_step.specs.declared.events.Outcome.{Outcome};
 ghost use Rattle.spec_step.specs.Founding.{begun, founded};
+ghost use Rattle.spec_step.specs.Shown.{with_notes};
 ghost use Rattle.spec_gateway.specs.State.{beginning};
 ghost use Rattle.nat_types.specs.declared.events.WorldEvent.TheVariants as events;
 ghost use Rattle.frame_sim.specs.declared.events.WorldFault.TheVariants as faults;
-ghost use Rattle.frame_sim.specs.Events.{ChangesNothing, Strays, TakesAt, datagram_for, may_be_told, may_boot, may_crash, may_stray, unless};
+ghost use Rattle.frame_sim.specs.Events.{ChangesNothing, Strays, TakesAt, datagram_for, may_be_told, may_boot, may_crash, may_found, may_stray, noting, unless};
 ghost use Rattle.frame_sim.specs.Lacks.{IsUnheard, IsUnnoted, IsUnowned, IsUnpaired, IsUnstepped, IsUntranslated, WasUnbegun, WasUnrun, WasUntold, WasUntraced};
 ghost use Rattle.frame_sim.specs.Runs.{Answers, AreSteps, Gives, WasTaken, fault_of};
 ghost use Rattle.frame_sim.specs.Scene.{IsHanded};
 ghost use Rattle.frame_sim.specs.World.{World as Seen};
-ghost use Rattle.frame_sim.specs.World.{HaveSameValues, Holds, IsKeptTogether, IsOwned, IsShared, NeverAlone, ShowsSynced, Translates, founding, founding_of, gateway_at, half, is_up, networks_at, owned_by, pairs_of, settings_of, state_at, synced_at, values_in};
+ghost use Rattle.frame_sim.specs.World.{HaveSameValues, Holds, IsKeptTogether, IsOwned, IsShared, NeverAlone, ShowsSynced, Translates, founding, founding_of, gateway_at, half, is_up, networks_at, owned_by, pairs_of, settings_of, nobody_of, state_at, synced_at, trace_of, values_in};
 
 use crate::halves::Half;
 use crate::{Step, WorldEvent, WorldFault};
@@ -37,7 +38,7 @@ use spec_pair::laws::{
     a_step_keeps, begins, goes_to, promises, promises_in_order, promises_without_alone,
     steps_anywhere,
 };
-use spec_step::{beginnings_account, others_account, steps_account, steps_go};
+use spec_step::{beginnings_account, ends_go, others_account, steps_account, steps_go};
 use spec_trace::laws::is_one_box;
 use std::alloc::Global;
 use std::marker::Model;
@@ -50,6 +51,8 @@ pub struct World<'a> {
     alloc: Global,
     settings: &'a Settings,
     settings_one: &'a Settings,
+    /// Whether the world began with gateway 0 founded, else with nobody up.
+    founded: bool,
     zero: Half,
     one: Half,
     trace: Vec<Note>,
@@ -64,6 +67,7 @@ impl<'a> Model for World<'a> {
     ghost view = { λ w. record {
       settings = w.settings.now;
       settings_one = w.settings_one.now;
+      founded = w.founded;
       zero = w.zero;
       one = w.one;
       trace = w.trace.items;
@@ -72,55 +76,69 @@ impl<'a> Model for World<'a> {
     ghost invariant = { λ w. IsSound (record {
       settings = w.settings.now;
       settings_one = w.settings_one.now;
+      founded = w.founded;
       zero = w.zero;
       one = w.one;
       trace = w.trace.items;
     }) };
 }
 
-/// Appends a note to the output. NoMemory from this call, and from no other, is named `WasUntold`.
+/// Appends notes to the output. NoMemory from this call, and from no other, is named `WasUntold`.
 #[tactic(auto, unfolding(crate::specs::Lacks::WasUntold))]
-fn tell(out: &mut Out, note: &Note) -> Result<(), NoMemory>
-    ensures ok { OnOk result (out.new ≡ with_note out.old note.now) }
+fn tell(out: &mut Out, notes: &[Note]) -> Result<(), NoMemory>
+    ensures ok { OnOk result (out.new ≡ with_notes out.old notes.now) }
     ensures err { OnErr result (out.new ≡ out.old) }
-    ensures unroomed { OnErr result (WasUntold note.now) }
+    ensures unroomed { OnErr result (WasUntold notes.now) }
 {
     out.page.ready(Room {
         frames: 0,
         octets: 0,
         datagrams: 0,
-        notes: 1,
+        notes: notes.len(),
     })?;
-    out.page.note(note);
+    for note in notes {
+        out.page.note(note);
+    }
     Ok(())
 }
 
-/// Reserves a place on the trace for one more note. NoMemory from this call, and from no other, is named `WasUntraced`.
+/// Reserves places on the trace for these notes. NoMemory from this call, and from no other, is named `WasUntraced`.
 #[tactic(auto, unfolding(crate::specs::Lacks::WasUntraced))]
-fn room_on_trace(trace: &mut Vec<Note>, note: &Note) -> Result<(), NoMemory>
+fn room_on_trace(trace: &mut Vec<Note>, notes: &[Note]) -> Result<(), NoMemory>
     ensures items { trace.new.items ≡ trace.old.items }
-    ensures room { OnOk result (vec_len trace.new < vec_capacity trace.new) }
-    ensures unroomed { OnErr result (WasUntraced note.now) }
+    ensures room { OnOk result (vec_len trace.new + length notes.now ≤ vec_capacity trace.new) }
+    ensures unroomed { OnErr result (WasUntraced notes.now) }
 {
-    let _note = note;
-    Ok(reserve(trace, 1)?)
+    Ok(reserve(trace, notes.len())?)
 }
 
-/// Appends a note to the trace and to the output; on NoMemory to neither.
-fn note_both(trace: &mut Vec<Note>, out: &mut Out, note: &Note) -> Result<(), NoMemory>
-    ensures trace { OnOk result (trace.new.items ≡ trace.old.items ++ note.now ∷ []) }
-    ensures out { OnOk result (out.new ≡ with_note out.old note.now) }
+/// Appends notes to the trace and to the output; on NoMemory to neither.
+fn note_both(trace: &mut Vec<Note>, out: &mut Out, notes: &[Note]) -> Result<(), NoMemory>
+    ensures trace { OnOk result (trace.new.items ≡ trace.old.items ++ notes.now) }
+    ensures out { OnOk result (out.new ≡ with_notes out.old notes.now) }
     ensures unnoted { OnErr result (trace.new.items ≡ trace.old.items) }
     ensures untold { OnErr result (out.new ≡ out.old) }
-    ensures short { OnErr result (IsUnnoted note.now) }
+    ensures short { OnErr result (IsUnnoted notes.now) }
 {
-    room_on_trace(trace, note)?;
-    tell(out, note)?;
-    match trace.extend_from_slice(slice::from_ref(note)) {
+    room_on_trace(trace, notes)?;
+    tell(out, notes)?;
+    match trace.extend_from_slice(notes) {
         Ok(()) => {}
         Err(_full) => unreachable!(),
     }
     Ok(())
+}
+
+/// Returns a note that a gateway makes as it starts.
+fn boot_note(by: GatewayId, what: NoteKind) -> Note
+    ensures { result ≡ noting by 0 what }
+{
+    Note {
+        by,
+        at: 0,
+        what,
+        counts: true,
+    }
 }
 
 /// Returns an empty list with the capacity for the steps of these events. NoMemory from this call, and from no other,
@@ -146,9 +164,8 @@ fn begin(
     found: bool,
 ) -> Result<Gateway, NoMemory>
     requires boot { 0 < boot }
-    requires found { IsTrue found → id ≡ Zero }
     ensures begins { IfOk result (λ g. g ≡ beginning
-        (if found then founded settings.now boot else begun settings.now id boot)) }
+        (if found then founded settings.now id boot else begun settings.now id boot)) }
     ensures unbegun { OnErr result (WasUnbegun settings.now id boot) }
 {
     Gateway::new(alloc, settings, id, boot, found, Secrets::fixed())
@@ -195,18 +212,37 @@ impl<'a> World<'a> {
             alloc,
             settings,
             settings_one,
+            founded: true,
             zero: Half {
                 gateway: Some(gateway),
                 boot: 1,
                 sent: Vec::new(alloc),
             },
-            one: Half {
-                gateway: None,
-                boot: 0,
-                sent: Vec::new(alloc),
-            },
+            one: Half::new(alloc),
             trace: Vec::new(alloc),
         })
+    }
+
+    /// Returns a world that begins with nobody up: no gateway ever booted. Each gateway goes by its own settings, as in
+    /// `of`. Takes no memory.
+    pub fn begin(
+        alloc: Global,
+        settings: &'a Settings,
+        settings_one: &'a Settings,
+    ) -> World<'a>
+        requires values { HaveSameValues settings.now settings_one.now }
+        ensures { result ≡ nobody_of settings.now settings_one.now }
+    {
+        begins();
+        World {
+            alloc,
+            settings,
+            settings_one,
+            founded: false,
+            zero: Half::new(alloc),
+            one: Half::new(alloc),
+            trace: Vec::new(alloc),
+        }
     }
 
     fn half(&self, id: GatewayId) -> &Half
@@ -240,6 +276,7 @@ impl<'a> World<'a> {
             alloc: _,
             settings: _,
             settings_one: _,
+            founded: _,
             zero,
             one,
             trace: _trace,
@@ -250,20 +287,21 @@ impl<'a> World<'a> {
 
     /// Reminds the prover of what each world keeps. The call does nothing when it runs.
     pub fn recall(&self)
-        ensures one_port { OnePort self.now.trace }
-        ensures one_endpoint { OneEndpoint self.now.trace }
-        ensures at_most_two { AtMostTwo (Holds self.now) self.now.trace }
-        ensures kept { Kept (Holds self.now) self.now.trace }
+        ensures one_port { OnePort (trace_of self.now) }
+        ensures one_endpoint { OneEndpoint (trace_of self.now) }
+        ensures at_most_two { AtMostTwo (Holds self.now) (trace_of self.now) }
+        ensures kept { Kept (Holds self.now) (trace_of self.now) }
         ensures shared { IsShared self.now }
         // Where no pair was ever alone, the promises are those of two gateways that make no pair without the other.
-        ensures together { IsPlain (reverse self.now.trace) → IsKeptTogether self.now }
+        ensures together { IsPlain (reverse (trace_of self.now)) → IsKeptTogether self.now }
         // By settings that never make a pair alone, no pair was ever alone.
-        ensures plain { NeverAlone self.now → IsPlain (reverse self.now.trace) }
-        ensures silent { Silent self.now.trace }
-        ensures goes_on { GoesOn (Translates self.now) self.now.trace }
+        ensures plain { NeverAlone self.now → IsPlain (reverse (trace_of self.now)) }
+        ensures silent { Silent (trace_of self.now) }
+        ensures founded_rightly { FoundedRightly (trace_of self.now) }
+        ensures goes_on { GoesOn (Translates self.now) (trace_of self.now) }
         ensures synced { ShowsSynced self.now }
-        ensures idle { Idle self.now.trace }
-        ensures one_box { IsOneBox self.now.trace }
+        ensures idle { Idle (trace_of self.now) }
+        ensures one_box { IsOneBox (trace_of self.now) }
         ensures owned_ports { IsOwned self.now }
     {
         promises_in_order();
@@ -357,7 +395,9 @@ impl<'a> World<'a> {
             WorldEvent::Stop(id) => Ok(self.hand(*id, Event::Stop, out)?),
             WorldEvent::Deliver(id, number) => self.deliver(*id, *number, out),
             WorldEvent::Crash(id) => self.crash(*id, out),
+            WorldEvent::End(id) => self.end_gateway(*id, out),
             WorldEvent::Boot(id, number) => self.boot(*id, *number, out),
+            WorldEvent::Found(id, number) => self.found(*id, *number, out),
             WorldEvent::PeerOff(id, number) => self.pass_word(*id, *number, out),
             WorldEvent::Side(id, side, up) => Ok(self.hand(*id, Event::Side(*side, *up), out)?),
             WorldEvent::Stray(id, bytes) => self.stray(*id, bytes.as_slice(), out),
@@ -367,18 +407,19 @@ impl<'a> World<'a> {
     /// Takes the events in order, and returns a step for each. Answers NoMemory, without taking an event, where there
     /// is no memory for the list of steps.
     pub fn run(&mut self, events: &[WorldEvent]) -> Result<Vec<Step>, NoMemory>
-        ensures one_port { OnePort self.new.trace }
-        ensures one_endpoint { OneEndpoint self.new.trace }
-        ensures at_most_two { AtMostTwo (Holds self.new) self.new.trace }
-        ensures kept { Kept (Holds self.new) self.new.trace }
+        ensures one_port { OnePort (trace_of self.new) }
+        ensures one_endpoint { OneEndpoint (trace_of self.new) }
+        ensures at_most_two { AtMostTwo (Holds self.new) (trace_of self.new) }
+        ensures kept { Kept (Holds self.new) (trace_of self.new) }
         ensures shared { IsShared self.new }
-        ensures together { IsPlain (reverse self.new.trace) → IsKeptTogether self.new }
-        ensures plain { NeverAlone self.new → IsPlain (reverse self.new.trace) }
-        ensures silent { Silent self.new.trace }
-        ensures goes_on { GoesOn (Translates self.new) self.new.trace }
+        ensures together { IsPlain (reverse (trace_of self.new)) → IsKeptTogether self.new }
+        ensures plain { NeverAlone self.new → IsPlain (reverse (trace_of self.new)) }
+        ensures silent { Silent (trace_of self.new) }
+        ensures founded_rightly { FoundedRightly (trace_of self.new) }
+        ensures goes_on { GoesOn (Translates self.new) (trace_of self.new) }
         ensures synced { ShowsSynced self.new }
-        ensures idle { Idle self.new.trace }
-        ensures one_box { IsOneBox self.new.trace }
+        ensures idle { Idle (trace_of self.new) }
+        ensures one_box { IsOneBox (trace_of self.new) }
         ensures owned_ports { IsOwned self.new }
         ensures steps { IfOk result (λ ss. AreSteps self.old events.now ss.items self.new) }
         ensures err { OnErr result (self.new ≡ self.old) }
@@ -523,7 +564,7 @@ impl<'a> World<'a> {
             what: NoteKind::Crashed,
             counts: true,
         };
-        note_both(&mut self.trace, out, &note)?;
+        note_both(&mut self.trace, out, slice::from_ref(&note))?;
         match id {
             GatewayId::Zero => self.zero.stop(),
             GatewayId::One => self.one.stop(),
@@ -543,13 +584,60 @@ impl<'a> World<'a> {
             return Err(WorldFault::PremiseBroken);
         }
         let gateway = begin(self.alloc, self.settings(id), id, number, false)?;
-        let note = Note {
-            by: id,
-            at: 0,
-            what: NoteKind::Booted(number),
-            counts: true,
+        let note = boot_note(id, NoteKind::Booted(number));
+        match note_both(&mut self.trace, out, slice::from_ref(&note)) {
+            Ok(()) => {}
+            Err(NoMemory) => {
+                gateway.end();
+                return Err(WorldFault::NoMemory);
+            }
+        }
+        match id {
+            GatewayId::Zero => self.zero.start(gateway, number),
+            GatewayId::One => self.one.start(gateway, number),
+        }
+        Ok(Outcome::Done)
+    }
+
+    /// Ends one of the two gateways: it takes a last step, and is down then.
+    fn end_gateway(&mut self, id: GatewayId, out: &mut Out) -> Result<Outcome, WorldFault>
+        ensures { Answers self.old (events.End id) out.old result out.new self.new }
+    {
+        goes_to();
+        a_step_keeps();
+        steps_anywhere();
+        one_spelling();
+        ends_go();
+        steps_account();
+        others_account();
+        if !self.may_crash(id) {
+            return Err(WorldFault::PremiseBroken);
+        }
+        let outcome = match id {
+            GatewayId::Zero => self.zero.end_step(self.alloc, &mut self.trace, out)?,
+            GatewayId::One => self.one.end_step(self.alloc, &mut self.trace, out)?,
         };
-        match note_both(&mut self.trace, out, &note) {
+        Ok(outcome)
+    }
+
+    /// Starts one of the two gateways, which founds the pair as it starts.
+    fn found(&mut self, id: GatewayId, number: u64, out: &mut Out) -> Result<Outcome, WorldFault>
+        ensures { Answers self.old (events.Found id number) out.old result out.new self.new }
+    {
+        goes_to();
+        books_begin();
+        beginnings_account();
+        parts_stay_bytes();
+        others_account();
+        if !self.may_found(id, number) {
+            return Err(WorldFault::PremiseBroken);
+        }
+        let gateway = begin(self.alloc, self.settings(id), id, number, true)?;
+        let notes = [
+            boot_note(id, NoteKind::Booted(number)),
+            boot_note(id, NoteKind::Founded),
+        ];
+        match note_both(&mut self.trace, out, &notes) {
             Ok(()) => {}
             Err(NoMemory) => {
                 gateway.end();
@@ -566,8 +654,13 @@ impl<'a> World<'a> {
     fn may_crash(&self, id: GatewayId) -> bool
         ensures { result ≡ may_crash self.now id }
     {
-        let half = self.half(id);
-        half.up() && (!half.synced() || self.half(id.other()).synced())
+        self.half(id).up()
+    }
+
+    fn may_found(&self, id: GatewayId, number: u64) -> bool
+        ensures { result ≡ may_found self.now id number }
+    {
+        !self.half(id.other()).up() && self.may_boot(id, number)
     }
 
     fn may_boot(&self, id: GatewayId, number: u64) -> bool

@@ -5,7 +5,7 @@ use Rattle.nat_types.specs.declared.gateways.Side.{Side}
 use Rattle.fragments.specs.Fragment.{IsFragment}
 use Rattle.fragments.specs.Gathered.{Gathered, after_end, there_of, without_old}
 use Rattle.spec_step.specs.declared.events.Event.{Event}
-use Rattle.spec_step.specs.declared.events.Event.TheVariants.{Frame, Datagram, Tick, Stop, PeerOff, Side as Cable}
+use Rattle.spec_step.specs.declared.events.Event.TheVariants.{Frame, Datagram, Tick, Stop, End, PeerOff, Side as Cable}
 use Rattle.spec_step.specs.declared.events.Outcome.{Outcome}
 use Rattle.spec_step.specs.Steps.{clock_after, outcome_on}
 use Rattle.spec_step.specs.Verdict.{verdict}
@@ -21,6 +21,7 @@ lent_event (Frame side bytes) = Frame side (lent bytes.now)
 lent_event (Datagram bytes) = Datagram bytes
 lent_event (Tick now) = Tick now
 lent_event Stop = Stop
+lent_event End = End
 lent_event (PeerOff boot) = PeerOff boot
 lent_event (Cable side up) = Cable side up
 
@@ -30,6 +31,7 @@ clock_by moment (Frame side bytes) = moment
 clock_by moment (Datagram bytes) = moment
 clock_by moment (Tick now) = clock_after moment now
 clock_by moment Stop = moment
+clock_by moment End = moment
 clock_by moment (PeerOff boot) = moment
 clock_by moment (Cable side up) = moment
 
@@ -47,6 +49,7 @@ after_event moment (Frame side bytes) arrival g = after_frame side bytes.now arr
 after_event moment (Datagram bytes) arrival g = g
 after_event moment (Tick now) arrival g = without_old moment g
 after_event moment Stop arrival g = g
+after_event moment End arrival g = g
 after_event moment (PeerOff boot) arrival g = g
 after_event moment (Cable side up) arrival g = g
 

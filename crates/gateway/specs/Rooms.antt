@@ -4,7 +4,7 @@ use Rattle.nat_types.specs.declared.records.Record.{Record}
 use Rattle.link.specs.declared.datagrams.TheConstants.{RECORDS_IN_A_DATAGRAM}
 use Rattle.link.specs.Link.{needs_answer}
 use Rattle.spec_step.specs.declared.events.Event.{Event}
-use Rattle.spec_step.specs.declared.events.Event.TheVariants.{Frame, Datagram, Tick, Stop, PeerOff, Side}
+use Rattle.spec_step.specs.declared.events.Event.TheVariants.{Frame, Datagram, Tick, Stop, End, PeerOff, Side}
 use Rattle.output.specs.declared.pages.Room.{Room}
 use Rattle.waiting.specs.Packets.{HeldPacket, beyond, octets_in}
 use Rattle.forwarder.specs.declared.forwarders.Forwarder.{Forwarder}
@@ -22,6 +22,7 @@ is_of_side (Frame side bytes) = false
 is_of_side (Datagram bytes) = false
 is_of_side (Tick now) = false
 is_of_side Stop = false
+is_of_side End = false
 is_of_side (PeerOff boot) = false
 is_of_side (Side side up) = true
 
@@ -31,6 +32,7 @@ IsShort (Frame side bytes) = length bytes.now ≤ 65549
 IsShort (Datagram bytes) = ⊤
 IsShort (Tick now) = ⊤
 IsShort Stop = ⊤
+IsShort End = ⊤
 IsShort (PeerOff boot) = ⊤
 IsShort (Side side up) = ⊤
 
@@ -40,6 +42,7 @@ most_datagrams (Frame side bytes) = 1
 most_datagrams (Datagram bytes) = 1
 most_datagrams (Tick now) = 1
 most_datagrams Stop = 1
+most_datagrams End = 1
 most_datagrams (PeerOff boot) = 1
 most_datagrams (Side side up) = 0
 
@@ -86,18 +89,27 @@ records_need count = record { frames = 2 * count; octets = 0; notes = 4 * count;
 abbrev pub waiting_needs : Forwarder → Needs
 waiting_needs f = record all_for_pairs { notes = length f.core.table.entries + all_for_pairs.notes }
 
--- the need of a datagram whose header names a greater boot: that of a restart, and that of its records; any other datagram needs its records alone
+-- the most new pairs for which a core is made ready
+abbrev pub most_pairs : ℕ
+most_pairs = 2 * all_for_pairs.pairs + (records_need RECORDS_IN_A_DATAGRAM).pairs
+
+-- the need of a datagram whose header names a greater boot, or says that its sender ends: that of a restart, of a
+-- founding, of its records, and of the peer's end, for the entries that there are then; any other datagram needs its
+-- records alone
 abbrev pub restart_needs : Forwarder → Needs
 restart_needs f = record {
-  frames = (waiting_needs f).frames + (records_need RECORDS_IN_A_DATAGRAM).frames;
+  frames = 2 * all_for_pairs.frames + (records_need RECORDS_IN_A_DATAGRAM).frames;
   octets = 0;
-  notes = (waiting_needs f).notes + (records_need RECORDS_IN_A_DATAGRAM).notes;
-  pairs = (waiting_needs f).pairs + (records_need RECORDS_IN_A_DATAGRAM).pairs;
+  notes = 2 * length f.core.table.entries + most_pairs + 2 * all_for_pairs.notes
+      + (records_need RECORDS_IN_A_DATAGRAM).notes + 1;
+  pairs = most_pairs;
 }
 
--- the most new pairs for which a core is made ready, and the most frames or datagrams for which a page is
-abbrev pub most_pairs : ℕ
-most_pairs = all_for_pairs.pairs + (records_need RECORDS_IN_A_DATAGRAM).pairs
+-- the most packets that wait: 64 for pairs, and 64 for next hops
+abbrev pub most_waiting : ℕ
+most_waiting = 128
+
+-- the most frames or datagrams for which a page is made ready
 
 abbrev pub most_on_a_page : ℕ
 most_on_a_page = 4096

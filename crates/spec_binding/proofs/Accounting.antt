@@ -8,7 +8,7 @@ use Rattle.nat_types.specs.Same.{same, same_pair}
 use Rattle.nat_types.proofs.Offered.{same-eq, same-true, pair-true}
 use Rattle.nat_types.specs.declared.gateways.GatewayId.{GatewayId}
 use Rattle.nat_types.specs.declared.notes.NoteKind.{NoteKind}
-use Rattle.nat_types.specs.declared.notes.NoteKind.TheVariants.{Used, Released, Retaken, Alone, Synced, Crashed, Booted}
+use Rattle.nat_types.specs.declared.notes.NoteKind.TheVariants.{Used, Released, Retaken, Alone, Synced, Founded, Crashed, Booted}
 use Rattle.nat_types.specs.declared.notes.Note.{Note}
 use Rattle.nat_types.specs.declared.pairs.Key.{Key}
 use Rattle.nat_types.specs.declared.pairs.Pair.{Pair}
@@ -51,6 +51,7 @@ listed-after g pair use_at by at counts (Released noted) Before uses old w = old
 listed-after g pair use_at by at counts (Retaken noted) Before uses old w = old w
 listed-after g pair use_at by at counts (Alone noted) Before uses old w = old w
 listed-after g pair use_at by at counts Synced Before uses old w = old w
+listed-after g pair use_at by at counts Founded Before uses old w = old w
 listed-after g pair use_at by at counts Crashed Before uses old w = old w
 listed-after g pair use_at by at counts (Booted number) Before uses old w = kept (same g by) use_at uses (λ is. w.0 (same-eq g by is)) (old w.1)
 

@@ -6,7 +6,7 @@ use Rattle.nat_types.specs.Same.{same_key}
 use Rattle.nat_types.proofs.Offered.{key-eq}
 use Rattle.nat_types.specs.Granted.{Granted, IsPort}
 use Rattle.nat_types.specs.declared.gateways.GatewayId.{GatewayId}
-use Rattle.nat_types.specs.declared.gateways.GatewayId.TheVariants.{Zero}
+use Rattle.nat_types.specs.declared.gateways.GatewayId.TheVariants.{Zero, One}
 use Rattle.nat_types.specs.declared.pairs.EntryState.{EntryState}
 use Rattle.nat_types.specs.declared.pairs.EntryState.TheVariants as state
 use Rattle.nat_types.specs.declared.pairs.Endpoint.{Endpoint}
@@ -32,7 +32,7 @@ use Rattle.link.specs.Link.{fresh}
 use Rattle.resync.specs.Batch.{AreHeldElsewhere, is_second, is_settled, owners_of, puts_of, record_for}
 use Rattle.resync.specs.Loading.{Load, is_beside, is_new, loaded_state, names_run, none_yet, with_pair, with_run}
 use Rattle.spec_pair.specs.Box.{In, founder}
-use Rattle.spec_pair.specs.Ownership.{AreRising as RunsRise}
+use Rattle.spec_pair.specs.Ownership.{AreRising as RunsRise, own_ports as ports_at_first}
 use Rattle.spec_pair.proofs.Offered.{same_boxes}
 use Rattle.spec_binding.specs.declared.setups.Rules.{Rules}
 use Rattle.spec_binding.specs.declared.setups.Stage.{Stage}
@@ -42,9 +42,9 @@ use Rattle.spec_binding.specs.declared.changes.Change.TheVariants.{Keep, Add, Tu
 use Rattle.spec_binding.specs.declared.changes.Transition.{Transition}
 use Rattle.spec_binding.specs.declared.changes.PortRequest.{PortRequest}
 use Rattle.spec_binding.specs.declared.changes.Want.TheVariants as want
-use Rattle.spec_binding.specs.Books.{Book, IsBook, emptied, empty_book, founded_book, in_ranges, is_any, is_lone, is_paired, is_synced, load_of, owns, ports_of}
+use Rattle.spec_binding.specs.Books.{Book, IsBook, emptied, empty_book, founded_book, in_ranges, is_any, is_lone, is_paired, is_synced, load_of, own_bounds, owns, ports_of}
 use Rattle.spec_binding.specs.WellFormed.{Fits, GivesWay, IsWellFormedEndpoint, MayGive}
-use Rattle.spec_binding.specs.Machine.{box_at}
+use Rattle.spec_binding.specs.Machine.{box_at, ranges_of}
 use Rattle.spec_binding.specs.Resets.{begun_anew, put_lone, restart_batch, restarted, revived}
 use Rattle.spec_binding.specs.Rows.{after, alone_row, sought_row, carry_row, changed, idle_row, load_taken, numbers_of, quiet, release_row, row_of, taken_book, unsynced_after, use_row, wish, wish_by, wish_of, with_gained, without_ports}
 use Rattle.spec_binding.proofs.Fitting.{alone-sound, carry-sound, idle-sound, row-sound, wish-sound}
@@ -603,7 +603,7 @@ fed-keeps b records rest is comes = record {
   unnamed = is.unnamed;
 }
 
--- ---- the founded gateway
+-- ---- a gateway that founds the pair as it boots
 
 range-back : (start count q : ℕ) → is_listed q (range_with_len start count) ≡ true → (start ≤ q) × (q < start + count)
 range-back start zero q h = absurd (cc)
@@ -628,16 +628,32 @@ range-is r p are = elim (cases_Bool (in_bounds r p)) [
       both_ways (in_bounds r p) outside (and_from (nat_le r.lowest.0 p) (nat_le p r.highest.0) (le-leb r.lowest.0 p low) (le-leb p r.highest.0 top))) ∙ sym outside)
 ]
 
-founded-owns : (z o : PortBounds) (p : ℕ) → AreBounds z → is_listed p (ports_of z) ≡ (in_either z o p && in_bounds z p)
-founded-owns z o p are = range-is z p are ∙ at (in_bounds z p) (in_bounds o p)
+-- a gateway's range is as good as both are
+own-bounds : (id : GatewayId) (z o : PortBounds) → AreBounds z → AreBounds o → AreBounds (own_bounds id z o)
+own-bounds Zero z o az ao = az
+own-bounds One z o az ao = ao
+
+own-within : (id : GatewayId) (z o : PortBounds) (p : ℕ) → in_bounds (own_bounds id z o) p ≡ (in_either z o p && in_bounds (own_bounds id z o) p)
+own-within Zero z o p = at (in_bounds z p) (in_bounds o p)
   where
     at : (a b : Bool) → a ≡ ((a || b) && a)
     at true b = refl
     at false true = refl
     at false false = refl
+own-within One z o p = at (in_bounds z p) (in_bounds o p)
+  where
+    at : (a b : Bool) → b ≡ ((a || b) && b)
+    at true true = refl
+    at true false = refl
+    at false true = refl
+    at false false = refl
 
-pub founded-keeps : (zero one : PortBounds) (rules : Rules) → AreBounds zero → AreBounds one → IsPort zero.highest.0 → IsPort one.highest.0 → IsBook (founded_book zero one rules)
-founded-keeps z o rules az ao hz ho = record {
+-- the ports with which a gateway founds the pair are those of its range
+pub founded-owns : (id : GatewayId) (z o : PortBounds) (p : ℕ) → AreBounds z → AreBounds o → is_listed p (ports_of (own_bounds id z o)) ≡ (in_either z o p && in_bounds (own_bounds id z o) p)
+founded-owns id z o p az ao = range-is (own_bounds id z o) p (own-bounds id z o az ao) ∙ own-within id z o p
+
+pub founded-keeps : (id : GatewayId) (zero one : PortBounds) (rules : Rules) → AreBounds zero → AreBounds one → IsPort zero.highest.0 → IsPort one.highest.0 → IsBook (founded_book id zero one rules)
+founded-keeps id z o rules az ao hz ho = record {
   zero = az;
   one = ao;
   highest = (hz, ho);
@@ -648,8 +664,8 @@ founded-keeps z o rules az ao hz ho = record {
   within = λ k x h. absurd (cc);
   formed = λ k x h. absurd (cc);
   coming = tt;
-  rising = let low = az.low in rise-range 0 z.lowest.0 (z.highest.0 + 1 - z.lowest.0) (omega (arith, low));
-  owned = λ p h. (and_parts (in_either z o p) (in_bounds z p) (sym (founded-owns z o p az) ∙ h)).0;
+  rising = let r = own_bounds id z o in let low = (own-bounds id z o az ao).low in rise-range 0 r.lowest.0 (r.highest.0 + 1 - r.lowest.0) (omega (arith, low));
+  owned = λ p h. (and_parts (in_either z o p) (in_bounds (own_bounds id z o) p) (sym (founded-owns id z o p az ao) ∙ h)).0;
   loaded = λ s. refl;
   bare = λ a n. absurd (cc);
   closed = λ w. absurd (cc);
@@ -657,6 +673,7 @@ founded-keeps z o rules az ao hz ho = record {
   unnamed = λ a n. absurd (cc);
 }
 
-pub founded-box : (zero one : PortBounds) (rules : Rules) (capacity : ℕ) (values : Values) → AreBounds zero → box_at (founded_book zero one rules) (fresh Zero 1 capacity values) [] 0 ≡ founder (λ p. in_either zero one p && in_bounds zero p)
-founded-box z o rules capacity values az = same_boxes (box_at (founded_book z o rules) (fresh Zero 1 capacity values) [] 0) (founder (λ p. in_either z o p && in_bounds z p))
-    (record { up = refl; boot = refl; synced = refl; lone = refl; peer = refl; table = λ k. refl; sent = refl; taken = refl; loading = refl; owned = λ p. founded-owns z o p az; wants = refl; named = refl; promised = refl })
+pub founded-box : (id : GatewayId) (zero one : PortBounds) (rules : Rules) (boot capacity : ℕ) (values : Values) → AreBounds zero → AreBounds one
+    → box_at (founded_book id zero one rules) (fresh id boot capacity values) [] 0 ≡ founder boot (ports_at_first (ranges_of (founded_book id zero one rules)) id)
+founded-box id z o rules boot capacity values az ao = same_boxes (box_at (founded_book id z o rules) (fresh id boot capacity values) [] 0) (founder boot (ports_at_first (ranges_of (founded_book id z o rules)) id))
+    (record { up = refl; boot = refl; synced = refl; lone = refl; peer = refl; table = λ k. refl; sent = refl; taken = refl; loading = refl; owned = λ p. founded-owns id z o p az ao; wants = refl; named = refl; promised = refl })

@@ -10,6 +10,7 @@ mod Wishing
 mod Pairs
 mod Unbroken
 mod Restarting
+mod Founding
 mod Comes
 mod Fitting
 mod Keeping

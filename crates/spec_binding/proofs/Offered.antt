@@ -6,8 +6,10 @@ pub use Rattle.spec_binding.proofs.Ahead.{either-ahead, ahead-fits, ahead-keeps,
 pub use Rattle.spec_binding.proofs.Choosing.{drawn-busy}
 -- A list reversed and joined, in the order of a trace.
 pub use Rattle.spec_binding.proofs.Accounting.{reversed-join}
--- The records that a datagram gives come in their turn.
-pub use Rattle.spec_binding.proofs.Comes.{turn-comes}
+-- The records that a datagram gives come in their turn, and what else it says of its sender.
+pub use Rattle.spec_binding.proofs.Comes.{end-comes, lacking-comes, turn-comes}
+-- A gateway founds the pair in its present life.
+pub use Rattle.spec_binding.proofs.Founding.{found-works, founding-keeps}
 -- A book stays a book after each change, row and reset.
 pub use Rattle.spec_binding.proofs.Keeping.{change-keeps, wish-keeps, idle-keeps, taken-keeps, alone-row-keeps, empty-keeps, restart-keeps, lone-keeps, fed-keeps, founded-keeps}
 -- What rows leave as it is.
@@ -16,14 +18,14 @@ pub use Rattle.spec_binding.proofs.Leaving.{change-leaves, taken-together}
 pub use Rattle.spec_binding.proofs.Members.{gained-is}
 -- Parts of a step: of one act or none, one after the other, and with the letter at the end.
 pub use Rattle.spec_binding.proofs.Parts.{works-nothing, heard-works, feed-works, works-join, works-more}
--- A part of a step, with the letter that is sent after it, is a step.
-pub use Rattle.spec_binding.proofs.Parts.{works-sent}
+-- A part of a step, with the letter that is sent after it, is a step. The datagram of an end is a last letter.
+pub use Rattle.spec_binding.proofs.Parts.{last-sent, works-sent}
 -- A greater boot of the peer that is heard is an act of the machine.
 pub use Rattle.spec_binding.proofs.Restarting.{restart-works}
--- The operator's word is an act of the machine.
-pub use Rattle.spec_binding.proofs.Restarting.{word-works}
+-- The operator's word and the peer's end are acts of the machine.
+pub use Rattle.spec_binding.proofs.Restarting.{end-works, word-works}
 -- A ledger that accounts for the trace does so after each call, with the notes of the call.
-pub use Rattle.spec_binding.proofs.Settling.{begun-accounts, later-accounts, foreign-accounts, fed-accounts, taken-accounts, wished-accounts, carried-accounts, restarted-accounts, lone-accounts, let-go-accounts, go-on-accounts}
+pub use Rattle.spec_binding.proofs.Settling.{begun-accounts, founding-accounts, later-accounts, foreign-accounts, fed-accounts, taken-accounts, wished-accounts, carried-accounts, restarted-accounts, lone-accounts, let-go-accounts, go-on-accounts}
 -- After a tick at which a gateway is apart each pair translates, and none is waited for.
 pub use Rattle.spec_binding.proofs.Marking.{all-translate, none-waiting}
 -- An endpoint's pair that translates stays its pair, unless it is released.

@@ -10,16 +10,16 @@ use Rattle.bindings.specs.Ports.{in_bounds, in_either}
 use Rattle.link.specs.declared.datagrams.Datagram.{Datagram}
 use Rattle.link.specs.declared.datagrams.Taken.{Taken}
 use Rattle.link.specs.Letters.{IsLetter}
-use Rattle.link.specs.Link.{Link, Agrees, IsTaken, acknowledged_to, handed_count, is_restart, met, with_fed}
+use Rattle.link.specs.Link.{Link, Agrees, IsTaken, acknowledged_to, handed_count, is_ending, is_restart, met, with_fed}
 use Rattle.link.proofs.Offered.{met_same, passes, goes_on, pushed_agrees, fed_agrees}
-use Rattle.spec_pair.specs.Acts.{Act, Send, HandIn, MayAct, box_after, act_notes, letters_by}
-use Rattle.spec_pair.specs.Box.{Box, Letter, In, AreSame, letter}
+use Rattle.spec_pair.specs.Acts.{Act, Send, HandIn, MayAct, MaySend, SaysMore, box_after, act_notes, letters_by}
+use Rattle.spec_pair.specs.Box.{Box, IsLacking, Letter, In, AreSame, last_letter, letter}
 use Rattle.spec_pair.specs.Mapped.{machine_record}
 use Rattle.spec_pair.specs.Ownership.{Ranges, moving}
 use Rattle.spec_pair.specs.Step.{IsStep, ReadsOnly, WasSent}
 use Rattle.spec_pair.specs.Talk.{MachineRecord}
 use Rattle.spec_pair.proofs.Offered.{same_boxes, steps_join, steps_anywhere, more_is_handed, rests}
-use Rattle.spec_binding.specs.Books.{Book, IsBook, is_any, is_synced}
+use Rattle.spec_binding.specs.Books.{Book, IsBook, is_any, is_synced, own_bounds}
 use Rattle.spec_binding.specs.declared.setups.Stage.{Stage}
 use Rattle.spec_binding.specs.declared.setups.Stage.TheVariants.{Paired}
 use Rattle.spec_binding.specs.Machine.{IsSameHouse, Stands, Works, box_at, letter_of, machine_records, promised_of, ranges_of}
@@ -43,7 +43,7 @@ agrees-answer h rest e (Some r) a = pushed_agrees h rest e r a
 -- ---- a gateway's name and ranges
 
 abbrev pub moving_in : PortBounds → PortBounds → Ranges
-moving_in z o = moving (λ p. in_either z o p) (in_bounds z)
+moving_in z o = moving (λ p. in_either z o p) (λ i. in_bounds (own_bounds i z o))
 
 pub same-house : (b b2 : Book) (now : ℕ) (x y : Box) (letters : List Letter) (words : List ℕ) (t t2 : List Note) (m m2 : List Letter) → IsSameHouse b b2 → IsStep (ranges_of b2) b2.id now x y letters words t t2 m m2 → IsStep (ranges_of b) b.id now x y letters words t t2 m m2
 same-house b b2 now x y letters words t t2 m m2 same step =
@@ -213,17 +213,38 @@ drop-map zero rs = refl
 drop-map (suc n) [] = refl
 drop-map (suc n) (r ∷ rs) = drop-map n rs
 
-abbrev made : ℕ → ℕ → ℕ → List MachineRecord → Letter
-made boot to first records = record { boot = boot; to = to; first = first; records = records }
+abbrev made : ℕ → ℕ → ℕ → List MachineRecord → Bool → Letter
+made boot to first records ends = record { boot = boot; to = to; first = first; records = records; ends = ends }
 
-letter-is : (b : Book) (e : Link) (h : List Record) (n before count : ℕ) (d : Datagram) → IsLetter h e before count d → letter_of d ≡ letter (box_at b e h n) before count
-letter-is b e h n before count d is =
+records-are : (e : Link) (h : List Record) (before count : ℕ) (d : Datagram) → IsLetter h e before count d → machine_records d.records.items ≡ take count (drop before (machine_records h))
+records-are e h before count d is = ap machine_records is.records ∙ take-map count (drop before h) ∙ ap (take count) (drop-map before h)
+
+letter-made : (e : Link) (h : List Record) (before count : ℕ) (d : Datagram) → IsLetter h e before count d → letter_of d ≡ made e.boot e.known before (take count (drop before (machine_records h))) (is_ending d.status)
+letter-made e h before count d is =
     let first : d.first - 1 ≡ before = let f = is.first in omega arith in
-    let records : machine_records d.records.items ≡ take count (drop before (machine_records h)) = ap machine_records is.records ∙ take-map count (drop before h) ∙ ap (take count) (drop-map before h) in
-    ap (λ (x : ℕ). made x d.receiver_boot (d.first - 1) (machine_records d.records.items)) is.boot
-    ∙ ap (λ (x : ℕ). made e.boot x (d.first - 1) (machine_records d.records.items)) is.to
-    ∙ ap (λ (x : ℕ). made e.boot e.known x (machine_records d.records.items)) first
-    ∙ ap (made e.boot e.known before) records
+    ap (λ (x : ℕ). made x d.receiver_boot (d.first - 1) (machine_records d.records.items) (is_ending d.status)) is.boot
+    ∙ ap (λ (x : ℕ). made e.boot x (d.first - 1) (machine_records d.records.items) (is_ending d.status)) is.to
+    ∙ ap (λ (x : ℕ). made e.boot e.known x (machine_records d.records.items) (is_ending d.status)) first
+    ∙ ap (λ (x : List MachineRecord). made e.boot e.known before x (is_ending d.status)) (records-are e h before count d is)
+
+letter-is : (b : Book) (e : Link) (h : List Record) (n before count : ℕ) (d : Datagram) → IsLetter h e before count d → is_ending d.status ≡ false → letter_of d ≡ letter (box_at b e h n) before count
+letter-is b e h n before count d is on = letter-made e h before count d is ∙ ap (made e.boot e.known before (take count (drop before (machine_records h)))) on
+
+-- the datagram of an end is the last letter
+last-is : (b : Book) (e : Link) (h : List Record) (n before count : ℕ) (d : Datagram) → IsLetter h e before count d → is_ending d.status ≡ true → letter_of d ≡ last_letter (box_at b e h n) before count
+last-is b e h n before count d is over = letter-made e h before count d is ∙ ap (made e.boot e.known before (take count (drop before (machine_records h)))) over
+
+none-mapped : (rs : List Record) → machine_records rs ≡ [] → rs ≡ []
+none-mapped [] none = refl
+none-mapped (r ∷ rs) none = cc
+
+-- a letter without a record, and with none before it, goes only where nothing was pushed
+says-more : (b : Book) (e : Link) (h : List Record) (n before count : ℕ) (d : Datagram) → IsLetter h e before count d → (d.first ≡ 1 → d.records.items ≡ [] → h ≡ []) → SaysMore (box_at b e h n) before count
+says-more b e h n before count d is more lacking =
+    let none : before ≡ 0 = lacking.0 in
+    let from = is.first in
+    let first : d.first ≡ 1 = omega (arith, from, none) in
+    ap machine_records (more first (none-mapped d.records.items (records-are e h before count d is ∙ lacking.1)))
 
 -- records that were pushed or fed may be sent
 may-send : (e : Link) (m upto : ℕ) → upto ≤ handed_count e → promised_of e ≡ Some m → upto ≤ m
@@ -240,24 +261,30 @@ may-send e m upto le is = at (e.promised == 0) refl le is
         bound zero above one le = absurd (above refl)
         bound (suc p) above one le = omega (arith, one, le)
 
-sends : (now : ℕ) (b : Book) (e e2 : Link) (h : List Record) (n before count : ℕ) (d : Datagram) (letters : List Letter) (words : List ℕ) → IsLetter h e before count d → before + count ≤ handed_count e → e2.boot ≡ e.boot → e2.known ≡ e.known → promised_of e2 ≡ promised_of e
+-- the datagram of an end is a last letter that may be sent
+pub last-sent : (b : Book) (e : Link) (n before count : ℕ) (h : List Record) (d : Datagram) → IsLetter h e before count d → before + count ≤ handed_count e → is_ending d.status ≡ true → (letter_of d ≡ last_letter (box_at b e h n) before count) × MaySend (box_at b e h n) before count
+last-sent b e n before count h d is handed over = (last-is b e h n before count d is over, (refl, λ m given. may-send e m (before + count) handed given))
+
+sends : (now : ℕ) (b : Book) (e e2 : Link) (h : List Record) (n before count : ℕ) (d : Datagram) (letters : List Letter) (words : List ℕ) → IsLetter h e before count d → before + count ≤ handed_count e → is_ending d.status ≡ false → (d.first ≡ 1 → d.records.items ≡ [] → h ≡ [])
+    → e2.boot ≡ e.boot → e2.known ≡ e.known → promised_of e2 ≡ promised_of e
     → IsStep (ranges_of b) b.id now (box_at b e h n) (box_at b e2 h n) letters words [] [] [] (letter_of d ∷ [])
-sends now b e e2 h n before count d letters words is handed boot known promised = record {
+sends now b e e2 h n before count d letters words is handed on more boot known promised = record {
   acts = Send before count ∷ [];
-  follows = ((refl, λ m given. may-send e m (before + count) handed given), (λ l i. absurd i, tt), tt);
+  follows = (((refl, λ m given. may-send e m (before + count) handed given), says-more b e h n before count d is more), (λ l i. absurd i, tt), tt);
   box_is = same_boxes (box_at b e2 h n) (box_at b e h n) (record { up = refl; boot = boot; synced = refl; lone = refl; peer = known; table = λ k. refl; sent = refl; taken = refl; loading = refl; owned = λ p. refl; wants = refl; named = refl; promised = promised });
   trace_is = refl;
-  mail_is = ap (λ (z : Letter). z ∷ []) (letter-is b e h n before count d is);
+  mail_is = ap (λ (z : Letter). z ∷ []) (letter-is b e h n before count d is on);
 }
 
 -- a part of a step, with the letter that is sent after it, is a step
 pub works-sent : (now : ℕ) (letters : List Letter) (words : List ℕ) (b b2 : Book) (e e2 e3 : Link) (n n2 before count : ℕ) (ns : List Note) (h : List Record) (d : Datagram)
-    → (w : Works now letters words b e n b2 e2 n2 ns h) → IsLetter w.history e2 before count d → before + count ≤ handed_count e2 → e3.boot ≡ e2.boot → e3.known ≡ e2.known → promised_of e3 ≡ promised_of e2
+    → (w : Works now letters words b e n b2 e2 n2 ns h) → IsLetter w.history e2 before count d → before + count ≤ handed_count e2 → is_ending d.status ≡ false → (d.first ≡ 1 → d.records.items ≡ [] → w.history ≡ [])
+    → e3.boot ≡ e2.boot → e3.known ≡ e2.known → promised_of e3 ≡ promised_of e2
     → IsStep (ranges_of b) b.id now (box_at b e h n) (box_at b2 e3 w.history n2) letters words [] (reverse ns) [] (letter_of d ∷ [])
-works-sent now letters words b b2 e e2 e3 n n2 before count ns h d w is handed boot known promised =
+works-sent now letters words b b2 e e2 e3 n n2 before count ns h d w is handed on more boot known promised =
     let r = ranges_of b in
     let sent : IsStep r b.id now (box_at b2 e2 w.history n2) (box_at b2 e3 w.history n2) letters words [] [] [] (letter_of d ∷ []) =
     same-house b b2 now (box_at b2 e2 w.history n2) (box_at b2 e3 w.history n2) letters words [] [] [] (letter_of d ∷ []) w.house
-    (sends now b2 e2 e3 w.history n2 before count d letters words is handed boot known promised) in
+    (sends now b2 e2 e3 w.history n2 before count d letters words is handed on more boot known promised) in
     steps_join r b.id now (box_at b e h n) (box_at b2 e2 w.history n2) (box_at b2 e3 w.history n2) letters words [] (reverse ns) (reverse ns) [] [] (letter_of d ∷ [])
     w.step (steps_anywhere r b.id now (box_at b2 e2 w.history n2) (box_at b2 e3 w.history n2) letters words [] (letter_of d ∷ []) sent (reverse ns) [])

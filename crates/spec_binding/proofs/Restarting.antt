@@ -1,4 +1,4 @@
--- A greater boot of the peer that is heard, and the operator's word, as acts of the machine.
+-- A greater boot of the peer that is heard, the operator's word, and the peer's end, as acts of the machine.
 use Rattle.std.proofs.Common.{◌≡◌, ℕ, suc, ◌+◌, ◌-◌, ◌<◌, ◌==◌, true, false, Bool, cond, not, ◌&&◌, IsTrue, Option, Some, None, inl, List, [], ◌∷◌, ◌++◌, length, drop, map, reverse, refl, sym, ap, subst, ◌∙◌, arith}
 use Rattle.std.proofs.lemmas.Bool.{cond-true, cond-false, eq-eqb, ne_eqb}
 use Rattle.std.proofs.lemmas.List.{reverse-append, append-nil, length-append, length-drop, length-map}
@@ -21,7 +21,7 @@ use Rattle.link.specs.Grammar.{IsWellFormedPair}
 use Rattle.link.specs.Link.{Link, Agrees, occupied, with_promised}
 use Rattle.link.proofs.Offered.{promised_agrees}
 use Rattle.resync.specs.Batch.{is_second, is_settled, owners_of, puts_of, record_for}
-use Rattle.spec_pair.specs.Acts.{Hear, HearAnew, PeerOff}
+use Rattle.spec_pair.specs.Acts.{Hear, HearAnew, PeerEnds, PeerOff}
 use Rattle.spec_pair.specs.Batch.{AreApart, AreThose, LieWithin}
 use Rattle.spec_pair.specs.Box.{In, Letter, Parcel, AreBack, revived, is_back, record_of, retakes, puts, batch, owners}
 use Rattle.spec_pair.specs.Mapped.{machine_record}
@@ -30,7 +30,7 @@ use Rattle.spec_pair.specs.Step.{IsStep}
 use Rattle.spec_pair.specs.Talk as machine
 use Rattle.spec_pair.specs.Talk.{MachineRecord}
 use Rattle.spec_pair.proofs.Offered.{batch_new, batch_mirrored, runs_leave}
-use Rattle.spec_binding.specs.Books.{Book, IsBook, emptied, in_ranges, is_synced, owns}
+use Rattle.spec_binding.specs.Books.{Book, IsBook, emptied, in_ranges, is_synced, own_bounds, owns}
 use Rattle.spec_binding.specs.Machine.{box_at, machine_records, machine_slot, promised_of, ranges_of, slots_of, Works}
 use Rattle.spec_binding.specs.Resets.{back_in, begun_anew, put_lone, restart_batch, restart_link, restart_notes, restarted, retaken}
 use Rattle.spec_binding.proofs.Loads.{lone-not}
@@ -182,7 +182,7 @@ hears now c e e1 h n l is synced bare boot greater from =
     let left = left_to r (other c.id) os in
     let own = keyed left in
     let table = λ (k : Key). revived (slots_of c.entries k) in
-    let leaves : LeaveRest r c.id (λ p. owns c p) os = runs_leave (λ p. in_ranges c p) (in_bounds c.zero) (λ p. owns c p) c.id os (λ p. runs-owned c.owned p) in
+    let leaves : LeaveRest r c.id (λ p. owns c p) os = runs_leave (λ p. in_ranges c p) (λ i. in_bounds (own_bounds i c.zero c.one)) (λ p. owns c p) c.id os (λ p. runs-owned c.owned p) in
     let one : AreApart own xs = apart own ps 0 c.entries is.keys is.endpoints is.order (are-sided c is left leaves) (λ p i. i) in
     act-step r c.id now (box_at c e h n) (box_at (begun_anew c) (with_promised e1 (length (restart_batch c))) (restart_batch c) 0) (Hear l (reverse (back_in c.entries)) os xs true) (l ∷ []) [] (retaken c.id now (back_in c.entries)) (
       synced,
@@ -240,6 +240,21 @@ word-works now b e e1 n number h is synced bare boot known = record {
   step = act-step (ranges_of b) b.id now (box_at b e h n) (box_at (put_lone b) e1 [] 0) (PeerOff number (reverse (back_in b.entries))) [] (number ∷ []) (retaken b.id now (back_in b.entries))
       (synced, are-back b is)
       (λ m i. absurd i, inl refl)
+      (record { up = refl; boot = sym boot; synced = sym synced; lone = refl; peer = known; table = λ k. slots-revived b.entries k is.keys; sent = refl; taken = refl; loading = refl; owned = λ p. refl; wants = refl; named = refl; promised = no-promise e1 bare })
+      (retaken-back b.id now (back_in b.entries) ∙ sym (append-nil (retakes b.id now (reverse (back_in b.entries)))))
+      (λ m. refl);
+}
+
+-- the end of the peer's known boot is the act PeerEnds
+pub end-works : (now : ℕ) (b : Book) (e e1 : Link) (n : ℕ) (h : List Record) (l : Letter) → IsBook b → is_synced b.stage ≡ true → l.ends ≡ true → l.boot ≡ e.known → l.to ≡ e.boot → Agrees [] [] e1 → e.boot ≡ e1.boot → e1.known ≡ l.boot
+    → Works now (l ∷ []) [] b e n (put_lone b) e1 0 (retaken b.id now (back_in b.entries)) h
+end-works now b e e1 n h l is synced ends from to bare boot known = record {
+  house = record { id = refl; zero = refl; one = refl; limit = refl; alone = refl; choice = refl; ahead = refl };
+  history = [];
+  agrees = bare;
+  step = act-step (ranges_of b) b.id now (box_at b e h n) (box_at (put_lone b) e1 [] 0) (PeerEnds l (reverse (back_in b.entries))) (l ∷ []) [] (retaken b.id now (back_in b.entries))
+      (synced, ends, from, to, are-back b is)
+      (λ m i. i, tt)
       (record { up = refl; boot = sym boot; synced = sym synced; lone = refl; peer = known; table = λ k. slots-revived b.entries k is.keys; sent = refl; taken = refl; loading = refl; owned = λ p. refl; wants = refl; named = refl; promised = no-promise e1 bare })
       (retaken-back b.id now (back_in b.entries) ∙ sym (append-nil (retakes b.id now (reverse (back_in b.entries)))))
       (λ m. refl);

@@ -6,7 +6,7 @@ use Rattle.nat_types.specs.Same.{same, same_key, same_pair}
 use Rattle.nat_types.proofs.Offered.{key-self, same-self, pair-eq, pair-self}
 use Rattle.nat_types.specs.declared.gateways.GatewayId.{GatewayId}
 use Rattle.nat_types.specs.declared.notes.NoteKind.{NoteKind}
-use Rattle.nat_types.specs.declared.notes.NoteKind.TheVariants.{Used, Released, Retaken, Alone, Synced, Crashed, Booted}
+use Rattle.nat_types.specs.declared.notes.NoteKind.TheVariants.{Used, Released, Retaken, Alone, Synced, Founded, Crashed, Booted}
 use Rattle.nat_types.specs.declared.notes.Note.{Note}
 use Rattle.nat_types.specs.declared.pairs.EntryState.{EntryState}
 use Rattle.nat_types.specs.declared.pairs.EntryState.TheVariants as state
@@ -35,8 +35,8 @@ use Rattle.spec_binding.specs.declared.changes.Transition.{Transition}
 use Rattle.spec_binding.specs.declared.changes.PortRequest.{PortRequest}
 use Rattle.spec_binding.specs.declared.changes.Want.TheVariants as want
 use Rattle.spec_binding.specs.Books.{Book, IsBook, emptied, is_lone, is_paired, is_synced, load_of}
-use Rattle.spec_binding.specs.Ledgers.{Ledger, bare_ledger, lone_ledger, carried_ledger, go_on_all, ledger_after, release_all, lives_after, lives_loaded, may_ask, restarted_ledger, rests_for, taken_ledger}
-use Rattle.spec_binding.specs.Resets.{back_in, begun_anew, restart_notes, retaken}
+use Rattle.spec_binding.specs.Ledgers.{Ledger, bare_ledger, lone_ledger, carried_ledger, go_on_all, ledger_after, release_all, lives_after, lives_loaded, may_ask, founded_ledger, restarted_ledger, rests_for, taken_ledger}
+use Rattle.spec_binding.specs.Resets.{back_in, begun_anew, founding_note, restart_notes, retaken}
 use Rattle.spec_binding.specs.Rows.{after, alone_row, answered, changed, idle_row, is_full, sought_row, load_taken, load_what, noted_by, noted_with, quiet, release_row, released_row, row, row_of, taken_what, unsynced_after, unsynced_what, use_row, used_row, wish, wish_by, wish_of}
 use Rattle.spec_binding.specs.Uses.{Accounts, KnowUses, carried_notes, use_counts, uses_after, uses_of}
 use Rattle.spec_binding.proofs.Accounting.{rested-listed, reversed-join, reversed-more, stays-accounts}
@@ -66,6 +66,7 @@ foreign-uses g p by at counts (Released noted) uses other = refl
 foreign-uses g p by at counts (Retaken noted) uses other = refl
 foreign-uses g p by at counts (Alone noted) uses other = refl
 foreign-uses g p by at counts Synced uses other = refl
+foreign-uses g p by at counts Founded uses other = refl
 foreign-uses g p by at counts Crashed uses other = refl
 foreign-uses g p by at counts (Booted number) uses other = cond-false (same g by) [] uses other
 
@@ -252,6 +253,10 @@ restarted-accounts now l h is a = at (is_synced l.book.stage) refl
 
 pub lone-accounts : (now : ℕ) (l : Ledger) (h : List Note) → IsBook l.book → Accounts now l h → Accounts now (lone_ledger now l) (reverse (retaken l.book.id now (back_in l.book.entries)) ++ h)
 lone-accounts now l h is a = record { uses = know-anew now (revived_entries l.book.entries) (lives_of_pairs l.book.entries l.lives) (uses_of l.book.id (reverse (retaken l.book.id now (back_in l.book.entries)) ++ h)) (revived-uses now l h is a); none = λ un. absurd (cc); idle = retaken-idle l.book.id now (back_in l.book.entries) h a.idle }
+
+-- a founding is no use, and empties a table of which no pair was used
+pub founding-accounts : (now : ℕ) (l : Ledger) (h : List Note) → is_synced l.book.stage ≡ false → Accounts now l h → Accounts now (founded_ledger l) (founding_note l.book.id now ∷ h)
+founding-accounts now l h loads a = record { uses = know-none now (uses_of l.book.id (founding_note l.book.id now ∷ h)) (a.none loads); none = λ un. absurd (cc); idle = (tt, a.idle) }
 
 -- ---- the idle pairs of a tick
 

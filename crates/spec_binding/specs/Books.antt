@@ -11,7 +11,7 @@ use Rattle.bindings.specs.Ports.{AreBounds, in_either}
 use Rattle.port_range.specs.Ports.{is_listed, AreRising}
 use Rattle.std.specs.List.{AllByRecursion, range_with_len}
 use Rattle.nat_types.specs.Granted.{IsPort}
-use Rattle.nat_types.specs.declared.gateways.GatewayId.TheVariants.{Zero}
+use Rattle.nat_types.specs.declared.gateways.GatewayId.TheVariants.{Zero, One}
 use Rattle.link.specs.Grammar.{IsWellFormedPair, IsWellFormedRecord}
 use Rattle.link.specs.Link.{Link}
 use Rattle.resync.specs.Batch.{AreHeldElsewhere}
@@ -108,9 +108,15 @@ emptied b = record b { stage = Unsynced; begun = false; named = 0; entries = [];
 abbrev pub ports_of : PortBounds → List ℕ
 ports_of range = range_with_len range.lowest.0 (range.highest.0 + 1 - range.lowest.0)
 
--- the book of gateway 0 as it is founded: lone, with the ports of range zero
-abbrev pub founded_book : PortBounds → PortBounds → Rules → Book
-founded_book zero one rules = record (empty_book Zero zero one rules) { stage = Lone; owned = ports_of zero }
+-- the range of a gateway, of the two
+abbrev pub own_bounds : GatewayId → PortBounds → PortBounds → PortBounds
+own_bounds Zero zero one = zero
+own_bounds One zero one = one
+
+-- the book of a gateway that founds the pair as it boots: lone, with the ports of its range
+abbrev pub founded_book : GatewayId → PortBounds → PortBounds → Rules → Book
+founded_book id zero one rules =
+    record (empty_book id zero one rules) { stage = Lone; owned = ports_of (own_bounds id zero one) }
 
 -- the table that is being loaded, as a part of the book
 abbrev pub load_of : Book → Load

@@ -21,7 +21,7 @@ use Rattle.resync.specs.Loading.{Load, loaded, lives_taken}
 use Rattle.spec_binding.specs.declared.changes.Change.{Change}
 use Rattle.spec_binding.specs.declared.changes.Change.TheVariants.{Keep, Add, Turn, Renew, Drop, Yield, Want, Give, Gain}
 use Rattle.spec_binding.specs.Books.{Book, is_apart, is_synced, load_of}
-use Rattle.spec_binding.specs.Resets.{restarted, put_lone}
+use Rattle.spec_binding.specs.Resets.{founded_again, restarted, put_lone}
 use Rattle.spec_binding.specs.Rows.{alone_row, answered, carry_row, changed, idle_row, is_full, noted_by, row_of, taken_book}
 
 -- The ledger of a gateway: its book, the life of each entry, in the order of the entries, and two things that nothing
@@ -96,7 +96,11 @@ restarted_ledger l = record l {
   lives = if is_synced l.book.stage then lives_of_pairs l.book.entries l.lives else [];
 }
 
--- the ledger after the operator says that the peer is off: the life of each pair begins anew
+-- the ledger of a gateway that had no table and founds the pair
+abbrev pub founded_ledger : Ledger → Ledger
+founded_ledger l = record l { book = founded_again l.book; lives = [] }
+
+-- the ledger after the operator says that the peer is off, or after the peer's end: the life of each pair begins anew
 abbrev pub lone_ledger : ℕ → Ledger → Ledger
 lone_ledger now l = record l { book = put_lone l.book; lives = map (life_renewed now) (lives_of_pairs l.book.entries l.lives) }
 

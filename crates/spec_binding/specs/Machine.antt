@@ -7,14 +7,14 @@ use Rattle.nat_types.specs.declared.records.Record.{Record}
 use Rattle.bindings.specs.declared.entries.Entry.{Entry}
 use Rattle.bindings.specs.Entries.{slot_of}
 use Rattle.bindings.specs.Ports.{in_bounds}
-use Rattle.link.specs.Link.{Link, Agrees}
+use Rattle.link.specs.Link.{Link, Agrees, is_ending}
 use Rattle.link.specs.declared.datagrams.Datagram.{Datagram}
 use Rattle.spec_pair.specs.Talk as machine
 use Rattle.spec_pair.specs.Mapped.{slot_in, machine_record}
 use Rattle.spec_pair.specs.Box.{Box, Letter, nth}
 use Rattle.spec_pair.specs.Ownership.{Ranges, moving}
 use Rattle.spec_pair.specs.Step.{IsStep}
-use Rattle.spec_binding.specs.Books.{Book, is_synced, is_lone, in_ranges, owns}
+use Rattle.spec_binding.specs.Books.{Book, is_synced, is_lone, in_ranges, own_bounds, owns}
 
 -- the machine's slot for an entry, or for none
 abbrev pub machine_slot : Option Entry → machine.Slot
@@ -53,9 +53,9 @@ box_at b e h n = record {
   promised = promised_of e;
 }
 
--- the machine's ranges: gateway 0 is founded with range zero, and ports move
+-- the machine's ranges: a gateway founds the pair with its range, and ports move
 abbrev pub ranges_of : Book → Ranges
-ranges_of b = moving (in_ranges b) (in_bounds b.zero)
+ranges_of b = moving (in_ranges b) (λ i. in_bounds (own_bounds i b.zero b.one))
 
 -- `h` has all records pushed or promised in this session, the last of which are those that the book has still to feed
 abbrev pub Stands : Book → Link → List Record → Type 0
@@ -63,7 +63,13 @@ Stands b e h = Agrees h b.coming e
 
 -- the machine's letter for a datagram
 abbrev pub letter_of : Datagram → Letter
-letter_of d = record { boot = d.boot; to = d.receiver_boot; first = d.first - 1; records = machine_records d.records.items }
+letter_of d = record {
+  boot = d.boot;
+  to = d.receiver_boot;
+  first = d.first - 1;
+  records = machine_records d.records.items;
+  ends = is_ending d.status;
+}
 
 -- A record comes in its turn: the letter, of the known peer to this boot, has the record at this offset, and it is the
 -- first that isn't among the `n` taken.

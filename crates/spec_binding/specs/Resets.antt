@@ -1,7 +1,7 @@
--- What a greater boot of the peer, and the operator's word that the peer is off, make of a book.
+-- What a greater boot of the peer, a founding, and the operator's word that the peer is off make of a book.
 use Rattle.std.specs.Prelude.{ℕ, true, false, List, [], length, map, if◌then◌else◌}
 use Rattle.nat_types.specs.declared.gateways.GatewayId.{GatewayId}
-use Rattle.nat_types.specs.declared.notes.NoteKind.TheVariants.{Retaken}
+use Rattle.nat_types.specs.declared.notes.NoteKind.TheVariants.{Founded, Retaken}
 use Rattle.nat_types.specs.declared.notes.Note.{Note}
 use Rattle.nat_types.specs.declared.pairs.Pair.{Pair}
 use Rattle.nat_types.specs.declared.records.Record.{Record}
@@ -11,7 +11,7 @@ use Rattle.bindings.specs.Revivals.{revived_entries, comes_back}
 use Rattle.link.specs.Link.{Link, with_promised}
 use Rattle.resync.specs.Batch.{batch_of}
 use Rattle.spec_binding.specs.declared.setups.Stage.TheVariants.{Paired, Lone}
-use Rattle.spec_binding.specs.Books.{Book, emptied, is_synced}
+use Rattle.spec_binding.specs.Books.{Book, emptied, is_synced, own_bounds, ports_of}
 
 -- the pairs that become Live by a reset: those that waited for an answer, marked or not, and those made alone
 abbrev pub back_in : List Entry → List Pair
@@ -49,6 +49,27 @@ restart_notes b now = (if is_synced b.stage then retaken b.id now (back_in b.ent
 abbrev pub restart_link : Book → Link → Link
 restart_link b e = (if is_synced b.stage then with_promised e (length (restart_batch b)) else e)
 
--- the book after the operator said that the peer is off
+-- the ports that a gateway owns when it founds the pair
+abbrev pub own_ports : Book → List ℕ
+own_ports b = ports_of (own_bounds b.id b.zero b.one)
+
+-- the batch of a gateway that founds the pair: no pair, and the ports of its range
+abbrev pub founding_batch : Book → List Record
+founding_batch b = batch_of (own_ports b) []
+
+-- The book of a gateway that had no table and founds the pair, as a boot of the peer says that it has none either: it
+-- has no pair, owns its range, isn't lone, and its batch is promised.
+abbrev pub founded_again : Book → Book
+founded_again b = record (emptied b) { stage = Paired; owned = own_ports b; coming = founding_batch b }
+
+-- the note made when the gateway founds the pair
+abbrev pub founding_note : GatewayId → ℕ → Note
+founding_note i now = record { by = i; at = now; what = Founded; counts = true }
+
+-- the end of the link of a gateway that founds the pair: its batch is promised
+abbrev pub founding_link : Book → Link → Link
+founding_link b e = with_promised e (length (founding_batch b))
+
+-- the book after the operator said that the peer is off, or after the peer's end
 abbrev pub put_lone : Book → Book
 put_lone b = record (revived b) { stage = Lone }

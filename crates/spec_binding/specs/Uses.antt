@@ -7,7 +7,7 @@ use Rattle.nat_types.specs.declared.gateways.GatewayId.{GatewayId}
 use Rattle.nat_types.specs.declared.pairs.Key.{Key}
 use Rattle.nat_types.specs.declared.pairs.Pair.{Pair}
 use Rattle.nat_types.specs.declared.notes.NoteKind.{NoteKind}
-use Rattle.nat_types.specs.declared.notes.NoteKind.TheVariants.{Used, Released, Retaken, Alone, Synced, Crashed, Booted}
+use Rattle.nat_types.specs.declared.notes.NoteKind.TheVariants.{Used, Released, Retaken, Alone, Synced, Founded, Crashed, Booted}
 use Rattle.nat_types.specs.declared.notes.Note.{Note}
 use Rattle.nat_types.specs.Same.{same, same_pair}
 use Rattle.activity.specs.declared.packets.Packet.{Packet}
@@ -42,6 +42,7 @@ uses_after g pair by at counts (Released noted) uses = uses
 uses_after g pair by at counts (Retaken noted) uses = uses
 uses_after g pair by at counts (Alone noted) uses = uses
 uses_after g pair by at counts Synced uses = uses
+uses_after g pair by at counts Founded uses = uses
 uses_after g pair by at counts Crashed uses = uses
 uses_after g pair by at counts (Booted number) uses = cond (same g by) [] uses
 

@@ -1,6 +1,6 @@
 //! The laws of the record table, and of what resets a book. Each law is the contract of a function that does nothing.
 
-ghost use Rattle.std.specs.Prelude.{◌≡◌, ◌↔◌, ℕ, ◌+◌, ◌<◌, ◌≤◌, ◌∷◌, ◌++◌, ◌&&◌, [], suc, List, Bool, true, false};
+ghost use Rattle.std.specs.Prelude.{◌≡◌, ◌↔◌, ℕ, ◌+◌, ◌<◌, ◌≤◌, ◌∷◌, ◌++◌, [], suc, List, Bool, true, false};
 ghost use Rattle.std.specs.Prelude.{IfSome, None, Option, Some, length, reverse, slice_get};
 ghost use Rattle.std.specs.List.{AllByRecursion};
 ghost use Rattle.nat_types.specs.Granted.{IsPort};
@@ -19,10 +19,12 @@ ghost use Rattle.link.specs.declared.datagrams.Datagram.{Datagram};
 ghost use Rattle.link.specs.declared.datagrams.Taken.{Taken};
 ghost use Rattle.link.specs.Grammar.{IsWellFormedRecord};
 ghost use Rattle.link.specs.Letters.{IsLetter};
-ghost use Rattle.link.specs.Link.{Link, Agrees, IsTaken, fresh, handed_count, met};
-ghost use Rattle.link.specs.Link.{needs_answer, with_fed};
+ghost use Rattle.link.specs.Link.{Link, Agrees, IsTaken, fresh, handed_count, is_ending, met};
+ghost use Rattle.link.specs.Link.{needs_answer, occupied, with_fed};
 ghost use Rattle.resync.specs.Batch.{is_settled};
-ghost use Rattle.spec_pair.specs.Box.{In, Letter, booted, founder};
+ghost use Rattle.spec_pair.specs.Acts.{MaySend};
+ghost use Rattle.spec_pair.specs.Box.{In, IsLacking, Letter, booted, founder, last_letter};
+ghost use Rattle.spec_pair.specs.Ownership.{own_ports as ports_at_first};
 ghost use Rattle.spec_pair.specs.Step.{IsStep, WasSent};
 ghost use Rattle.spec_binding.specs.declared.changes.Change.{Change};
 ghost use Rattle.spec_binding.specs.declared.setups.Rules.{Rules};
@@ -31,7 +33,8 @@ ghost use Rattle.spec_binding.specs.Books.{is_lone, is_paired, is_promised, is_s
 ghost use Rattle.spec_binding.specs.WellFormed.{Fits, IsBeside, IsSameBatch, IsWellFormedEndpoint};
 ghost use Rattle.spec_binding.specs.Machine.{box_at, letter_of, promised_of, ranges_of};
 ghost use Rattle.spec_binding.specs.Machine.{IsTurn, Stands, Works};
-ghost use Rattle.spec_binding.specs.Resets.{back_in, put_lone, restart_batch, restart_link};
+ghost use Rattle.spec_binding.specs.Resets.{back_in, founded_again, founding_batch, founding_link};
+ghost use Rattle.spec_binding.specs.Resets.{founding_note, own_ports, put_lone, restart_batch, restart_link};
 ghost use Rattle.spec_binding.specs.Resets.{restart_notes, restarted, retaken};
 ghost use Rattle.spec_binding.specs.Serving.{Stays, serving};
 ghost use Rattle.spec_binding.specs.Rows.{after, ahead_row, alone_row, answered, carry_row, changed, idle_row, noted_by, noted_with};
@@ -44,7 +47,7 @@ ghost use Rattle.slots.specs.declared.hashers.Hashers.{Hashers};
 ghost use Rattle.bindings.specs.Lives.{idle_keys_in};
 ghost use Rattle.spec_trace.specs.Past.{Idle};
 ghost use Rattle.spec_binding.specs.Ledgers.{Ledger, bare_ledger, lone_ledger, carried_ledger, go_on_all};
-ghost use Rattle.spec_binding.specs.Ledgers.{ledger_after, sought_keys};
+ghost use Rattle.spec_binding.specs.Ledgers.{founded_ledger, ledger_after, sought_keys};
 ghost use Rattle.spec_binding.specs.Ledgers.{release_all, restarted_ledger, rests_for, taken_ledger};
 ghost use Rattle.spec_binding.specs.Uses.{Accounts, carried_notes, uses_of};
 
@@ -94,9 +97,11 @@ pub fn rows_leave()
     ensures idle { (b : Book) (ask : Bool) (k : Key) → IsBook b → is_lone b.stage ≡ false
         → IsSameBatch b (after b (idle_row b ask k)) }
     ensures carried { (b : Book) (k : Key) → IsSameBatch b (after b (carry_row b k)) }
-    // The most places of the link that a batch needs.
+    // The most places of the link that a batch needs, and that of a founding.
     ensures room { (b : Book)
         → length (restart_batch b) ≤ length b.owned + length b.entries + 2 }
+    ensures founding { (b : Book)
+        → length (founding_batch b) ≤ length (own_ports b) + 2 }
 {}
 
 /// A book stays a book after each change that fits, at a synced gateway, and so after each row and each reset.
@@ -116,28 +121,30 @@ pub fn books_keep()
     ensures agreed { (b : Book) → IsBook b → (key : Key) (x : Entry)
         → slot_of (restarted b).entries key ≡ Some x
         → (is_settled x.state ≡ true) × (is_pair x.state ≡ true) }
+    ensures founded_again { (b : Book) → IsBook b → IsBook (founded_again b) }
     ensures lone { (b : Book) → IsBook b → is_synced b.stage ≡ true
         → IsBook (put_lone b) }
     ensures fed { (b : Book) (records rest : List Record) → IsBook b
         → b.coming ≡ records ++ rest → IsBook (record b { coming = rest }) }
 {}
 
-/// The book of a gateway without a table and the founded one are books, and are the boxes with which the machine
-/// begins.
+/// The book of a gateway without a table and that of one that founds the pair as it boots are books, and are the boxes
+/// of such a gateway in the machine.
 pub fn books_begin()
     ensures empty { (id : GatewayId) (zero one : PortBounds) (rules : Rules)
         → AreBounds zero → AreBounds one → IsPort zero.highest.0 → IsPort one.highest.0
         → IsBook (empty_book id zero one rules) }
-    ensures founded { (zero one : PortBounds) (rules : Rules) → AreBounds zero
-        → AreBounds one → IsPort zero.highest.0 → IsPort one.highest.0
-        → IsBook (founded_book zero one rules) }
+    ensures founded { (id : GatewayId) (zero one : PortBounds) (rules : Rules)
+        → AreBounds zero → AreBounds one → IsPort zero.highest.0 → IsPort one.highest.0
+        → IsBook (founded_book id zero one rules) }
     ensures booted { (id : GatewayId) (zero one : PortBounds) (rules : Rules)
         (boot capacity : ℕ) (values : Values)
         → box_at (empty_book id zero one rules) (fresh id boot capacity values) [] 0 ≡ booted boot }
-    ensures founder { (zero one : PortBounds) (rules : Rules) (capacity : ℕ) (values : Values)
-        → AreBounds zero → let b = founded_book zero one rules in let r = ranges_of b in
-        box_at b (fresh Zero 1 capacity values) [] 0
-        ≡ founder (λ p. r.in_ranges p && r.at_start p) }
+    ensures founder { (id : GatewayId) (zero one : PortBounds) (rules : Rules)
+        (boot capacity : ℕ) (values : Values) → AreBounds zero → AreBounds one
+        → let b = founded_book id zero one rules in
+        box_at b (fresh id boot capacity values) [] 0
+        ≡ founder boot (ports_at_first (ranges_of b) id) }
 {}
 
 /// A record ends the wait of an endpoint (`ended` of its row) exactly where the endpoint's own proposal waited for the
@@ -274,12 +281,33 @@ pub fn restart_works()
         → Works now (l ∷ []) [] b e n (restarted b) (restart_link b e1) 0 (restart_notes b now) h }
 {}
 
+/// A founding is an act of the machine: gateway 0, unsynced, takes a letter of its known boot of the peer that says
+/// that the peer lacks a table. The session goes on, and nothing that was pushed in it waits.
+pub fn found_works()
+    ensures { (now : ℕ) (b : Book) (e : Link) (n : ℕ) (h : List Record) (l : Letter)
+        → IsBook b → b.id ≡ Zero → is_synced b.stage ≡ false → Stands b e h → occupied e ≡ 0
+        → IsLacking l → l.boot ≡ e.known → l.to ≡ e.boot
+        → Works now (l ∷ []) [] b e n (founded_again b) (founding_link b e) n
+        (founding_note b.id now ∷ []) h }
+{}
+
 /// The operator's word at a synced gateway is an act of the machine. `e` is the end before the word, `e1` the one whose
 /// session is closed.
 pub fn word_works()
     ensures { (now : ℕ) (b : Book) (e e1 : Link) (n number : ℕ) (h : List Record) → IsBook b
         → is_synced b.stage ≡ true → Agrees [] [] e1 → e.boot ≡ e1.boot → e1.known ≡ number
         → Works now [] (number ∷ []) b e n (put_lone b) e1 0
+        (retaken b.id now (back_in b.entries)) h }
+{}
+
+/// The end of the peer's known boot, of which its last letter says, is an act of the machine at a synced gateway. `e` is
+/// the end before it, `e1` the one whose session is closed.
+pub fn end_works()
+    ensures { (now : ℕ) (b : Book) (e e1 : Link) (n : ℕ) (h : List Record) (l : Letter)
+        → IsBook b → is_synced b.stage ≡ true → l.ends ≡ true → l.boot ≡ e.known
+        → l.to ≡ e.boot
+        → Agrees [] [] e1 → e.boot ≡ e1.boot → e1.known ≡ l.boot
+        → Works now (l ∷ []) [] b e n (put_lone b) e1 0
         (retaken b.id now (back_in b.entries)) h }
 {}
 
@@ -330,13 +358,15 @@ pub fn works_more()
 {}
 
 /// A part of a step, with the letter that is sent after it, is a step of the machine, where only records that were fed
-/// to the link are in the letter. `e3` is the end once the letter is sent.
+/// to the link are in the letter, and one without a record, and with none before it, goes only where none was pushed.
+/// `e3` is the end once the letter is sent. A datagram of an end (`last`) is a last letter that may be sent.
 pub fn works_sent()
     ensures sent { (now : ℕ) (letters : List Letter) (words : List ℕ) (b b2 : Book)
         (e e2 e3 : Link) (n n2 before count : ℕ) (ns : List Note) (h : List Record) (d : Datagram)
         → (w : Works now letters words b e n b2 e2 n2 ns h) → IsLetter w.history e2 before count d
-        → before + count ≤ handed_count e2 → e3.boot ≡ e2.boot → e3.known ≡ e2.known
-        → promised_of e3 ≡ promised_of e2
+        → before + count ≤ handed_count e2 → is_ending d.status ≡ false
+        → (d.first ≡ 1 → d.records.items ≡ [] → w.history ≡ []) → e3.boot ≡ e2.boot
+        → e3.known ≡ e2.known → promised_of e3 ≡ promised_of e2
         → IsStep (ranges_of b) b.id now (box_at b e h n) (box_at b2 e3 w.history n2) letters words
         [] (reverse ns) [] (letter_of d ∷ []) }
     ensures unsent { (now : ℕ) (letters : List Letter) (words : List ℕ) (b b2 : Book)
@@ -344,9 +374,14 @@ pub fn works_sent()
         → (w : Works now letters words b e n b2 e2 n2 ns h)
         → IsStep (ranges_of b) b.id now (box_at b e h n) (box_at b2 e2 w.history n2) letters words
         [] (reverse ns) [] [] }
+    ensures last { (b : Book) (e : Link) (n before count : ℕ) (h : List Record) (d : Datagram)
+        → IsLetter h e before count d → before + count ≤ handed_count e
+        → is_ending d.status ≡ true → (letter_of d ≡ last_letter (box_at b e h n) before count)
+        × MaySend (box_at b e h n) before count }
 {}
 
-/// Each record that a datagram brings comes in its turn, at any end with the same boots as the end after the datagram.
+/// Each record that a datagram brings comes in its turn, at any end with the same boots as the end after the datagram. A
+/// datagram that says that its sender lacks a table, or ends, is of the two boots that the end has after it.
 pub fn records_come()
     ensures turn { (bytes : List ℕ) (e e1 e2 : Link) (now : ℕ) (t : Taken) (d : Datagram)
         → IsTaken bytes e now t e1 d → e2.boot ≡ e1.boot → e2.known ≡ e1.known
@@ -362,6 +397,12 @@ pub fn records_come()
         → IsTaken bytes e now t e1 d → t.restarted ≡ true
         → Agrees [] [] e1 × (e.boot ≡ e1.boot) × (e.known < e1.known)
         × ((letter_of d).boot ≡ e1.known) }
+    ensures lacking { (bytes : List ℕ) (e e1 : Link) (now : ℕ) (t : Taken) (d : Datagram)
+        → IsTaken bytes e now t e1 d → t.lacking ≡ true
+        → let l = letter_of d in IsLacking l × (l.boot ≡ e1.known) × (l.to ≡ e1.boot) }
+    ensures over { (bytes : List ℕ) (e e1 : Link) (now : ℕ) (t : Taken) (d : Datagram)
+        → IsTaken bytes e now t e1 d → t.over ≡ true
+        → let l = letter_of d in (l.ends ≡ true) × (l.boot ≡ e1.known) × (l.to ≡ e1.boot) }
 {}
 
 /// A ledger that accounts for the trace (`Accounts`, the newest note first) does so after each call, with the notes of
@@ -374,10 +415,10 @@ pub fn accounts_kept()
         (hashers : Hashers) (h : List Note)
         → ((p : Pair) → uses_of id h p ≡ []) → Idle h
         → Accounts now (bare_ledger (empty_book id zero one rules) rules.inward_refresh hashers) h }
-    ensures founded { (now : ℕ) (zero one : PortBounds) (rules : Rules)
+    ensures founded { (now : ℕ) (id : GatewayId) (zero one : PortBounds) (rules : Rules)
         (hashers : Hashers) (h : List Note)
-        → ((p : Pair) → uses_of Zero h p ≡ []) → Idle h
-        → Accounts now (bare_ledger (founded_book zero one rules) rules.inward_refresh hashers) h }
+        → ((p : Pair) → uses_of id h p ≡ []) → Idle h
+        → Accounts now (bare_ledger (founded_book id zero one rules) rules.inward_refresh hashers) h }
     ensures later { (since now : ℕ) (l : Ledger) (h : List Note) → since ≤ now
         → Accounts since l h → Accounts now l h }
     // The notes `ns` are the other gateway's.
@@ -417,4 +458,12 @@ pub fn accounts_kept()
         → IsBook l.book → Accounts now l h → let keys = sought_keys apart l.book.entries in
         Accounts now (go_on_all apart now keys l e).ledger
         (reverse (go_on_all apart now keys l e).notes ++ h) }
+{}
+
+/// A ledger of an unsynced gateway that accounts for the trace does so once the gateway founds the pair, with the note
+/// of that put before the others. The note is no use of a pair.
+pub fn founding_accounts()
+    ensures { (now : ℕ) (l : Ledger) (h : List Note) → is_synced l.book.stage ≡ false
+        → Accounts now l h
+        → Accounts now (founded_ledger l) (founding_note l.book.id now ∷ h) }
 {}

@@ -9,8 +9,9 @@ mod setups;
 pub use changes::{Change, PortRequest, Transition, Want};
 pub use laws::{
     accounts_kept, ahead_rows, ahead_works, alone_rows, alone_waits_for_nobody, alone_works,
-    answers_fit, books_begin, books_keep, carry_works, feed_works, heard_works, idle_works,
-    not_moved, record_works, records_come, restart_works, rows_fit, rows_leave, waits_end,
-    wish_works, word_works, works_join, works_more, works_nothing, works_sent,
+    answers_fit, books_begin, books_keep, carry_works, end_works, feed_works, found_works,
+    founding_accounts, heard_works, idle_works, not_moved, record_works, records_come,
+    restart_works, rows_fit, rows_leave, waits_end, wish_works, word_works, works_join, works_more,
+    works_nothing, works_sent,
 };
 pub use setups::{Choice, Rules, Stage};

@@ -6,7 +6,7 @@ use Rattle.nat_types.specs.declared.gateways.Side.{Side}
 use Rattle.output.specs.Output.{Output, Sent}
 use Rattle.fragments.specs.Gathered.{Gathered, without_old}
 use Rattle.spec_step.specs.declared.events.Event.{Event}
-use Rattle.spec_step.specs.declared.events.Event.TheVariants.{Frame, Datagram, Tick, Stop, PeerOff, Side as SideIs}
+use Rattle.spec_step.specs.declared.events.Event.TheVariants.{Frame, Datagram, Tick, Stop, End, PeerOff, Side as SideIs}
 use Rattle.spec_step.specs.declared.events.Outcome.{Outcome}
 use Rattle.spec_step.specs.Shown.{Shown, id_of, scene}
 use Rattle.spec_step.specs.Steps.{IsStepOn, clock_after, outcome_on}
@@ -29,6 +29,7 @@ whole_event s (Frame side bytes) = frame_event side (arrival s side bytes.now).f
 whole_event s (Datagram bytes) = Some (Datagram bytes)
 whole_event s (Tick now) = Some (Tick now)
 whole_event s Stop = Some Stop
+whole_event s End = Some End
 whole_event s (PeerOff boot) = Some (PeerOff boot)
 whole_event s (SideIs side up) = Some (SideIs side up)
 
@@ -51,6 +52,7 @@ gathered_after s (Frame side bytes) = (arrival s side bytes.now).gathered
 gathered_after s (Datagram bytes) = s.gathered
 gathered_after s (Tick now) = without_old (clock_after s.shown.moment now) s.gathered
 gathered_after s Stop = s.gathered
+gathered_after s End = s.gathered
 gathered_after s (PeerOff boot) = s.gathered
 gathered_after s (SideIs side up) = s.gathered
 
@@ -72,5 +74,6 @@ outcome_of s (Frame side bytes) = (arrival s side bytes.now).outcome
 outcome_of s (Datagram bytes) = outcome_on s.shown (Datagram bytes)
 outcome_of s (Tick now) = outcome_on s.shown (Tick now)
 outcome_of s Stop = outcome_on s.shown Stop
+outcome_of s End = outcome_on s.shown End
 outcome_of s (PeerOff boot) = outcome_on s.shown (PeerOff boot)
 outcome_of s (SideIs side up) = outcome_on s.shown (SideIs side up)

@@ -162,7 +162,7 @@ module _ (r : Ranges) where
       (a.synced ≡ true) × (l.ends ≡ true) × (l.boot ≡ a.peer) × (l.to ≡ a.boot)
       × AreBack a.table back
   MayAct i a (Found l os part) =
-      (i ≡ Zero) × (a.up ≡ true) × (a.synced ≡ false) × IsLacking l × (a.peer ≤ l.boot)
+      (i ≡ Zero) × (a.up ≡ true) × (a.synced ≡ false) × IsLacking l × (l.boot ≡ a.peer)
       × (l.to ≡ a.boot) × AreRising r.in_ranges 0 os × LeaveRest r i (own_ports r i) os
   MayAct i a (LoadBegin l n) = (a.synced ≡ false) × StandsNext a l n Begin
   MayAct i a (LoadOwner l n first last) =
@@ -207,7 +207,7 @@ module _ (r : Ranges) where
   box_after i a (HearAnew l) = hears_anew a l.boot
   box_after i a (PeerOff number back) = put_off a number
   box_after i a (PeerEnds l back) = put_off a l.boot
-  box_after i a (Found l os part) = founds a l.boot (own_ports r i) os part
+  box_after i a (Found l os part) = founds a (own_ports r i) os part
   box_after i a (LoadBegin l n) = takes_begin (r.at_begin i) a
   box_after i a (LoadOwner l n first last) = takes_owner a first last
   box_after i a (LoadPut l n x) = takes_put a x.pair

@@ -274,12 +274,6 @@ booted n = bare true n
 abbrev pub founder : ℕ → (ℕ → Bool) → Box
 founder boot owned = record (bare true boot) { synced = true; lone = true; owned = owned }
 
--- The box after an unsynced gateway founds the pair by what the peer's boot of this number says: its table is empty, it
--- owns these ports, and it pushes its batch, which names these runs. It is as one that was synced and hears that boot.
-abbrev pub founds : Box → ℕ → (ℕ → Bool) → List Run → Bool → Box
-founds a boot owned os part =
-    hears (record (bare a.up a.boot) { synced = true; owned = owned }) boot os [] part
-
 -- the box of a gateway that never booted
 abbrev pub never : Box
 never = bare false 0
@@ -311,6 +305,22 @@ takes_ports a got =
 -- the box after it takes a Put or a Tell of a batch: the pair is Live on a port that it is to own, else Held
 abbrev pub takes_put : Box → Pair → Box
 takes_put a p = box_with a (with_pair (keyed a.owned) a.table p) a.sent (suc a.taken)
+
+-- The box after an unsynced gateway founds the pair by what its known boot of the peer says: its table is empty, it owns
+-- these ports, and it pushes its batch, which names these runs. Where `part` says so, the batch is promised, and all of
+-- it but Done may be sent at first.
+abbrev pub founds : Box → (ℕ → Bool) → List Run → Bool → Box
+founds a owned os part = record a {
+  synced = true;
+  lone = false;
+  table = empty;
+  sent = a.sent ++ batch os [];
+  loading = false;
+  owned = owned;
+  wants = false;
+  named = 0;
+  promised = cond part (Some (length a.sent + suc (length os))) None;
+}
 
 -- the letter with the session's records from number `first` on, at most `count` of them
 abbrev pub letter : Box → ℕ → ℕ → Letter

@@ -1,7 +1,6 @@
 -- A gateway as it begins.
 use Rattle.std.specs.Prelude.{ℕ, ◌+◌, ◌*◌, false, List, [], replicate}
 use Rattle.nat_types.specs.declared.gateways.GatewayId.{GatewayId}
-use Rattle.nat_types.specs.declared.gateways.GatewayId.TheVariants.{Zero}
 use Rattle.nat_types.specs.declared.gateways.Side.TheVariants.{Inside, Outside}
 use Rattle.nat_types.specs.Granted.{IsPort}
 use Rattle.settings.specs.declared.choice.Choice.{Choice as Chosen}
@@ -71,11 +70,12 @@ begun settings id boot =
       kept = [];
     }
 
--- Gateway 0 as it is founded in the life of this number: lone, with its range of ports, and with its routers started.
-unfoldable pub founded : Settings → ℕ → Shown
-founded settings boot =
-    let g = begun settings Zero boot in
-    let book = founded_book (bounds_of settings.ports.zero) (bounds_of settings.ports.one) (rules_of settings) in
+-- A gateway that founds the pair as it begins the life of this number: lone, with its range of ports, and with its
+-- routers started.
+unfoldable pub founded : Settings → GatewayId → ℕ → Shown
+founded settings id boot =
+    let g = begun settings id boot in
+    let book = founded_book id (bounds_of settings.ports.zero) (bounds_of settings.ports.one) (rules_of settings) in
     record g {
       ledger = record g.ledger { book = book };
       inside = started g.inside 0;

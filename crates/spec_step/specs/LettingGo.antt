@@ -3,7 +3,7 @@ use Rattle.std.specs.Prelude.{◌≡◌, ◌≤◌, ℕ, ◌+◌, ◌||◌, Bool
 use Rattle.std.specs.List.{Contains}
 use Rattle.nat_types.specs.declared.notes.Note.{Note}
 use Rattle.nat_types.specs.declared.notes.NoteKind.{NoteKind}
-use Rattle.nat_types.specs.declared.notes.NoteKind.TheVariants.{Used, Released, Retaken, Alone, Synced, Crashed, Booted}
+use Rattle.nat_types.specs.declared.notes.NoteKind.TheVariants.{Used, Released, Retaken, Alone, Synced, Founded, Crashed, Booted}
 use Rattle.nat_types.specs.declared.pairs.EntryState.TheVariants.{Closing}
 use Rattle.nat_types.specs.declared.pairs.Pair.{Pair}
 use Rattle.bindings.specs.declared.entries.Entry.{Entry}
@@ -64,5 +64,6 @@ ReleasesAlone l (Released p) = IsMadeAlone l p
 ReleasesAlone l (Retaken p) = Unit {0}
 ReleasesAlone l (Alone p) = Unit {0}
 ReleasesAlone l Synced = Unit {0}
+ReleasesAlone l Founded = Unit {0}
 ReleasesAlone l Crashed = Unit {0}
 ReleasesAlone l (Booted number) = Unit {0}

@@ -2,19 +2,24 @@
 use Rattle.std.specs.Prelude.{◌≡◌, ◌<◌, ◌≤◌, ℕ, true, List, [], ◌∷◌, ◌++◌, get_or, length, map, reverse, Result, Ok, Err, ◌⊎◌}
 use Rattle.std.specs.List.{AllByRecursion}
 use Rattle.nat_types.specs.declared.notes.Note.{Note}
+use Rattle.nat_types.specs.declared.notes.NoteKind.TheVariants.{Crashed}
 use Rattle.nat_types.specs.declared.records.Record.{Record}
 use Rattle.link.specs.declared.datagrams.Datagram.{Datagram as Letters}
 use Rattle.link.specs.declared.faults.LinkFault.{LinkFault}
 use Rattle.link.specs.Grammar.{spelling}
+use Rattle.link.specs.declared.datagrams.Status.TheVariants.{Ending}
 use Rattle.link.specs.Link.{datagram_of}
 use Rattle.link.specs.Reading.{reading}
-use Rattle.spec_pair.specs.Box.{Box, Letter}
+use Rattle.spec_pair.specs.Acts.{MaySend}
+use Rattle.spec_pair.specs.Box.{Box, Letter, last_letter}
 use Rattle.spec_pair.specs.Step.{IsStep}
+use Rattle.spec_pair.specs.Talk.{note}
 use Rattle.spec_binding.specs.Books.{IsBook, is_lone}
 use Rattle.spec_binding.specs.Machine.{IsSameHouse, Stands, box_at, letter_of, ranges_of}
 use Rattle.spec_step.specs.declared.events.Event.{Event}
-use Rattle.spec_step.specs.declared.events.Event.TheVariants.{Frame, Datagram, Tick, Stop, PeerOff, Side as SideIs}
-use Rattle.spec_step.specs.Shown.{GatewayAndOutput, Shown, id_of, serves}
+use Rattle.spec_step.specs.declared.events.Event.TheVariants.{Frame, Datagram, Tick, Stop, End, PeerOff, Side as SideIs}
+use Rattle.spec_step.specs.Parts.{status_in}
+use Rattle.spec_step.specs.Shown.{GatewayAndOutput, Shown, id_of}
 
 -- the box of a gateway, where `h` has what was pushed or promised in the session
 abbrev pub box_of : Shown → List Record → Box
@@ -50,6 +55,7 @@ HasBytes (Frame side bytes) = AreBytes bytes.now
 HasBytes (Datagram bytes) = AreBytes bytes.now
 HasBytes (Tick now) = Unit {0}
 HasBytes Stop = Unit {0}
+HasBytes End = Unit {0}
 HasBytes (PeerOff n) = Unit {0}
 HasBytes (SideIs side up) = Unit {0}
 
@@ -64,6 +70,7 @@ letters_in (Frame side bytes) = []
 letters_in (Datagram bytes) = letter_in (reading bytes.now)
 letters_in (Tick now) = []
 letters_in Stop = []
+letters_in End = []
 letters_in (PeerOff n) = []
 letters_in (SideIs side up) = []
 
@@ -73,6 +80,7 @@ words_in (Frame side bytes) = []
 words_in (Datagram bytes) = []
 words_in (Tick now) = []
 words_in Stop = []
+words_in End = []
 words_in (PeerOff n) = n ∷ []
 words_in (SideIs side up) = []
 
@@ -87,9 +95,38 @@ pub record Goes (letters : List Letter) (words : List ℕ) (old new : GatewayAnd
   pub datagrams_are : new.told.datagrams ≡ old.told.datagrams ++ map spelling sent
   -- at most one letter was sent, and it is of the link as it is in the later scene
   pub few : length sent ≤ 1
-  pub own : AllByRecursion (λ d. d ≡ datagram_of (serves new.shown) new.shown.link) sent
+  pub own : AllByRecursion (λ d. d ≡ datagram_of (status_in new.shown) new.shown.link) sent
   -- the gateway is the same, of the same founding
   pub house : IsSameHouse old.shown.ledger.book new.shown.ledger.book
   pub step : let g = old.shown in
       IsStep (ranges_of g.ledger.book) (id_of g) new.shown.moment (box_of g h) (box_of new.shown history)
       letters words [] (reverse notes) [] (reverse (map letter_of sent))
+
+-- the event isn't the gateway's end
+abbrev pub GoesFurther : Event → Type 0
+GoesFurther (Frame side bytes) = Unit {0}
+GoesFurther (Datagram bytes) = Unit {0}
+GoesFurther (Tick now) = Unit {0}
+GoesFurther Stop = Unit {0}
+GoesFurther End = ⊥
+GoesFurther (PeerOff n) = Unit {0}
+GoesFurther (SideIs side up) = Unit {0}
+
+-- The end of a gateway that had pushed `h`, from a scene to the last one: acts of the machine that note nothing lead to
+-- the last box. One datagram is sent, which is that box's last letter, with records of its session from number `first` on,
+-- at most `count`; and the one note is Crashed.
+pub record Ends (old new : GatewayAndOutput) (h : List Record) : Type 0 where
+  pub history : List Record
+  pub pushed : HasPushed new.shown history
+  pub notes_are : new.told.notes ≡ old.told.notes ++ note (id_of old.shown) new.shown.moment Crashed ∷ []
+  pub last : Letters
+  pub datagrams_are : new.told.datagrams ≡ old.told.datagrams ++ spelling last ∷ []
+  pub own : last ≡ datagram_of Ending new.shown.link
+  pub first : ℕ
+  pub count : ℕ
+  pub letter_is : letter_of last ≡ last_letter (box_of new.shown history) first count
+  pub may : MaySend (box_of new.shown history) first count
+  pub house : IsSameHouse old.shown.ledger.book new.shown.ledger.book
+  pub step : let g = old.shown in
+      IsStep (ranges_of g.ledger.book) (id_of g) new.shown.moment (box_of g h) (box_of new.shown history)
+      [] [] [] [] [] []

@@ -8,7 +8,7 @@ use Rattle.addresses.specs.declared.internet.Ip.{Ip}
 use Rattle.nat_types.specs.declared.gateways.Side.{Side}
 use Rattle.nat_types.specs.declared.gateways.Side.TheVariants.{Inside, Outside}
 use Rattle.nat_types.specs.declared.notes.NoteKind.{NoteKind}
-use Rattle.nat_types.specs.declared.notes.NoteKind.TheVariants.{Used, Released, Retaken, Alone, Synced, Crashed, Booted}
+use Rattle.nat_types.specs.declared.notes.NoteKind.TheVariants.{Used, Released, Retaken, Alone, Synced, Founded, Crashed, Booted}
 use Rattle.nat_types.specs.declared.notes.Note.{Note}
 use Rattle.nat_types.specs.declared.pairs.Endpoint.{Endpoint}
 use Rattle.nat_types.specs.declared.pairs.Pair.{Pair}
@@ -17,7 +17,7 @@ use Rattle.arp.specs.declared.packets.ArpPacket.{ArpPacket}
 use Rattle.arp.specs.Neighbours.{asks_at, mac_at}
 use Rattle.link.specs.declared.datagrams.Datagram.{Datagram as Letters}
 use Rattle.link.specs.declared.faults.LinkFault.{LinkFault}
-use Rattle.link.specs.Link.{after_take, is_restart, records_taken, refusal}
+use Rattle.link.specs.Link.{is_over, is_restart, records_taken, refusal}
 use Rattle.link.specs.Reading.{reading}
 use Rattle.spec_pair.specs.Box.{In}
 use Rattle.spec_binding.specs.Ledgers.{rests_for}
@@ -51,11 +51,12 @@ use Rattle.vrrp_states.specs.declared.Action.{Action}
 use Rattle.vrrp_states.specs.Table as table
 use Rattle.vrrp_states.specs.Table.{Event as RouterEvent}
 use Rattle.spec_step.specs.declared.events.Event.{Event}
-use Rattle.spec_step.specs.declared.events.Event.TheVariants.{Frame, Datagram, Tick, Stop, PeerOff, Side as SideIs}
+use Rattle.spec_step.specs.declared.events.Event.TheVariants.{Frame, Datagram, Tick, Stop, End, PeerOff, Side as SideIs}
 use Rattle.spec_step.specs.declared.turns.Turn.{Turn}
 use Rattle.spec_step.specs.declared.turns.Turn.TheVariants.{Leaves, Returns, Stays}
 use Rattle.spec_step.specs.GivingWay.{returned, turn_of}
-use Rattle.spec_step.specs.Parts.{arp_heard, frames_of, is_taught, record_done, request_by, reset, sender_in, waiting, with_link}
+use Rattle.spec_binding.specs.Books.{is_synced}
+use Rattle.spec_step.specs.Parts.{arp_heard, frames_of, is_taught, met_by, record_done, records_done, request_by, sender_in, waiting}
 use Rattle.spec_step.specs.Shown.{GatewayAndOutput, Shown, is_apart, station_on}
 use Rattle.spec_step.specs.Steps.{clock_after, word_refusal}
 use Rattle.spec_step.specs.Truly.{AreItsPairs, AtHand, Known, known_of, near_on, packets_of}
@@ -123,6 +124,7 @@ Owes g (Frame side bytes) own = FrameOwes g side (reading_on g side bytes.now) o
 Owes g (Datagram bytes) own = own ≡ []
 Owes g (Tick now) own = TickOwes (record g { moment = clock_after g.moment now }) own
 Owes g Stop own = AreOfBoth g table.Stop g.moment own
+Owes g End own = AreOfBoth g table.Stop g.moment own
 Owes g (PeerOff n) own = own ≡ []
 Owes g (SideIs side up) own = own ≡ []
 
@@ -148,13 +150,17 @@ free_by s [] w = false
 free_by s (r ∷ rs) w = let g = s.shown in
     frees_for (taken_ended g.ledger.book (rests_for g.moment g.ledger r) r) w || free_by (record_done s r) rs w
 
--- whether a datagram that is let through ends a packet's wait: a greater boot ends all waits for pairs, and then its
--- records end theirs
+-- whether a datagram is the last one of the peer, and the gateway is synced behind its records
+abbrev pub is_end_taken : GatewayAndOutput → Letters → Bool
+is_end_taken s d = let e = s.shown.link in
+    is_over e d && is_synced (records_done (met_by s d) (records_taken e d)).shown.ledger.book.stage
+
+-- whether a datagram that is let through ends a packet's wait: a greater boot ends all waits for pairs, then its records
+-- end theirs, and then the peer's end ends all
 abbrev pub frees_heard : GatewayAndOutput → Letters → Option LinkFault → HeldPacket → Bool
 frees_heard s d None w = let e = s.shown.link in
-    let after = with_link s (after_take e d s.shown.moment) in
-    if is_restart e d then ends AllPairs w.wait || free_by (reset after) (records_taken e d) w
-    else free_by after (records_taken e d) w
+    (is_restart e d && ends AllPairs w.wait)
+    || (free_by (met_by s d) (records_taken e d) w || (is_end_taken s d && ends AllPairs w.wait))
 frees_heard s d (Some fault) w = false
 
 -- whether a datagram ends a packet's wait, where it is read and let through
@@ -177,6 +183,7 @@ is_freed s (Frame side bytes) w = frees_as s.shown side (reading_on s.shown side
 is_freed s (Datagram bytes) w = frees_read s (reading bytes.now) w
 is_freed s (Tick now) w = frees_apart (record s.shown { moment = clock_after s.shown.moment now }) w
 is_freed s Stop w = false
+is_freed s End w = false
 is_freed s (PeerOff n) w = frees_unless (word_refusal s.shown n) w
 is_freed s (SideIs side up) w = false
 
@@ -186,6 +193,7 @@ is_old g (Frame side bytes) w = false
 is_old g (Datagram bytes) w = false
 is_old g (Tick now) w = not (is_young (clock_after g.moment now) w)
 is_old g Stop w = false
+is_old g End w = false
 is_old g (PeerOff n) w = false
 is_old g (SideIs side up) w = false
 
@@ -209,6 +217,7 @@ packet_in g (Frame side bytes) = packet_as side bytes.now (reading_on g side byt
 packet_in g (Datagram bytes) = []
 packet_in g (Tick now) = []
 packet_in g Stop = []
+packet_in g End = []
 packet_in g (PeerOff n) = []
 packet_in g (SideIs side up) = []
 
@@ -219,6 +228,7 @@ retaken_in (Released pair) = []
 retaken_in (Retaken pair) = pair ∷ []
 retaken_in (Alone pair) = pair ∷ []
 retaken_in Synced = []
+retaken_in Founded = []
 retaken_in Crashed = []
 retaken_in (Booted number) = []
 
@@ -312,6 +322,7 @@ heard_in g (Frame side bytes) = heard_as g side (reading_on g side bytes.now)
 heard_in g (Datagram bytes) = g
 heard_in g (Tick now) = g
 heard_in g Stop = g
+heard_in g End = g
 heard_in g (PeerOff n) = g
 heard_in g (SideIs side up) = g
 

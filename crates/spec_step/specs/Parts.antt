@@ -6,7 +6,10 @@ use Rattle.addresses.specs.declared.ethernet.Mac.{Mac}
 use Rattle.addresses.specs.declared.internet.Ip.{Ip}
 use Rattle.addresses.specs.declared.transport.Port.{Port}
 use Rattle.addresses.specs.declared.transport.TcpFlags.{TcpFlags}
+use Rattle.nat_types.specs.Same.{same}
+use Rattle.nat_types.specs.declared.gateways.GatewayId.TheVariants.{Zero}
 use Rattle.nat_types.specs.declared.gateways.Side.{Side}
+use Rattle.nat_types.specs.declared.notes.NoteKind.TheVariants.{Crashed}
 use Rattle.nat_types.specs.declared.pairs.Endpoint.{Endpoint}
 use Rattle.nat_types.specs.declared.pairs.Key.{Key}
 use Rattle.nat_types.specs.declared.records.Record.{Record}
@@ -27,14 +30,17 @@ use Rattle.bindings.specs.Lives.{idle_keys_in}
 use Rattle.link.specs.declared.datagrams.Datagram.{Datagram}
 use Rattle.link.specs.declared.faults.LinkFault.{LinkFault}
 use Rattle.link.specs.Grammar.{spelling}
-use Rattle.link.specs.Link.{Link, after_take, closed_at, datagram_of, is_due_on_tick, is_restart, records_taken, refusal, sent_on_answer, sent_on_tick, wanted, with_fed}
+use Rattle.link.specs.declared.datagrams.Status.{Status}
+use Rattle.link.specs.declared.datagrams.Status.TheVariants.{Ending}
+use Rattle.link.specs.Link.{Link, after_take, closed_at, datagram_of, is_due_on_tick, is_lacking, is_over, is_restart, left_by, records_taken, refusal, sent_on_answer, sent_on_tick, status_by, wanted, with_fed}
 use Rattle.link.specs.Reading.{reading}
 use Rattle.spec_binding.specs.declared.changes.Transition.{Transition}
 use Rattle.spec_binding.specs.Books.{is_lone, is_synced}
-use Rattle.spec_binding.specs.Ledgers.{lone_ledger, carried_ledger, ledger_after, may_ask, rests_for, restarted_ledger, sought_keys, taken_ledger}
-use Rattle.spec_binding.specs.Resets.{back_in, restart_link, restart_notes, retaken}
+use Rattle.spec_binding.specs.Ledgers.{lone_ledger, carried_ledger, founded_ledger, ledger_after, may_ask, rests_for, restarted_ledger, sought_keys, taken_ledger}
+use Rattle.spec_binding.specs.Resets.{back_in, founding_link, founding_note, restart_link, restart_notes, retaken}
 use Rattle.spec_binding.specs.Rows.{alone_row, answered, behind, idle_row, is_full, noted_by, taken_answer, taken_behind, taken_ended, taken_what, wish_of}
 use Rattle.spec_binding.specs.Uses.{carried_notes}
+use Rattle.spec_pair.specs.Talk.{note}
 use Rattle.waiting.specs.declared.waits.Ended.{Ended}
 use Rattle.waiting.specs.declared.waits.Ended.TheVariants.{One, AllPairs}
 use Rattle.waiting.specs.declared.waits.WaitsFor.{WaitsFor}
@@ -452,16 +458,48 @@ records_done s (r ∷ rs) = records_done (record_done s r) rs
 abbrev pub with_link : GatewayAndOutput → Link → GatewayAndOutput
 with_link s e = scene (record s.shown { link = e }) s.told
 
--- the scene after a datagram was heard: a greater boot's reset, then each record
+-- whether the gateway founds the pair at a datagram: it is gateway 0, has no table, and the datagram says that the peer,
+-- which knows this boot, has none either
+abbrev pub does_found : Shown → Datagram → Bool
+does_found g d = same (id_of g) Zero && (not (is_synced g.ledger.book.stage) && is_lacking g.link d)
+
+-- The scene after the gateway founded the pair: it has no pair and owns its range, its batch is promised, and its routers
+-- start, where it wasn't stopped and isn't away. No packet waits at a gateway that had no table.
+abbrev pub pair_founded : GatewayAndOutput → GatewayAndOutput
+pair_founded s = let g = s.shown in
+    scene (with_routers g (record g { ledger = founded_ledger g.ledger; link = founding_link g.ledger.book g.link }))
+    (with_notes s.told (founding_note (id_of g) g.moment ∷ []))
+
+-- the scene after a datagram was heard, before its records: a greater boot's reset, and then the founding
+abbrev pub met_by : GatewayAndOutput → Datagram → GatewayAndOutput
+met_by s d = let e = s.shown.link in
+    let after = with_link s (after_take e d s.shown.moment) in
+    let anew = if is_restart e d then reset after else after in
+    if does_found s.shown d then pair_founded anew else anew
+
+-- the scene after the operator's word was taken: the session ends, pairs are revived, and the gateway is lone
+abbrev pub word_taken : GatewayAndOutput → ℕ → GatewayAndOutput
+word_taken s n = let g = s.shown in let book = g.ledger.book in
+    released
+    (scene (record g { ledger = lone_ledger g.moment g.ledger; link = closed_at g.link n })
+    (with_notes s.told (retaken (id_of g) g.moment (back_in book.entries))))
+    AllPairs
+
+-- the scene behind a datagram's records: where it was the peer's last and the gateway is synced, that boot is over, as by
+-- the operator's word
+abbrev pub peer_ended : GatewayAndOutput → Bool → ℕ → GatewayAndOutput
+peer_ended s over boot = if over && is_synced s.shown.ledger.book.stage then word_taken s boot else s
+
+-- the scene after a datagram was heard: a greater boot's reset, the founding, each record, and the peer's end
 abbrev pub heard_by : GatewayAndOutput → Datagram → GatewayAndOutput
 heard_by s d = let e = s.shown.link in
-    let after = with_link s (after_take e d s.shown.moment) in
-    records_done (if is_restart e d then reset after else after) (records_taken e d)
+    peer_ended (records_done (met_by s d) (records_taken e d)) (is_over e d) d.boot
 
--- the scene after a datagram that is let through was heard; one that is not changes nothing
+-- the scene after a datagram that is let through was heard; one that is not changes at most which boot of this gateway
+-- the peer named last
 abbrev pub heard_unless : GatewayAndOutput → Datagram → Option LinkFault → GatewayAndOutput
 heard_unless s d None = heard_by s d
-heard_unless s d (Some fault) = s
+heard_unless s d (Some fault) = with_link s (left_by s.shown.link (Ok d))
 
 -- the scene after a datagram that was read; bytes that are no datagram change nothing
 abbrev pub datagram_read : GatewayAndOutput → Result Datagram LinkFault → GatewayAndOutput
@@ -471,14 +509,6 @@ datagram_read s (Err fault) = s
 -- the scene after these bytes came over the link
 abbrev pub datagram_taken : GatewayAndOutput → List ℕ → GatewayAndOutput
 datagram_taken s bytes = datagram_read s (reading bytes)
-
--- the scene after the operator's word was taken: the session ends, pairs are revived, and the gateway is lone
-abbrev pub word_taken : GatewayAndOutput → ℕ → GatewayAndOutput
-word_taken s n = let g = s.shown in let book = g.ledger.book in
-    released
-    (scene (record g { ledger = lone_ledger g.moment g.ledger; link = closed_at g.link n })
-    (with_notes s.told (retaken (id_of g) g.moment (back_in book.entries))))
-    AllPairs
 
 -- ---- a tick's own parts
 
@@ -534,9 +564,13 @@ handed_in g = let book = g.ledger.book in let n = wanted g.link in
       link = with_fed g.link (take n book.coming);
     }
 
+-- the status that the datagrams of a gateway have until it ends: whether it serves
+abbrev pub status_in : Shown → Status
+status_in g = status_by (serves g)
+
 -- the bytes of the datagram that is due
 abbrev pub datagram_in : Shown → List ℕ
-datagram_in g = spelling (datagram_of (serves g) g.link)
+datagram_in g = spelling (datagram_of (status_in g) g.link)
 
 -- the scene after the datagram that is due at the end of a step, if one is
 abbrev pub answer_sent : Shown → Output → GatewayAndOutput
@@ -557,3 +591,10 @@ tick_sent g told =
 -- the scene after the end of a tick: the batch is fed, and the datagram that is due is sent
 abbrev pub link_ticked : GatewayAndOutput → GatewayAndOutput
 link_ticked s = tick_sent (handed_in s.shown) s.told
+
+-- the scene after a gateway ended: the batch is fed, its last datagram is sent, which says that it ends, and the last
+-- note is Crashed
+abbrev pub link_ended : GatewayAndOutput → GatewayAndOutput
+link_ended s = let g = handed_in s.shown in
+    scene (record g { link = sent_on_answer g.link })
+    (with_notes (with_datagram s.told (spelling (datagram_of Ending g.link))) (note (id_of g) g.moment Crashed ∷ []))

@@ -1,13 +1,14 @@
 -- The own frames of a whole step: those of its takings, in their order.
-use Rattle.std.specs.Prelude.{◌≡◌, ℕ, true, Option, Some, None, Result, Ok, Err, List, [], ◌∷◌, ◌++◌, if◌then◌else◌}
+use Rattle.std.specs.Prelude.{◌≡◌, ℕ, Bool, true, ◌&&◌, Option, Some, None, Result, Ok, Err, List, [], ◌∷◌, ◌++◌, if◌then◌else◌}
 use Rattle.nat_types.specs.declared.gateways.Side.{Side}
 use Rattle.nat_types.specs.declared.pairs.Endpoint.{Endpoint}
 use Rattle.nat_types.specs.declared.records.Record.{Record}
 use Rattle.arp.specs.declared.packets.ArpPacket.{ArpPacket}
 use Rattle.link.specs.declared.datagrams.Datagram.{Datagram}
 use Rattle.link.specs.declared.faults.LinkFault.{LinkFault}
-use Rattle.link.specs.Link.{after_take, closed_at, is_restart, records_taken, refusal}
+use Rattle.link.specs.Link.{after_take, closed_at, is_over, is_restart, records_taken, refusal}
 use Rattle.link.specs.Reading.{reading}
+use Rattle.spec_binding.specs.Books.{is_synced}
 use Rattle.spec_binding.specs.Ledgers.{lone_ledger, restarted_ledger, rests_for, sought_keys}
 use Rattle.spec_binding.specs.Resets.{back_in, restart_link, restart_notes, retaken}
 use Rattle.spec_binding.specs.Rows.{taken_ended}
@@ -20,11 +21,11 @@ use Rattle.packet_rules.specs.declared.readings.Reading.TheVariants.{Arp, Advert
 use Rattle.packet_rules.specs.declared.reasons.Reason.{Reason}
 use Rattle.output.specs.Output.{Sent}
 use Rattle.spec_step.specs.declared.events.Event.{Event}
-use Rattle.spec_step.specs.declared.events.Event.TheVariants.{Frame, Datagram as Comes, Tick, Stop, PeerOff, Side as SideIs}
+use Rattle.spec_step.specs.declared.events.Event.TheVariants.{Frame, Datagram as Comes, Tick, Stop, End, PeerOff, Side as SideIs}
 use Rattle.spec_step.specs.OwnAnswers.{all_own_of, own_read}
 use Rattle.vrrp_states.specs.Table as table
 use Rattle.spec_step.specs.GivingWay.{GivingWay}
-use Rattle.spec_step.specs.Parts.{all_sought_done, arp_answered, idle_taken, is_taught, old_dropped, record_done, record_shown, record_told, reset, with_link}
+use Rattle.spec_step.specs.Parts.{all_sought_done, arp_answered, idle_taken, is_taught, met_by, old_dropped, record_done, record_shown, record_told, records_done, with_link}
 use Rattle.spec_step.specs.Routers.{BothAct}
 use Rattle.spec_step.specs.Shown.{GatewayAndOutput, id_of, is_apart, scene, with_notes}
 use Rattle.spec_step.specs.Steps.{ticked, word_refusal}
@@ -76,12 +77,26 @@ own_reset s = let g = s.shown in let book = g.ledger.book in
     (with_notes s.told (restart_notes book g.moment)))
     AllPairs
 
--- the own frames at a datagram that is let through, or none
+-- the own frames where the gateway becomes lone: of all packets that waited for pairs
+abbrev pub own_lone : GatewayAndOutput → ℕ → List Sent
+own_lone s n = let g = s.shown in let book = g.ledger.book in
+    own_released
+    (scene (record g { ledger = lone_ledger g.moment g.ledger; link = closed_at g.link n })
+    (with_notes s.told (retaken (id_of g) g.moment (back_in book.entries))))
+    AllPairs
+
+-- the own frames behind the records of the peer's last datagram, where the gateway is synced
+abbrev pub own_over : GatewayAndOutput → Bool → ℕ → List Sent
+own_over s over boot = if over && is_synced s.shown.ledger.book.stage then own_lone s boot else []
+
+-- the own frames at a datagram that is let through, or none: of a greater boot, of the records, and of the peer's end
 abbrev pub own_heard : GatewayAndOutput → Datagram → Option LinkFault → List Sent
 own_heard s d None = let e = s.shown.link in
     let after = with_link s (after_take e d s.shown.moment) in
-    if is_restart e d then own_reset after ++ own_records (reset after) (records_taken e d)
-    else own_records after (records_taken e d)
+    let met = met_by s d in
+    let records = records_taken e d in
+    (if is_restart e d then own_reset after else [])
+    ++ (own_records met records ++ own_over (records_done met records) (is_over e d) d.boot)
 own_heard s d (Some fault) = []
 
 -- the own frames at a datagram, where it is read
@@ -91,11 +106,7 @@ own_datagram s (Err fault) = []
 
 -- the own frames at the operator's word, where it is taken: of all packets that waited for pairs
 abbrev pub own_word : GatewayAndOutput → ℕ → Option Reason → List Sent
-own_word s n None = let g = s.shown in let book = g.ledger.book in
-    own_released
-    (scene (record g { ledger = lone_ledger g.moment g.ledger; link = closed_at g.link n })
-    (with_notes s.told (retaken (id_of g) g.moment (back_in book.entries))))
-    AllPairs
+own_word s n None = own_lone s n
 own_word s n (Some reason) = []
 
 -- the own frames of a tick whose idle pairs were let go: where the gateway is apart, of all packets that waited for pairs
@@ -109,11 +120,12 @@ own_alone s =
 abbrev pub AreOwnAtTick : GatewayAndOutput → ℕ → List Sent → Type 0
 AreOwnAtTick s now own = (turned middle : GatewayAndOutput) × GivingWay (ticked s now) turned × BothAct turned table.Tick middle × (own ≡ own_alone (idle_taken (old_dropped middle)))
 
--- the own frames at an event; a stop and the state of a side's cable have none
+-- the own frames at an event; a stop, an end and the state of a side's cable have none
 abbrev pub AreOwnIn : GatewayAndOutput → Event → List Sent → Type 0
 AreOwnIn s (Frame side bytes) own = own ≡ own_framed s side bytes.now (reading_on s.shown side bytes.now)
 AreOwnIn s (Comes bytes) own = own ≡ own_datagram s (reading bytes.now)
 AreOwnIn s (Tick now) own = AreOwnAtTick s now own
 AreOwnIn s Stop own = own ≡ []
+AreOwnIn s End own = own ≡ []
 AreOwnIn s (PeerOff n) own = own ≡ own_word s n (word_refusal s.shown n)
 AreOwnIn s (SideIs side up) own = own ≡ []

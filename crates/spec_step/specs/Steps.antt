@@ -12,11 +12,11 @@ use Rattle.packet_rules.specs.declared.reasons.Reason.{Reason}
 use Rattle.packet_rules.specs.declared.reasons.Reason.TheVariants.{NotUp, BadDatagram, OldWord}
 use Rattle.vrrp_states.specs.Table as table
 use Rattle.spec_step.specs.declared.events.Event.{Event}
-use Rattle.spec_step.specs.declared.events.Event.TheVariants.{Frame, Datagram as Comes, Tick, Stop, PeerOff, Side as SideIs}
+use Rattle.spec_step.specs.declared.events.Event.TheVariants.{Frame, Datagram as Comes, Tick, Stop, End, PeerOff, Side as SideIs}
 use Rattle.spec_step.specs.declared.events.Outcome.{Outcome}
 use Rattle.spec_step.specs.declared.events.Outcome.TheVariants.{Done, Dropped}
 use Rattle.spec_step.specs.GivingWay.{GivingWay}
-use Rattle.spec_step.specs.Parts.{alone_taken, arp_taken, datagram_taken, echo_taken, error_taken, flow_taken, idle_taken, link_answered, link_ticked, old_dropped, refused, side_plugged, word_taken}
+use Rattle.spec_step.specs.Parts.{alone_taken, arp_taken, datagram_taken, echo_taken, error_taken, flow_taken, idle_taken, link_answered, link_ended, link_ticked, old_dropped, refused, side_plugged, word_taken}
 use Rattle.spec_step.specs.Routers.{BothAct, RouterActs}
 use Rattle.spec_step.specs.Shown.{GatewayAndOutput, Shown, scene}
 use Rattle.spec_step.specs.Verdict.{reading_on, verdict}
@@ -65,16 +65,18 @@ Does s (Frame side bytes) s2 = FrameDoes s side bytes.now (reading_on s.shown si
 Does s (Comes bytes) s2 = s2 ≡ datagram_taken s bytes.now
 Does s (Tick now) s2 = (turned middle : GatewayAndOutput) × GivingWay (ticked s now) turned × BothAct turned table.Tick middle × (s2 ≡ alone_taken (idle_taken (old_dropped middle)))
 Does s Stop s2 = (middle : GatewayAndOutput) × BothAct s table.Stop middle × (s2 ≡ stopped middle)
+Does s End s2 = (middle : GatewayAndOutput) × BothAct s table.Stop middle × (s2 ≡ stopped middle)
 Does s (PeerOff n) s2 = s2 ≡ word_by s n (word_refusal s.shown n)
 Does s (SideIs side up) s2 = s2 ≡ side_plugged s side up
 
--- the scene after the datagram that is due at the step's end; the state of a side's cable sends
--- none
+-- the scene after the datagram that is due at the step's end: the last one at the gateway's end, and none at the state
+-- of a side's cable
 abbrev pub ended_on : Event → GatewayAndOutput → GatewayAndOutput
 ended_on (Frame side bytes) s = link_answered s
 ended_on (Comes bytes) s = link_answered s
 ended_on (Tick now) s = link_ticked s
 ended_on Stop s = link_answered s
+ended_on End s = link_ended s
 ended_on (PeerOff n) s = link_answered s
 ended_on (SideIs side up) s = s
 
@@ -102,5 +104,6 @@ outcome_on g (Frame side bytes) = verdict g side bytes.now
 outcome_on g (Comes bytes) = outcome_heard (taking g.link (reading bytes.now))
 outcome_on g (Tick now) = Done
 outcome_on g Stop = Done
+outcome_on g End = Done
 outcome_on g (PeerOff n) = outcome_word (word_refusal g n)
 outcome_on g (SideIs side up) = Done

@@ -10,7 +10,7 @@ use Rattle.packet_rules.specs.declared.reasons.Reason.{Reason}
 use Rattle.vrrp_states.specs.declared.State.TheVariants.{Backup}
 use Rattle.vrrp_states.specs.Table.{Router}
 use Rattle.spec_step.specs.declared.events.Event.{Event}
-use Rattle.spec_step.specs.declared.events.Event.TheVariants.{Frame, Datagram, Tick, Stop, PeerOff, Side as SideIs}
+use Rattle.spec_step.specs.declared.events.Event.TheVariants.{Frame, Datagram, Tick, Stop, End, PeerOff, Side as SideIs}
 use Rattle.spec_step.specs.Shown.{Shown, is_running, scene, station_on}
 use Rattle.spec_step.specs.Steps.{IsStepOn}
 use Rattle.spec_step.specs.Verdict.{reading_on}
@@ -39,6 +39,7 @@ hears_on side g (Frame at bytes) = same_side at side && is_advert (reading_on g 
 hears_on side g (Datagram bytes) = false
 hears_on side g (Tick now) = false
 hears_on side g Stop = false
+hears_on side g End = false
 hears_on side g (PeerOff n) = false
 hears_on side g (SideIs at up) = false
 
@@ -70,6 +71,7 @@ HearsAdvert side g (Frame at bytes) priority interval =
 HearsAdvert side g (Datagram bytes) priority interval = ⊥
 HearsAdvert side g (Tick now) priority interval = ⊥
 HearsAdvert side g Stop priority interval = ⊥
+HearsAdvert side g End priority interval = ⊥
 HearsAdvert side g (PeerOff n) priority interval = ⊥
 HearsAdvert side g (SideIs at up) priority interval = ⊥
 

@@ -8,7 +8,7 @@ use Rattle.addresses.specs.declared.ethernet.Mac.{Mac}
 use Rattle.nat_types.specs.declared.gateways.Side.{Side}
 use Rattle.nat_types.specs.declared.gateways.Side.TheVariants.{Inside, Outside}
 use Rattle.nat_types.specs.declared.notes.NoteKind.{NoteKind}
-use Rattle.nat_types.specs.declared.notes.NoteKind.TheVariants.{Used, Released, Retaken, Alone, Synced, Crashed, Booted}
+use Rattle.nat_types.specs.declared.notes.NoteKind.TheVariants.{Used, Released, Retaken, Alone, Synced, Founded, Crashed, Booted}
 use Rattle.nat_types.specs.declared.notes.Note.{Note}
 use Rattle.nat_types.specs.declared.pairs.Pair.{Pair}
 use Rattle.arp.specs.declared.caches.CacheEntry.{CacheEntry}
@@ -26,7 +26,7 @@ use Rattle.packet_rules.specs.Own.{is_own_frame}
 use Rattle.interfaces.specs.Stations.{IsWired as IsWiredStation}
 use Rattle.output.specs.Output.{Sent}
 use Rattle.spec_step.specs.declared.events.Event.{Event}
-use Rattle.spec_step.specs.declared.events.Event.TheVariants.{Frame, Datagram, Tick, Stop, PeerOff, Side as SideIs}
+use Rattle.spec_step.specs.declared.events.Event.TheVariants.{Frame, Datagram, Tick, Stop, End, PeerOff, Side as SideIs}
 use Rattle.spec_step.specs.Apart.{GoesByServing}
 use Rattle.spec_step.specs.Shown.{GatewayAndOutput, Shown}
 use Rattle.spec_step.specs.Verdict.{exit_by}
@@ -38,6 +38,7 @@ used_in (Released pair) = []
 used_in (Retaken pair) = []
 used_in (Alone pair) = []
 used_in Synced = []
+used_in Founded = []
 used_in Crashed = []
 used_in (Booted number) = []
 
@@ -56,6 +57,7 @@ hand_of (Frame side bytes) = record { side = side; bytes = bytes.now } ∷ []
 hand_of (Datagram bytes) = []
 hand_of (Tick now) = []
 hand_of Stop = []
+hand_of End = []
 hand_of (PeerOff n) = []
 hand_of (SideIs side up) = []
 

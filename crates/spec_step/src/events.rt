@@ -15,6 +15,8 @@ pub enum Event<'a> {
     Tick(u64),
     /// Both routers are stopped for good.
     Stop,
+    /// The gateway ends: both routers are stopped, and its last datagram says that it ends.
+    End,
     /// The operator's word that the other gateway's boot of this number is off.
     PeerOff(u64),
     /// A side's cable is in (`true`) or out.
@@ -28,7 +30,7 @@ pub enum Outcome {
     Sent,
     /// A packet waits.
     Waiting,
-    /// A tick, a stop, a datagram, an ARP packet, an advertisement, the operator's word or the
+    /// A tick, a stop, an end, a datagram, an ARP packet, an advertisement, the operator's word or the
     /// state of a side's cable was taken.
     Done,
     /// A packet was dropped, or a frame, a datagram or the operator's word wasn't taken, for this

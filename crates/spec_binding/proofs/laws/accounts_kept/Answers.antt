@@ -9,7 +9,7 @@ pub returns-clause-begun : goal.returns-clause-begun
 returns-clause-begun c = λ now id zero one rules hashers h none idle. begun-accounts now (empty_book id zero one rules) rules.inward_refresh hashers h refl none idle
 
 pub returns-clause-founded : goal.returns-clause-founded
-returns-clause-founded c = λ now zero one rules hashers h none idle. begun-accounts now (founded_book zero one rules) rules.inward_refresh hashers h refl none idle
+returns-clause-founded c = λ now id zero one rules hashers h none idle. begun-accounts now (founded_book id zero one rules) rules.inward_refresh hashers h refl none idle
 
 pub returns-clause-later : goal.returns-clause-later
 returns-clause-later c = later-accounts

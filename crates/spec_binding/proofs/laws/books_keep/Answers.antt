@@ -1,4 +1,5 @@
 use Rattle.spec_binding.proofs.Keeping.{change-keeps, taken-keeps, wish-keeps, idle-keeps, carry-keeps, restart-keeps, lone-keeps, fed-keeps, restart-agrees}
+use Rattle.spec_binding.proofs.Founding.{founding-keeps}
 use Rattle.spec_binding.proofs.laws.books_keep.Goals as goal
 
 pub returns-clause-change : goal.returns-clause-change
@@ -27,3 +28,6 @@ returns-clause-fed c = fed-keeps
 
 pub returns-clause-agreed : goal.returns-clause-agreed
 returns-clause-agreed c = restart-agrees
+
+pub returns-clause-founded_again : goal.returns-clause-founded_again
+returns-clause-founded_again c = founding-keeps

@@ -1,3 +1,4 @@
+use Rattle.spec_binding.proofs.Founding.{founding-room}
 use Rattle.spec_binding.proofs.Leaving.{batch-room, carry-stays, change-leaves, idle-stays, taken-coming, taken-mute, taken-promised, taken-together, wish-stays}
 use Rattle.spec_binding.proofs.laws.rows_leave.Goals as goal
 
@@ -27,3 +28,6 @@ returns-clause-carried c = carry-stays
 
 pub returns-clause-room : goal.returns-clause-room
 returns-clause-room c = batch-room
+
+pub returns-clause-founding : goal.returns-clause-founding
+returns-clause-founding c = founding-room

@@ -1,34 +1,42 @@
-use Rattle.std.proofs.Common.{◌≡◌, refl, subst, sym, ap, ◌∙◌, arith}
-use Rattle.nat_types.specs.declared.gateways.GatewayId.TheVariants.{Zero}
-use Rattle.bindings.specs.Table.{Table}
-use Rattle.spec_binding.specs.Books.{Book, IsBook, empty_book}
-use Rattle.bind_core.specs.Cores.{Core, book_of, rules_of}
-use Rattle.bind_core.specs.View.{core_of}
-use Rattle.bind_core.proofs.Performing.{founded-is, still-between}
+use Rattle.std.proofs.Common.{◌≡◌, ◌≤◌, List, [], ◌∷◌, length, refl, subst, sym, ap, ◌∙◌}
+use Rattle.nat_types.specs.declared.records.Record.{Record}
+use Rattle.link.specs.Link.{free_places}
+use Rattle.spec_binding.specs.Books.{Book, IsBook}
+use Rattle.spec_binding.specs.Resets.{founded_again, founding_link}
+use Rattle.bind_core.specs.Cores.{book_of}
+use Rattle.bind_core.proofs.Founding.{anew-batch, anew-book, anew-ledger, anew-link, anew-settled}
+use Rattle.bind_core.proofs.Performing.{restarted-bare, works-as}
 use Rattle.bind_core.proofs.cores.Core.found.Goals as goal
 
-pub own_range-requires-clause-none : goal.own_range-requires-clause-none
-own_range-requires-clause-none c = ap (λ (k : Core). k.table.owned) c.self.view_is ∙ ap (λ (b : Book). b.owned) c.requires.empty
+pub forget-requires-clause-kept : goal.forget-requires-clause-kept
+forget-requires-clause-kept c = subst IsBook (restarted-bare (book_of c.args.self.now) c.requires.unsynced) (c.books_keep.ensures.restarted (book_of c.args.self.now) c.recall.ensures.book)
 
-pub invariant_of-self : goal.invariant_of-self
-invariant_of-self c =
-    let k = core_of c.self.inside in
-    let empty : book_of k ≡ empty_book Zero c.args.bounds.zero c.args.bounds.one (rules_of k) =
-    subst (λ (x : Core). book_of x ≡ empty_book Zero c.args.bounds.zero c.args.bounds.one (rules_of x)) (sym c.self.view_is) c.requires.empty in
-    let same = c.own_range.ensures in
-    let zero = ap (λ (t : Table). t.zero) same in
-    let one = ap (λ (t : Table). t.one) same in
-    let places = ap (λ (t : Table). t.capacity) same in
-    let room = c.self.invariant.room in
-    let low0 = c.requires.zero.low in
-    let low1 = c.requires.one.low in
-    let order0 = c.requires.zero.order in
-    let order1 = c.requires.one.order in
-    record {
-      book = subst IsBook (sym (founded-is k c.self.inside.cursor c.own_range.new.table c.args.bounds.zero c.args.bounds.one refl empty same))
-          (c.books_begin.ensures.founded c.args.bounds.zero c.args.bounds.one (rules_of k) c.requires.zero c.requires.one (omega (arith, low0, order0), c.recall_port.ensures) (omega (arith, low1, order1), c.recall_port-2.ensures));
-      bounds = still-between c.self.inside.table c.own_range.new.table c.self.inside.bounds zero one c.self.invariant.bounds;
-      zero = c.self.invariant.zero ∙ sym zero;
-      one = c.self.invariant.one ∙ sym one;
-      room = omega (arith, room, places);
-    }
+pub own_first-requires-clause-none : goal.own_first-requires-clause-none
+own_first-requires-clause-none c = ap (λ (b : Book). b.owned) c.forget.ensures.book
+
+pub own_first-requires-clause-kept : goal.own_first-requires-clause-kept
+own_first-requires-clause-kept c =
+    subst IsBook (sym (anew-book c.args.self.now c.forget.new.self c.new.result c.new.ensures.start c.forget.ensures.book)) (c.books_keep.ensures.founded_again (book_of c.args.self.now) c.recall.ensures.book)
+
+-- the book is that of a gateway that founded the pair
+founded : (c : goal.After-own_first) → book_of c.own_first.new.self ≡ founded_again (book_of c.args.self.now)
+founded c = c.own_first.ensures.book ∙ anew-book c.args.self.now c.forget.new.self c.new.result c.new.ensures.start c.forget.ensures.book
+
+pub promise-requires-clause-settled : goal.promise-requires-clause-settled
+promise-requires-clause-settled c = anew-settled c.args.self.now c.own_first.new.self (founded c)
+
+pub promise-requires-clause-room : goal.promise-requires-clause-room
+promise-requires-clause-room c = subst (λ (rs : List Record). length rs ≤ free_places c.args.link.now) (sym (anew-batch c.args.self.now c.own_first.new.self (founded c))) c.requires.room
+
+pub returns-clause-ledger : goal.returns-clause-ledger
+returns-clause-ledger c = anew-ledger c.args.self.now c.own_first.new.self (founded c) (c.own_first.ensures.lives ∙ c.forget.ensures.lives) (c.own_first.ensures.refresh ∙ c.forget.ensures.refresh) (c.own_first.ensures.hashers ∙ c.forget.ensures.hashers)
+
+pub returns-clause-link : goal.returns-clause-link
+returns-clause-link c = anew-link c.args.self.now c.own_first.new.self c.args.link.now c.promise.new.link (founded c) c.promise.ensures
+
+pub returns-clause-works : goal.returns-clause-works
+returns-clause-works c = λ h n l stands lacking from to.
+    let b = book_of c.args.self.now in
+    works-as c.args.now (l ∷ []) [] b c.args.link.now n (founded_again b) (book_of c.own_first.new.self) (founding_link b c.args.link.now) c.promise.new.link n _ h (founded c)
+    (anew-link c.args.self.now c.own_first.new.self c.args.link.now c.promise.new.link (founded c) c.promise.ensures)
+    (c.found_works.ensures c.args.now b c.args.link.now n h l c.recall.ensures.book c.requires.zero c.requires.unsynced stands c.requires.begins lacking from to)
