@@ -12,7 +12,7 @@ import sys
 import time
 
 FIRST = {"synced": 1, "inside": 1, "outside": 1, "inside_up": 1, "outside_up": 1, "boot": 4, "heard": True,
-         "answers": True, "seen": [], "told": False, "other": 0}
+         "answers": True, "seen": [], "told": False, "other": 0, "named": 7}
 STATUS = """# HELP natpair_info The box, and a digest of its settings.
 # TYPE natpair_info gauge
 natpair_info{{box="0",digest="00000000deadbeef"}} 1
@@ -25,6 +25,8 @@ natpair_side_up{{side="inside"}} {inside_up}
 natpair_side_up{{side="outside"}} {outside_up}
 natpair_peer_boot {boot}
 natpair_peer_heard {fresh}
+natpair_boot 7
+natpair_named_boot {named}
 """
 
 
@@ -39,8 +41,15 @@ def state(case, moment):
     return found, None if found["heard"] else silent
 
 
-def status(case, moment):
+def has_founded(case, calls):
+    """Whether the box took a word without a boot: it was without a table, and founds the pair then."""
+    return not case.get("word", 0) and any(call.startswith("word") and "--boot" not in call for call in calls)
+
+
+def status(case, moment, calls):
     found, silent = state(case, moment)
+    if has_founded(case, calls):
+        found.update(synced=1, boot=0)
     if not found["answers"]:
         print("natpair: socket 1 NoSocket", file=sys.stderr)
         return 1
@@ -55,16 +64,18 @@ def main():
     folder = pathlib.Path(sys.argv[1])
     case = json.loads((folder / "case.json").read_text())
     moment = time.monotonic() - case["begun"]
+    before = (folder / "calls").read_text(encoding="utf-8").splitlines()
     with open(folder / "calls", "a", encoding="utf-8") as calls:
         if sys.argv[2] == "fence":
             lines = sys.stdin.read().split()
             print("fence", f"{moment:.2f}", *lines, file=calls, flush=True)
-            ends = case.get("off", 0) if lines[0] == "action=off" else case.get("status", 2)
+            is_on = "before" in case and not any("action=off" in call for call in before)
+            ends = case.get("off", 0) if lines[0] == "action=off" else case["before"] if is_on else case.get("status", 2)
             if ends == 99:
                 time.sleep(600)
             return ends
         if sys.argv[3] == "status":
-            return status(case, moment)
+            return status(case, moment, before)
         print("word", f"{moment:.2f}", *sys.argv[3:], file=calls)
     if case.get("word", 0):
         print("natpair: peer-off 5 PeerHeard", file=sys.stderr)
