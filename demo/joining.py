@@ -9,10 +9,9 @@ what it writes stays its own. Each command of the page is run there, and has to 
 something else: `./build` (the program is there), `scp` (the package is copied), `apt-get` (the package is installed by
 dpkg, what it depends on has to be there), `sudo`, `systemctl` and `journalctl` (demo/machine: a machine has no systemd).
 Beside them hosts, a router and a server are made, as for demo/run; flows from a host stay open through all that the
-page does to the boxes, and what the page says of the journals is looked for. Then box 1 is stopped while the fence's unit
+page does to the boxes, and what the page says of the journals is looked for. Then box 1 is killed while the fence's unit
 runs at box 0, with a command that only says that it has switched a machine off: new flows have to go on. With --root
-box 1 hangs besides, and its systemd has to start it again; and the pair is founded once more while it runs, which has to
-fail and to change nothing. At last the package is removed and purged on both machines, and both boot files have to be
+box 1 hangs besides, and its systemd has to start it again. At last the package is removed and purged on both machines, and both boot files have to be
 there still.
 
     --program FILE  the program, if it isn't crates/natpair/out/natpair
@@ -61,13 +60,12 @@ FLOWS = 20
 PATIENCE = 30
 # What the page says of a journal, by the section in which it says so: the machine, its unit, and what is in a line there.
 SAID = {
-    "6. Founding": [("box 0", "natpair-found@0", ["boot 1", "inside.* Active", "outside.* Active"])],
-    "7. The second box": [("box 1", "natpair@1", ["boot 1", "synced"])],
-    "8. Box 0 under its own unit": [
-        ("box 0", "natpair@0", ["boot 2", "synced", "inside.* Active", "outside.* Active"]),
+    "6. The first start": [
+        ("box 0", "natpair@0", ["boot 1", "no box had a table: founded again", "inside.* Active", "outside.* Active"]),
+        ("box 1", "natpair@1", ["boot 1", "synced"]),
     ],
-    "10. Watching a fail-over": [
-        ("box 0", "natpair@0", ["boot 3", "keeper inside cable out", " away", "keeper inside cable in", " back"]),
+    "8. Watching a fail-over": [
+        ("box 0", "natpair@0", ["boot 2", "synced", "keeper inside cable out", " away", "keeper inside cable in", " back"]),
         ("box 1", "natpair@1", ["inside.* Active", "outside.* Active", "inside.* Backup", "outside.* Backup"]),
     ],
 }
@@ -77,7 +75,7 @@ SAID |= dict.fromkeys(("Changing settings", RELEASE), [
     ("box 1", "natpair@1", [r"\bend$", "boot {}", "synced"]),
 ])
 # How often each box has begun before the page restarts it for the first time.
-BEGUN = {"box 0": 3, "box 1": 1}
+BEGUN = {"box 0": 2, "box 1": 1}
 
 
 # A fence command for a machine that is off already. Of what it is handed it keeps a copy where the unit lets it write.
@@ -393,7 +391,6 @@ class Site:
         self.fence()
         if self.options.root:
             self.hang()
-            self.found_again()
         self.remove()
         return "every command of the page ended well, no flow was lost, and the boot files are there"
 
@@ -431,37 +428,19 @@ class Site:
     def expect(self, section):
         """What has to hold at the end of a section."""
         self.expect_said(section)
-        if section.startswith("11."):
+        if section.startswith("9."):
             self.expect_metrics()
-        if section.startswith("8."):
+        if section.startswith("6."):
             self.open_flows()
 
-    def found_again(self):
-        """Founding is begun at a box that runs: it fails, says why, and the box goes on as it is."""
-        first = self.machines["box 0"]
-        boot = first.root() / "var/lib/natpair/boot0"
-        before, runs = boot.read_bytes(), first.do("pidof natpair")
-        print("box 0    $ systemctl start natpair-found@0", flush=True)
-        status = first.do("systemctl start natpair-found@0; echo status $?").splitlines()[-1]
-        journal = first.do("journalctl -u natpair-found@0 -n 20")
-        why = [line for line in journal.splitlines() if "box 0 runs already" in line]
-        if status == "status 0" or not why:
-            raise SystemExit(f"joining: founding at a box that runs ends with {status}, and says:\n{journal}")
-        print(f"founding = {status}, {why[-1].partition(': ')[2]}", flush=True)
-        if boot.read_bytes() != before or first.do("pidof natpair") != runs:
-            raise SystemExit("joining: founding at a box that runs changes it")
-        self.run("box 0", "systemctl is-active natpair@0")
-        self.run("box 0", "natpair-box --id 0 status --until synced --seconds 5")
-        self.expect_flows("box 0 was to be founded again")
-        self.open_flows()
-
     def fence(self):
-        """Box 1 is stopped, and is silent as if it were dead: box 0 fences it, and is told that it is off."""
+        """Box 1 is killed, and doesn't come back: box 0 fences it, and is told that it is off."""
         first = self.machines["box 0"]
         first.write("/etc/natpair/fence-test", FENCE)
         first.write("/etc/natpair/fence.conf", "SECONDS=5\nCOMMAND=/etc/natpair/fence-test\nplug=box1\n")
         self.run("box 0", "chmod 755 /etc/natpair/fence-test")
         self.run("box 0", "systemctl start natpair-fence@0")
+        self.run("box 1", "systemctl kill -s KILL natpair@1")
         self.run("box 1", "systemctl stop natpair@1")
         self.rest(10)
         journal = first.do("journalctl -u natpair-fence@0 -n 100")
