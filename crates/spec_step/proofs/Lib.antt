@@ -20,6 +20,7 @@ mod Giving
 mod GoingOn
 mod HavingPlace
 mod Healing
+mod Heard
 mod Hearing
 mod Hiding
 mod Idle

@@ -284,28 +284,6 @@ reset-first s =
 pub reset-says : Frames → (s : GatewayAndOutput) → Saying [] s (reset s)
 reset-says frames s = saying-then [] [] s (reset_scene s) (reset s) (reset-first s) (released-says frames (reset_scene s) AllPairs)
 
-heard-says : Frames → (s : GatewayAndOutput) (d : Datagram) → IsWellFormed d → Saying [] s (heard_by s d)
-heard-says frames s d fits = at (is_restart s.shown.link d)
-  where
-    at : (b : Bool) → Saying [] s (let e = s.shown.link in let after = with_link s (after_take e d s.shown.moment) in records_done (let x : GatewayAndOutput = cond b (reset after) after in x) (records_taken e d))
-    at true =
-        let after = with_link s (after_take s.shown.link d s.shown.moment) in
-        saying-then [] [] s (reset after) _
-        (saying-then [] [] s after (reset after) (link-says s (after_take s.shown.link d s.shown.moment)) (reset-says frames after))
-        (records-say frames (reset after) (records_taken s.shown.link d) (all_taken s.shown.link d fits))
-    at false =
-        let after = with_link s (after_take s.shown.link d s.shown.moment) in
-        saying-then [] [] s after _ (link-says s (after_take s.shown.link d s.shown.moment))
-        (records-say frames after (records_taken s.shown.link d) (all_taken s.shown.link d fits))
-
-datagram-says : Frames → (s : GatewayAndOutput) (bytes : List ℕ) (r : Result Datagram LinkFault) → reading bytes ≡ r → AreBytes bytes → Saying [] s (datagram_read s r)
-datagram-says frames s bytes (Ok d) read are = at (refusal s.shown.link d)
-  where
-    at : (o : Option LinkFault) → Saying [] s (heard_unless s d o)
-    at None = heard-says frames s d (reading_takes bytes d are read).0
-    at (Some fault) = saying-nothing s []
-datagram-says frames s bytes (Err fault) read are = saying-nothing s []
-
 -- the scene after the operator's word is taken, before any wait ends
 abbrev pub word_scene : GatewayAndOutput → ℕ → GatewayAndOutput
 word_scene s n =
@@ -337,6 +315,50 @@ word-synced g n is = at (is_synced g.ledger.book.stage) _ is
     at : (b c : Bool) → (let o : Option Reason = cond (not b) (Some NotUp) (cond c (Some OldWord) None) in o) ≡ None → b ≡ true
     at true c is = refl
     at false c is = absurd (cc)
+
+-- the scene after the pair is founded, before the routers start
+abbrev pub founded_scene : GatewayAndOutput → GatewayAndOutput
+founded_scene s =
+    let g = s.shown in
+    scene (record g { ledger = founded_ledger g.ledger; link = founding_link g.ledger.book g.link }) (with_notes s.told (founding_note (id_of g) g.moment ∷ []))
+
+founded-says : (s : GatewayAndOutput) → IsBare s → Saying [] s (pair_founded s)
+founded-says s bare =
+    let g = s.shown in
+    let g2 = (founded_scene s).shown in
+    let told = (founded_scene s).told in
+    saying-then [] [] s (founded_scene s) (pair_founded s) first (routed-says g2.moment g2 told (has_synced g g2 && is_running g2))
+  where
+    first : Saying [] s (founded_scene s)
+    first =
+        let g = s.shown in let b = g.ledger.book in
+        let notes = founding_note b.id g.moment ∷ [] in
+        let mid = founded_scene s in
+        λ is w. (
+          record {
+            tells = tells-quietly s mid notes refl refl refl refl (founded-rooted b)
+                (record { id = refl; synced = λ t. absurd (both_ways (is_synced b.stage) t bare.unsynced); stays = λ x p t p_is. absurd (both_ways (is_synced b.stage) t bare.unsynced) }) (refl, (refl, omega arith));
+            sound = record { book = founding-keeps b is.book; kept = is.kept };
+            wired = w;
+          },
+          refl,
+        )
+
+heard-says : Frames → (s : GatewayAndOutput) (d : Datagram) → IsWellFormed d → Saying [] s (heard_by s d)
+heard-says frames s d fits = heard-leads s d (λ x. Saying [] s x)
+    (link-says s (after_take s.shown.link d s.shown.moment))
+    (λ is x. saying-then [] [] s (taken_in s d) (reset (taken_in s d)) x (reset-says frames (taken_in s d)))
+    (λ y is x. saying-then [] [] s y (pair_founded y) x (founded-says y is))
+    (λ x. saying-then [] [] s (met_by s d) _ x (records-say frames (met_by s d) (records_taken s.shown.link d) (all_taken s.shown.link d fits)))
+    (λ y is x. saying-then [] [] s y (word_taken y d.boot) x (taken-says frames y d.boot is))
+
+datagram-says : Frames → (s : GatewayAndOutput) (bytes : List ℕ) (r : Result Datagram LinkFault) → reading bytes ≡ r → AreBytes bytes → Saying [] s (datagram_read s r)
+datagram-says frames s bytes (Ok d) read are = at (refusal s.shown.link d)
+  where
+    at : (o : Option LinkFault) → Saying [] s (heard_unless s d o)
+    at None = heard-says frames s d (reading_takes bytes d are read).0
+    at (Some fault) = link-says s (left_by s.shown.link (Ok d))
+datagram-says frames s bytes (Err fault) read are = saying-nothing s []
 
 word-says : Frames → (s : GatewayAndOutput) (n : ℕ) (o : Option Reason) → word_refusal s.shown n ≡ o → Saying [] s (word_by s n o)
 word-says frames s n None is = taken-says frames s n (word-synced s.shown n is)
@@ -456,6 +478,10 @@ does-speak frames s Stop done does has =
     let middle = does.0 in
     subst (λ (x : GatewayAndOutput). Speaks [] s x) (sym does.2)
     (speaks-of [] s (stopped middle) (saying-then [] [] s middle (stopped middle) (both-say frames s table.Stop middle does.1) (stopped-says middle)))
+does-speak frames s End done does has =
+    let middle = does.0 in
+    subst (λ (x : GatewayAndOutput). Speaks [] s x) (sym does.2)
+    (speaks-of [] s (stopped middle) (saying-then [] [] s middle (stopped middle) (both-say frames s table.Stop middle does.1) (stopped-says middle)))
 does-speak frames s (PeerOff n) done does has =
     subst (λ (x : GatewayAndOutput). Speaks [] s x) (sym does) (speaks-of [] s _ (word-says frames s n (word_refusal s.shown n) refl))
 does-speak frames s (SideIs side up) done does has =
@@ -477,6 +503,12 @@ ticked-tells s = at (is_due_on_tick (handed_in s.shown).link s.shown.moment)
     at true = (tells-unseen s _ refl refl (refl, (refl, refl)) refl (refl, (refl, omega arith)), (refl, λ w. w))
     at false = (tells-unseen s _ refl refl (refl, (refl, refl)) refl (refl, (refl, omega arith)), (refl, λ w. w))
 
+-- the last datagram and the last note of a gateway that ends
+last-tells : (s : GatewayAndOutput) → Told [] s (link_ended s)
+last-tells s = let g = handed_in s.shown in
+    tells-quietly s (link_ended s) (note (id_of g) g.moment Crashed ∷ []) refl refl refl refl (still-rooted s)
+    (record { id = refl; synced = λ t. t; stays = λ x p t p_is. inl p_is }) (refl, (refl, omega arith))
+
 answered-ends : (h : List AtHand) (s done : GatewayAndOutput) → Told h s done → IsSetUp done.shown → Told (h ++ []) s (link_answered done) × IsSetUp (link_answered done).shown
 answered-ends h s done x w = (tells-then h [] s done (link_answered done) refl x (answered-tells done), w)
 
@@ -487,6 +519,7 @@ end-tells s (Tick now) done x w =
     let t = ticked-tells done in
     (tells-then [] [] s done (link_ticked done) t.1.0 x t.0, t.1.1 w)
 end-tells s Stop done x w = answered-ends [] s done x w
+end-tells s End done x w = (tells-then [] [] s done (link_ended done) refl x (last-tells done), w)
 end-tells s (PeerOff n) done x w = answered-ends [] s done x w
 end-tells s (SideIs side up) done x w = (x, w)
 
