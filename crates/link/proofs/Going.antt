@@ -9,6 +9,7 @@ use Rattle.settings.specs.declared.values.Values.{Values}
 use Rattle.settings.proofs.Offered.{values-self}
 use Rattle.link.specs.declared.faults.LinkFault.TheVariants.{NotOurs, BadRecord, OtherSettings, Stale, NotForThisBoot, Gap}
 use Rattle.link.specs.declared.datagrams.Datagram.{Datagram}
+use Rattle.link.specs.declared.datagrams.Status.{Status}
 use Rattle.link.specs.Going.{AreJoined}
 use Rattle.link.specs.Link.{Link, IsLink, datagram_of, wanted, pushed_count, handed_count, free_places, is_restart, is_beginning, is_gap, open_from, refusal, met, takeable, untaken, needs_answer, answers_count, records_taken, after_take}
 use Rattle.link.proofs.Ends.{met_same, count_of}
@@ -50,9 +51,9 @@ answers-drop (suc k) (r ∷ rs) = let ih = answers-drop k rs in let one = fewer 
 
 -- ---- a datagram of the session
 
-module _ (a b : Link) (synced : Bool) (j : AreJoined a b) where
+module _ (a b : Link) (status : Status) (j : AreJoined a b) where
   abbrev pub sent : Datagram
-  sent = datagram_of synced a
+  sent = datagram_of status a
 
   same-boot : is_restart b sent ≡ false
   same-boot = not-less b.known a.boot (let k = j.known in omega (arith, k))
