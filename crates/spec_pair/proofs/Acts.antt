@@ -7,11 +7,11 @@ use Rattle.nat_types.specs.declared.gateways.GatewayId.{GatewayId}
 use Rattle.nat_types.specs.declared.notes.Note.{Note}
 use Rattle.nat_types.specs.declared.pairs.Endpoint.{Endpoint}
 use Rattle.nat_types.specs.declared.pairs.Key.{Key}
-use Rattle.spec_trace.specs.Past.{OnePort, OneEndpoint, Silent, is_synced, has_released, goes_on, is_private, is_in_use, is_only_at, is_agreed}
+use Rattle.spec_trace.specs.Past.{OnePort, OneEndpoint, Silent, FoundedRightly, is_synced, has_released, goes_on, is_private, is_in_use, is_only_at, is_agreed}
 use Rattle.spec_pair.specs.Acts.{Do, Take}
 use Rattle.spec_pair.specs.Box.{Box, Letter, In, Parcel, nth, StandsNext}
-use Rattle.spec_pair.proofs.Beside.{side_beside}
-use Rattle.spec_pair.proofs.Invariant.{is_proper, Within, Fresh, Naming, Part, Whereabouts, Loads, Real, View, Awaits, Side, Inv}
+use Rattle.spec_pair.proofs.Beside.{side_beside, waits_beside, waits_of}
+use Rattle.spec_pair.proofs.Invariant.{is_proper, Within, Fresh, Naming, Part, Whereabouts, Loads, Real, View, Side, Inv}
 use Rattle.spec_pair.proofs.Phase.{owns, MayDoOwned, Phase, Nothing, Proposed, Told, Asked, Apart, Talks, phase_after, closing, closed_in, alone_in, owner_slot, other_slot, slot_at, set_apart}
 use Rattle.spec_pair.specs.Ownership.{Ranges, Run, keyed}
 use Rattle.spec_pair.specs.Talk.{Slot, Free, Alone, translated, pair_of, MachineRecord, Deed, Propose, Close, Use, Mark, MakeAlone, Report, DropAlone, Agree, Yield, Reject, Adopt, Decline, Agreed, Rejected, Rebuffed, Leave, Stay, Left, Parted, Stayed, Pass, Skip, MayDo, taken_by, pushed_by, table_after, noted_by}
@@ -21,7 +21,7 @@ use Rattle.spec_pair.proofs.Deeds.{keeps}
 use Rattle.spec_pair.proofs.Grants.{proper-phase, may_as, ghost_free, ports_deed}
 use Rattle.spec_pair.proofs.Lists.{nth_at, nth_first, within_more, nil_left, nil_right, length_last}
 use Rattle.spec_pair.proofs.Mirror.{mirror}
-use Rattle.spec_pair.proofs.Notes.{covers_deed, lets_deed, were_deed, two_deed, goes_deed, private_deed, port_deed, endpoint_deed, silent_deed, synced_deed, goes_other_deed, private_other_deed}
+use Rattle.spec_pair.proofs.Notes.{covers_deed, lets_deed, were_deed, two_deed, goes_deed, private_deed, port_deed, endpoint_deed, silent_deed, founded_deed, synced_deed, goes_other_deed, private_other_deed}
 use Rattle.spec_pair.proofs.Inversions.{when_alone, owner-apart, mark-closed}
 use Rattle.spec_pair.proofs.Set.{set_same, set_other, same-other, other-owns, cases_key}
 
@@ -138,9 +138,9 @@ module _ (r : Ranges) where
       → (GoesAt (other i) b.table t → GoesAt (other i) b.table t2)
       → PrivateAt i table2 t2
       → (PrivateAt (other i) b.table t → PrivateAt (other i) b.table t2)
-      → OnePort t2 → OneEndpoint t2 → Silent t2 → ((j : GatewayId) → is_synced j t2 ≡ is_synced j t)
+      → OnePort t2 → OneEndpoint t2 → Silent t2 → FoundedRightly t2 → ((j : GatewayId) → is_synced j t2 ≡ is_synced j t)
       → Inv r i (record { mine = with_next a table2 sent2 taken2 owned2 wants2; theirs = b; my_mail = ma; their_mail = mb; trace = t2 })
-  inv_next i a b ma mb t t2 table2 sent2 taken2 owned2 wants2 v sa view more goes goes_there private private_there port endpoint silent same_synced =
+  inv_next i a b ma mb t t2 table2 sent2 taken2 owned2 wants2 v sa view more goes goes_there private private_there port endpoint silent founded same_synced =
       let here : Side r i a b ma mb t = v.here in
       let there : Side r (other i) b a mb ma t = v.there in
       let letters : (l : Letter) → In l ma → l.boot ≡ a.boot → l.to ≡ a.peer → Within l sent2 = λ l inside boot to. more l (here.letters (here.up_synced sa) (λ z. view.lone) l inside boot to) in
@@ -148,7 +148,9 @@ module _ (r : Ranges) where
         one_port = port;
         one_endpoint = endpoint;
         silent = silent;
-        some_synced = v.some_synced;
+        founded_rightly = founded;
+        over_here = v.over_here;
+        over_there = v.over_there;
         here = record {
           synced_is = same_synced i ∙ here.synced_is;
           up_synced = here.up_synced;
@@ -162,14 +164,17 @@ module _ (r : Ranges) where
           later = here.later;
           quiet = λ s. let bad : true ≡ false = sym sa ∙ s in absurd (cc);
           state = λ s. inr view;
+          mute = λ u s. let bad : true ≡ false = sym sa ∙ s in absurd (cc);
+          lacks = λ z u s. let bad : true ≡ false = sym sa ∙ s in absurd (cc);
           awaits = λ s up. let bad : true ≡ false = sym sa ∙ s in absurd (cc);
         };
         there = side_beside r (other i) b a _ mb ma t _ there refl
             (same_synced (other i) ∙ there.synced_is)
             (λ up. goes_there (there.goes up))
             (λ up. private_there (there.private up))
+            (λ z u s o l n to k. o)
             (λ sb. inr (mirror r i (with_next a table2 sent2 taken2 owned2 wants2) b ma mb t2 view sa sb letters (λ m p. elim (there.state sb) [ inl y ↦ let bad : true ≡ false = sym sa ∙ y.other_out in cc | inr y ↦ let bad : true ≡ false = sym sa ∙ (y.owes m p).1 in cc ])))
-            (λ sb up. let x : Awaits b a ma = there.awaits sb up in record { letters = x.letters; fresh = x.fresh });
+            (λ sb up. inl (waits_beside (other i) b a (with_next a table2 sent2 taken2 owned2 wants2) ma t t2 (waits_of r (other i) b a mb ma t there sa sb up) sa sa refl refl goes_there private_there));
       }
 
   inv_deed : (moment : ℕ) (i : GatewayId) (a b : Box) (ma mb : List Letter) (t : List Note) (d : Deed) (taken2 : ℕ) → Inv r i (record { mine = a; theirs = b; my_mail = ma; their_mail = mb; trace = t }) → a.synced ≡ true
@@ -180,7 +185,7 @@ module _ (r : Ranges) where
       → Inv r i (record { mine = with_deed a d taken2; theirs = b; my_mail = ma; their_mail = mb; trace = noted_by i moment d ++ t })
   inv_deed moment i a b ma mb t d taken2 v sa view goes private port endpoint =
       inv_next i a b ma mb t (noted_by i moment d ++ t) (table_after a.table d) (a.sent ++ pushed_by d) taken2 a.owned a.wants v sa view (λ l w. within_more l a.sent (pushed_by d) w) goes
-      (λ g. goes_other_deed moment (other i) i b.table d t (same-not i) g) private (λ g. private_other_deed moment (other i) i b.table d t (same-not i) g) port endpoint (silent_deed moment i d t (v.here.synced_is ∙ sa) v.silent) (λ j. synced_deed moment j i d t)
+      (λ g. goes_other_deed moment (other i) i b.table d t (same-not i) g) private (λ g. private_other_deed moment (other i) i b.table d t (same-not i) g) port endpoint (silent_deed moment i d t (v.here.synced_is ∙ sa) v.silent) (founded_deed moment i d t v.founded_rightly) (λ j. synced_deed moment j i d t)
 
   -- a synced gateway that isn't lone has a view of its peer
   pub view_of : (i : GatewayId) (a b : Box) (ma mb : List Letter) (t : List Note) → Side r i a b ma mb t → a.synced ≡ true → a.lone ≡ false → View r i a b mb t
@@ -201,10 +206,10 @@ module _ (r : Ranges) where
         let n : Real a b v.table v.their_owned v.their_want v.gone v.heard v.inn = v.real sb in
         let at : (owns v.owner i k ≡ true) × (v.phase k ≡ Apart e) = never_alone k (owns v.owner i k) (a.table k) (v.phase k) e (v.talks.here.slots k) is in
         let free : b.table k ≡ Free = n.table_is k ∙ v.talks.there.slots k ∙ ap (λ c. slot_at c (v.phase k)) (other-owns v.owner i k ∙ ap not at.0) ∙ ap (slot_at false) at.1 in
-        let private : is_private i (pair_of k e) t ≡ true = (here.private (here.up_synced sa) (pair_of k e)).1 (ap alone_in is) in
+        let private : is_private i (pair_of k e) t ≡ true = (here.private sa (pair_of k e)).1 (ap alone_in is) in
         let unused : is_in_use (other i) (pair_of k e) t ≡ false = false_from_ne_true (is_in_use (other i) (pair_of k e) t) (λ u.
         let goes : goes_on (other i) (pair_of k e) t ≡ true = (and_parts (is_synced (other i) t) (goes_on (other i) (pair_of k e) t) u).1 in
-        let bad : None ≡ Some e = ap translated (sym free) ∙ (there.goes (there.up_synced sb) (pair_of k e)).0 goes in cc) in
+        let bad : None ≡ Some e = ap translated (sym free) ∙ (there.goes sb (pair_of k e)).0 goes in cc) in
         or_right (not (is_synced (other i) t) || has_released (other i) (pair_of k e) t) (is_only_at i (pair_of k e) t) (and_from (is_private i (pair_of k e) t) (not (is_in_use (other i) (pair_of k e) t)) private (not_from_false (is_in_use (other i) (pair_of k e) t) unused))
     | inr sb ↦ or_left (not (is_synced (other i) t) || has_released (other i) (pair_of k e) t) (is_only_at i (pair_of k e) t) (or_left (not (is_synced (other i) t)) (has_released (other i) (pair_of k e) t) (ap not (there.synced_is ∙ sb)))
   ]
@@ -217,8 +222,8 @@ module _ (r : Ranges) where
       let by : MayDoOwned (owns view.owner i) i s.mine.table d = ghost_may view d can.0.2 in
       inv_deed moment i s.mine s.theirs s.my_mail s.their_mail s.trace d s.mine.taken v can.0.0
       (view_deed moment i s.mine s.theirs s.their_mail s.trace d view s.mine.taken view.heard view.inn can.0.2 (v.here.synced_is ∙ can.0.0) (drops i s.mine s.theirs s.my_mail s.their_mail s.trace view v.here v.there can.0.0) inn_is refl view.taken)
-      (goes_deed view.owner moment i s.mine.table view.out view.table view.inn view.phase d s.trace talks by (v.here.goes (v.here.up_synced can.0.0)))
-      (private_deed view.owner moment i s.mine.table view.out view.table view.inn view.phase d s.trace talks by (v.here.private (v.here.up_synced can.0.0)))
+      (goes_deed view.owner moment i s.mine.table view.out view.table view.inn view.phase d s.trace talks by (v.here.goes can.0.0))
+      (private_deed view.owner moment i s.mine.table view.out view.table view.inn view.phase d s.trace talks by (v.here.private can.0.0))
       (port_deed view.owner moment i s.mine.table view.out view.table view.inn view.phase d s.trace talks by view.covers v.one_port)
       (endpoint_deed view.owner moment i s.mine.table view.out view.table view.inn view.phase d s.trace talks by view.covers view.were view.two v.one_endpoint)
 
@@ -239,7 +244,7 @@ module _ (r : Ranges) where
       let by : MayDoOwned (owns view.owner i) i s.mine.table d = ghost_may view d can.0.2 in
       inv_deed moment i s.mine s.theirs s.my_mail s.their_mail s.trace d (suc s.mine.taken) v can.0.0
       (view_deed moment i s.mine s.theirs s.their_mail s.trace d view (suc s.mine.taken) (view.heard ++ q ∷ []) next.0 can.0.2 (v.here.synced_is ∙ can.0.0) (drops i s.mine s.theirs s.my_mail s.their_mail s.trace view v.here v.there can.0.0) inn_is whole (ap suc view.taken ∙ sym (length_last view.heard q)))
-      (goes_deed view.owner moment i s.mine.table view.out view.table next.0 view.phase d s.trace talks by (v.here.goes (v.here.up_synced can.0.0)))
-      (private_deed view.owner moment i s.mine.table view.out view.table next.0 view.phase d s.trace talks by (v.here.private (v.here.up_synced can.0.0)))
+      (goes_deed view.owner moment i s.mine.table view.out view.table next.0 view.phase d s.trace talks by (v.here.goes can.0.0))
+      (private_deed view.owner moment i s.mine.table view.out view.table next.0 view.phase d s.trace talks by (v.here.private can.0.0))
       (port_deed view.owner moment i s.mine.table view.out view.table next.0 view.phase d s.trace talks by view.covers v.one_port)
       (endpoint_deed view.owner moment i s.mine.table view.out view.table next.0 view.phase d s.trace talks by view.covers view.were view.two v.one_endpoint)

@@ -4,8 +4,8 @@ use Rattle.nat_types.specs.Same.{other}
 use Rattle.nat_types.specs.declared.gateways.GatewayId.{GatewayId}
 use Rattle.spec_pair.specs.Acts.{HandIn, Ignore}
 use Rattle.spec_pair.specs.Box.{Letter, hands_in}
-use Rattle.spec_pair.proofs.Beside.{side_beside, alone_beside, view_beside}
-use Rattle.spec_pair.proofs.Invariant.{Loads, Real, View, Awaits, Side, Inv}
+use Rattle.spec_pair.proofs.Beside.{side_beside, alone_beside, view_beside, waits_beside, waits_of}
+use Rattle.spec_pair.proofs.Invariant.{Loads, Real, View, Side, Inv}
 use Rattle.spec_pair.specs.Ownership.{Ranges}
 use Rattle.spec_pair.specs.Talk.{MachineRecord}
 use Rattle.spec_pair.specs.World.{Scene, Can, after_act}
@@ -27,7 +27,9 @@ module _ (r : Ranges) where
         one_port = v.one_port;
         one_endpoint = v.one_endpoint;
         silent = v.silent;
-        some_synced = v.some_synced;
+        founded_rightly = v.founded_rightly;
+        over_here = v.over_here;
+        over_there = v.over_there;
         here = record {
           synced_is = here.synced_is;
           up_synced = here.up_synced;
@@ -40,6 +42,8 @@ module _ (r : Ranges) where
           peer_at = here.peer_at;
           later = here.later;
           quiet = here.quiet;
+          mute = here.mute;
+          lacks = here.lacks;
           state = λ z. elim (here.state z) [
             | inl y ↦ inl record { lone = y.lone; other_out = y.other_out; proper = y.proper; within = y.within; nowhere = y.nowhere; one_each = y.one_each; two = y.two; covers = y.covers; sent = y.sent; unheard = y.unheard }
             | inr y ↦ inr record {
@@ -82,12 +86,13 @@ module _ (r : Ranges) where
                   };
             }
           ];
-          awaits = λ z u. let w : Awaits s.mine s.theirs s.their_mail = here.awaits z u in record { letters = w.letters; fresh = λ q. let f = w.fresh q in record { table = f.table; taken = f.taken; loading = f.loading; wants = f.wants } };
+          awaits = λ z. let bad : true ≡ false = sym can.0 ∙ z in absurd (cc);
         };
         there = side_beside r (other i) s.theirs s.mine _ s.their_mail s.my_mail s.trace _ there refl
             there.synced_is
             there.goes
             there.private
+            (λ z u x o l n to k. o)
             (λ z. elim (there.state z) [
               | inl y ↦ inl (alone_beside r (other i) s.theirs s.mine _ s.trace _ y y.other_out (λ p o. o) y.unheard (λ p q h. h))
               | inr y ↦ inr (view_beside r (other i) s.theirs s.mine _ s.my_mail _ s.trace _ y
@@ -100,5 +105,5 @@ module _ (r : Ranges) where
                   y.owes
                   (λ q. let bad : true ≡ false = sym can.0 ∙ q in absurd (cc)))
             ])
-            (λ z u. let w : Awaits s.theirs s.mine s.my_mail = there.awaits z u in record { letters = w.letters; fresh = w.fresh });
+            (λ z u. inl (waits_beside (other i) s.theirs s.mine (hands_in s.mine) s.my_mail s.trace s.trace (waits_of r (other i) s.theirs s.mine s.their_mail s.my_mail s.trace there can.0 z u) can.0 can.0 refl refl (λ g. g) (λ g. g)));
       }

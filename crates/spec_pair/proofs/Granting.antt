@@ -124,7 +124,7 @@ module _ (r : Ranges) where
       → View r i (with_next s.mine s.mine.table sent2 taken2 owned2 wants2) s.theirs s.their_mail s.trace → ((l : Letter) → Within l s.mine.sent → Within l sent2)
       → Inv r i (record { mine = with_next s.mine s.mine.table sent2 taken2 owned2 wants2; theirs = s.theirs; my_mail = s.my_mail; their_mail = s.their_mail; trace = s.trace })
   moves i s sent2 taken2 owned2 wants2 v sa view more =
-      inv_next r i s.mine s.theirs s.my_mail s.their_mail s.trace s.trace s.mine.table sent2 taken2 owned2 wants2 v sa view more (v.here.goes (v.here.up_synced sa)) (λ g. g) (v.here.private (v.here.up_synced sa)) (λ g. g) v.one_port v.one_endpoint v.silent (λ j. refl)
+      inv_next r i s.mine s.theirs s.my_mail s.their_mail s.trace s.trace s.mine.table sent2 taken2 owned2 wants2 v sa view more (v.here.goes sa) (λ g. g) (v.here.private sa) (λ g. g) v.one_port v.one_endpoint v.silent v.founded_rightly (λ j. refl)
 
   real_as : (a a2 b : Box) (table : Key → Slot) (owned : ℕ → Bool) (want : Bool) (gone heard inn : List MachineRecord) → a.peer ≡ a2.peer → a.boot ≡ a2.boot → Real a b table owned want gone heard inn → Real a2 b table owned want gone heard inn
   real_as a a2 b table owned want gone heard inn peer boot n = record { table_is = n.table_is; owned_is = n.owned_is; want_is = n.want_is; sent = n.sent; taken = n.taken; peer = sym peer ∙ n.peer; back = n.back ∙ boot; lone = n.lone }

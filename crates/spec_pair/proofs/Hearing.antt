@@ -1,4 +1,4 @@
--- A synced gateway hears a greater boot of its peer.
+-- A synced gateway hears a greater boot of its peer, or that a boot of it is off.
 use Rattle.std.proofs.Common.{◌≡◌, ℕ, suc, length, Bool, true, false, not, ◌&&◌, ◌||◌, ◌+◌, cond, List, [], ◌∷◌, ◌++◌, ◌<◌, ◌≤◌, IsTrue, Option, Some, None, refl, sym, ap, subst, ◌∙◌, inl, inr, append-nil, arith, le_refl}
 use Rattle.std.proofs.lemmas.Bool.{both_ways, cases_Bool, and_from, and_right}
 use Rattle.nat_types.proofs.Offered.{same-self, same-eq, pair-eq, pair-self}
@@ -9,13 +9,13 @@ use Rattle.nat_types.specs.declared.notes.Note.{Note}
 use Rattle.nat_types.specs.declared.pairs.Endpoint.{Endpoint}
 use Rattle.nat_types.specs.declared.pairs.Key.{Key}
 use Rattle.nat_types.specs.declared.pairs.Pair.{Pair}
-use Rattle.spec_trace.specs.Past.{is_synced, is_open, goes_on, is_private, was_alone, OnePort, OneEndpoint, Silent}
-use Rattle.spec_pair.specs.Acts.{Hear, PeerOff}
-use Rattle.spec_pair.specs.Box.{Box, Letter, Parcel, In, nth, empty, load, mirrored, revived, is_back, retakes, hears, put_off, batch}
-use Rattle.spec_pair.proofs.Beside.{side_beside}
-use Rattle.spec_pair.proofs.Invariant.{bit, gifts, View, Awaits, Side, Inv, is_proper}
+use Rattle.spec_trace.specs.Past.{is_synced, is_open, goes_on, is_private, was_alone, OnePort, OneEndpoint, Silent, FoundedRightly}
+use Rattle.spec_pair.specs.Acts.{Hear, PeerEnds, PeerOff}
+use Rattle.spec_pair.specs.Box.{AreLoadable, AreMirrored, Box, Letter, Parcel, In, nth, empty, load, mirrored, revived, is_back, retakes, hears, put_off, batch}
+use Rattle.spec_pair.proofs.Beside.{side_beside, waits_of}
+use Rattle.spec_pair.proofs.Invariant.{bit, gifts, Fresh, View, Waits, Side, Inv, is_proper}
 use Rattle.spec_pair.proofs.Phase.{owns, Phase, Nothing, Accepted, Shared, shared, named, single, owner_slot, alone_in, closing, is_given_up, slot_at, flight_at}
-use Rattle.spec_pair.specs.Ownership.{Ranges, Run, keyed, left_to}
+use Rattle.spec_pair.specs.Ownership.{AreRising, LeaveRest, Ranges, Run, keyed, left_to}
 use Rattle.spec_pair.specs.Talk.{Slot, Free, Pending, Doomed, Live, Closing, Held, Alone, held, pair_of, translated}
 use Rattle.spec_pair.proofs.Traced.{GoesAt, PrivateAt}
 use Rattle.spec_pair.specs.World.{Scene, Can, after_act}
@@ -193,6 +193,10 @@ private-revived moment i table back t g exact p = (
 silent-retakes : (moment : ℕ) (i : GatewayId) (ps : List Pair) (t : List Note) → Silent t → Silent (retakes i moment ps ++ t)
 silent-retakes moment i [] t h = h
 silent-retakes moment i (p ∷ ps) t h = (tt, silent-retakes moment i ps t h)
+
+founded-retakes : (moment : ℕ) (i : GatewayId) (ps : List Pair) (t : List Note) → FoundedRightly t → FoundedRightly (retakes i moment ps ++ t)
+founded-retakes moment i [] t h = h
+founded-retakes moment i (p ∷ ps) t h = (tt, founded-retakes moment i ps t h)
 
 goes_other-retakes : (moment : ℕ) (j i : GatewayId) (table : Key → Slot) (ps : List Pair) (t : List Note) → same j i ≡ false → GoesAt j table t → GoesAt j table (retakes i moment ps ++ t)
 goes_other-retakes moment j i table [] t s g = g
@@ -389,6 +393,76 @@ module _ (r : Ranges) where
   promise_is true n m h = sym (one_some n m h)
   promise_is false n m h = let bad : None ≡ Some m = h in absurd (cc)
 
+  -- The view of a gateway that has begun a session with the batch of its table, which has these runs and pairs. The other
+  -- isn't synced, sent nothing in the session, and has loaded nothing.
+  pub view_heard : (i : GatewayId) (a b : Box) (mb : List Letter) (t : List Note) (boot : ℕ) (os : List Run) (ps : List Parcel) (part : Bool) → Known i a b t
+      → AreRising r.in_ranges 0 os → LeaveRest r i a.owned os → AreLoadable r (keyed (left_to r (other i) os)) empty ps → AreMirrored (keyed (left_to r (other i) os)) (λ k. revived (a.table k)) ps
+      → ((l : Letter) → In l mb → l.boot ≡ boot → l.to ≡ a.boot → l.records ≡ []) → b.synced ≡ false → is_synced (other i) t ≡ false → (b.up ≡ true → boot ≡ b.boot → Fresh b)
+      → View r i (hears a boot os ps part) b mb t
+  view_heard i a b mb t boot os ps part known rising rest loadable mirrors silent sb out fresh =
+      let ph : Key → Phase = λ k. renewed (held (revived (a.table k))) in
+      let named_of : (k : Key) (e : Endpoint) → named (renewed (held (revived (a.table k)))) ≡ Some e → held (a.table k) ≡ Some e = λ k e h. sym (held-revived (a.table k)) ∙ sym (named-renewed (held (revived (a.table k)))) ∙ h in
+      let shared_of : (k : Key) (e : Endpoint) → shared (renewed (held (revived (a.table k)))) ≡ Some e → held (a.table k) ≡ Some e = λ k e h. sym (held-revived (a.table k)) ∙ sym (shared-renewed (held (revived (a.table k)))) ∙ h in
+      let nothing : (k : Key) → keyed r.in_ranges k ≡ false → renewed (held (revived (a.table k))) ≡ Nothing = λ k none. ap (λ z. renewed (held (revived z))) (known.nowhere k none) in
+      let whose : (k : Key) → slot_at (keyed (left_to r (other i) os) k) (renewed (held (revived (a.table k)))) ≡ slot_at (owns (λ k. cond (keyed a.owned k) i (other i)) (other i) k) (renewed (held (revived (a.table k)))) = λ k. elim (cases_Bool (keyed r.in_ranges k)) [
+        | inl inside ↦ ap (λ c. slot_at c (renewed (held (revived (a.table k))))) (rest k.port.0 ∙ ap (λ c. c && not (keyed a.owned k)) inside ∙ sym (theirs_by i (keyed a.owned k)))
+        | inr none ↦ ap (slot_at (keyed (left_to r (other i) os) k)) (nothing k none) ∙ free_at (keyed (left_to r (other i) os) k) ∙ sym (ap (slot_at (owns (λ k. cond (keyed a.owned k) i (other i)) (other i) k)) (nothing k none) ∙ free_at (owns (λ k. cond (keyed a.owned k) i (other i)) (other i) k))
+      ] in
+      let theirs_at : (k : Key) → load (keyed (left_to r (other i) os)) empty ps k ≡ slot_at (owns (λ k. cond (keyed a.owned k) i (other i)) (other i) k) (ph k) = λ k. mirrors k ∙ mirrored-renewed (keyed (left_to r (other i) os)) k (held (revived (a.table k))) ∙ whose k in
+      record {
+        lone = refl;
+        phase = ph;
+        table = load (keyed (left_to r (other i) os)) empty ps;
+        owner = λ k. cond (keyed a.owned k) i (other i);
+        their_owned = left_to r (other i) os;
+        their_want = false;
+        gone = batch os ps;
+        out = [];
+        heard = [];
+        inn = [];
+        sent = sym (append-nil (batch os ps));
+        taken = refl;
+        talks = record {
+          here = record { slots = λ k. slot-renewed (keyed a.owned k) (a.table k) (known.proper k) ∙ ap (λ c. slot_at c (renewed (held (revived (a.table k))))) (sym (mine_by i (keyed a.owned k))); flights = λ k. quiet-renewed (owns (λ k. cond (keyed a.owned k) i (other i)) i k) k (held (revived (a.table k))) };
+          there = record { slots = theirs_at; flights = λ k. quiet-renewed (owns (λ k. cond (keyed a.owned k) i (other i)) (other i) k) k (held (revived (a.table k))) };
+          excused_out = λ z. tt;
+          excused_in = λ z. tt;
+          steady = λ k z. steady-renewed (held (revived (a.table k)));
+          one_each = λ k q e alike h g. known.one_each k q e (one_side i (keyed a.owned k) (keyed a.owned q) alike) (named_of k e h) (named_of q e g);
+          beside = λ k q e far h g. never_accepted (held (revived (a.table q))) e g;
+        };
+        ports = record {
+          mine_is = λ k h. mine_by i (keyed a.owned k) ∙ h;
+          theirs_is = λ k h. mine_by i (keyed a.owned k) ∙ off_own (keyed a.owned k) (keyed r.in_ranges k) (sym (rest k.port.0) ∙ h);
+          nobody = λ k h g. nothing k (off_both (keyed a.owned k) (keyed r.in_ranges k) h (sym (rest k.port.0) ∙ g));
+          places = λ p. ap (λ c. bit (a.owned p) + (bit c + 0)) (rest p) ∙ split (a.owned p) (r.in_ranges p) (known.within p);
+          my_want = refl;
+          their_wants = refl;
+        };
+        letters = λ m inside at to n q h. let bad : nth [] n ≡ Some q = ap (λ x. nth x n) (sym (silent m inside at to)) ∙ h in absurd (cc);
+        covers = λ p o. covered_shared (is_synced (cond (keyed a.owned p.key) i (other i)) t) (renewed (held (revived (a.table p.key)))) p.endpoint (shared-renewed (held (revived (a.table p.key))) ∙ held-revived (a.table p.key) ∙ known.covers out p o);
+        lets = λ g z k e own cl. let bad : None ≡ Some e = sym (closing-renewed (held (revived (a.table k)))) ∙ cl in absurd (cc);
+        were = λ k e h. absurd (none_some (single (renewed (held (revived (a.table k))))) e (single-renewed (held (revived (a.table k)))) h);
+        two = λ k q e far h g. known.two k q e (λ z. far (ap (λ x. cond (keyed a.owned x) i (other i)) z)) (named_of k e h) (shared_of q e g);
+        real = λ z. flag b.synced z sb;
+        owes = λ m p. (refl, sb);
+        loads = λ z u p. record {
+          os = os;
+          ps = ps;
+          rising = rising;
+          owned_is = λ p. refl;
+          want_is = refl;
+          batch_is = refl;
+          heard_is = refl;
+          inn_is = refl;
+          are_new = loadable;
+          table_is = λ q. refl;
+          bar = λ m p. promise_is part (suc (length os + length ps)) m p;
+          none_closing = λ k own. closing-renewed (held (revived (a.table k)));
+          progress = inl (fresh u p);
+        };
+      }
+
   pub inv_hear : (moment : ℕ) (i : GatewayId) (s : Scene) (l : Letter) (back : List Pair) (os : List Run) (ps : List Parcel) (part : Bool) → Inv r i s → Can r i s (Hear l back os ps part) → Inv r i (after_act r i moment s (Hear l back os ps part))
   inv_hear moment i s l back os ps part v can =
       let here : Side r i s.mine s.theirs s.my_mail s.their_mail s.trace = v.here in
@@ -400,78 +474,29 @@ module _ (r : Ranges) where
         | inl z ↦ elim (here.state sa) [ inl y ↦ flag s.theirs.synced z y.other_out | inr y ↦ let p : s.mine.peer ≡ s.theirs.boot = (y.real z).peer in absurd (omega arith) ]
         | inr z ↦ z
       ] in
-      let known : Known i s.mine s.theirs s.trace = known_of i s.mine s.theirs s.my_mail s.their_mail s.trace here sa in
       let t2 : List Note = retakes i moment back ++ s.trace in
-      let a2 : Box = hears s.mine l.boot os ps part in
-      let ph : Key → Phase = λ k. renewed (held (revived (s.mine.table k))) in
-      let named_of : (k : Key) (e : Endpoint) → named (renewed (held (revived (s.mine.table k)))) ≡ Some e → held (s.mine.table k) ≡ Some e = λ k e h. sym (held-revived (s.mine.table k)) ∙ sym (named-renewed (held (revived (s.mine.table k)))) ∙ h in
-      let shared_of : (k : Key) (e : Endpoint) → shared (renewed (held (revived (s.mine.table k)))) ≡ Some e → held (s.mine.table k) ≡ Some e = λ k e h. sym (held-revived (s.mine.table k)) ∙ sym (shared-renewed (held (revived (s.mine.table k)))) ∙ h in
-      let owner : Key → GatewayId = λ k. cond (keyed s.mine.owned k) i (other i) in
-      let to_own : Key → Bool = keyed (left_to r (other i) os) in
-      let nothing : (k : Key) → keyed r.in_ranges k ≡ false → renewed (held (revived (s.mine.table k))) ≡ Nothing = λ k out. ap (λ z. renewed (held (revived z))) (known.nowhere k out) in
-      let whose : (k : Key) → slot_at (keyed (left_to r (other i) os) k) (renewed (held (revived (s.mine.table k)))) ≡ slot_at (owns (λ k. cond (keyed s.mine.owned k) i (other i)) (other i) k) (renewed (held (revived (s.mine.table k)))) = λ k. elim (cases_Bool (keyed r.in_ranges k)) [
-        | inl inside ↦ ap (λ c. slot_at c (renewed (held (revived (s.mine.table k))))) (can.0.4 k.port.0 ∙ ap (λ c. c && not (keyed s.mine.owned k)) inside ∙ sym (theirs_by i (keyed s.mine.owned k)))
-        | inr out ↦ ap (slot_at (keyed (left_to r (other i) os) k)) (nothing k out) ∙ free_at (keyed (left_to r (other i) os) k) ∙ sym (ap (slot_at (owns (λ k. cond (keyed s.mine.owned k) i (other i)) (other i) k)) (nothing k out) ∙ free_at (owns (λ k. cond (keyed s.mine.owned k) i (other i)) (other i) k))
-      ] in
-      let theirs_at : (k : Key) → load (keyed (left_to r (other i) os)) empty ps k ≡ slot_at (owns (λ k. cond (keyed s.mine.owned k) i (other i)) (other i) k) (ph k) = λ k. can.0.6 k ∙ mirrored-renewed (keyed (left_to r (other i) os)) k (held (revived (s.mine.table k))) ∙ whose k in
-      let view : View r i a2 s.theirs s.their_mail t2 = record {
-        lone = refl;
-        phase = ph;
-        table = load (keyed (left_to r (other i) os)) empty ps;
-        owner = λ k. cond (keyed s.mine.owned k) i (other i);
-        their_owned = left_to r (other i) os;
-        their_want = false;
-        gone = batch os ps;
-        out = [];
-        heard = [];
-        inn = [];
-        sent = sym (append-nil (batch os ps));
-        taken = refl;
-        talks = record {
-          here = record { slots = λ k. slot-renewed (keyed s.mine.owned k) (s.mine.table k) (known.proper k) ∙ ap (λ c. slot_at c (renewed (held (revived (s.mine.table k))))) (sym (mine_by i (keyed s.mine.owned k))); flights = λ k. quiet-renewed (owns (λ k. cond (keyed s.mine.owned k) i (other i)) i k) k (held (revived (s.mine.table k))) };
-          there = record { slots = theirs_at; flights = λ k. quiet-renewed (owns (λ k. cond (keyed s.mine.owned k) i (other i)) (other i) k) k (held (revived (s.mine.table k))) };
-          excused_out = λ z. tt;
-          excused_in = λ z. tt;
-          steady = λ k z. steady-renewed (held (revived (s.mine.table k)));
-          one_each = λ k q e alike h g. known.one_each k q e (one_side i (keyed s.mine.owned k) (keyed s.mine.owned q) alike) (named_of k e h) (named_of q e g);
-          beside = λ k q e far h g. never_accepted (held (revived (s.mine.table q))) e g;
-        };
-        ports = record {
-          mine_is = λ k h. mine_by i (keyed s.mine.owned k) ∙ h;
-          theirs_is = λ k h. mine_by i (keyed s.mine.owned k) ∙ off_own (keyed s.mine.owned k) (keyed r.in_ranges k) (sym (can.0.4 k.port.0) ∙ h);
-          nobody = λ k h g. nothing k (off_both (keyed s.mine.owned k) (keyed r.in_ranges k) h (sym (can.0.4 k.port.0) ∙ g));
-          places = λ p. ap (λ c. bit (s.mine.owned p) + (bit c + 0)) (can.0.4 p) ∙ split (s.mine.owned p) (r.in_ranges p) (known.within p);
-          my_want = refl;
-          their_wants = refl;
-        };
-        letters = λ m inside boot to n q h. let none : m.records ≡ [] = here.later sa m inside (omega arith) in let bad : nth [] n ≡ Some q = ap (λ x. nth x n) (sym none) ∙ h in absurd (cc);
-        covers = λ p o. covered_shared (is_synced (cond (keyed s.mine.owned p.key) i (other i)) t2) (renewed (held (revived (s.mine.table p.key)))) p.endpoint (shared-renewed (held (revived (s.mine.table p.key))) ∙ held-revived (s.mine.table p.key) ∙ known.covers (there.synced_is ∙ sb) p (sym (open-retakes moment p i back s.trace) ∙ o));
-        lets = λ g z k e own cl. let bad : None ≡ Some e = sym (closing-renewed (held (revived (s.mine.table k)))) ∙ cl in absurd (cc);
-        were = λ k e h. absurd (none_some (single (renewed (held (revived (s.mine.table k))))) e (single-renewed (held (revived (s.mine.table k)))) h);
-        two = λ k q e far h g. either-retakes moment (pair_of k e) (pair_of q e) i back s.trace (known.two k q e (λ z. far (ap (λ x. cond (keyed s.mine.owned x) i (other i)) z)) (named_of k e h) (shared_of q e g));
-        real = λ z. flag s.theirs.synced z sb;
-        owes = λ m p. (refl, sb);
-        loads = λ z u p. record {
-          os = os;
-          ps = ps;
-          rising = can.0.3;
-          owned_is = λ p. refl;
-          want_is = refl;
-          batch_is = refl;
-          heard_is = refl;
-          inn_is = refl;
-          are_new = can.0.5;
-          table_is = λ q. refl;
-          bar = λ m p. promise_is part (suc (length os + length ps)) m p;
-          none_closing = λ k own. closing-renewed (held (revived (s.mine.table k)));
-          progress = inl ((there.awaits sb u).fresh (λ q. omega arith));
-        };
+      let known : Known i s.mine s.theirs s.trace = known_of i s.mine s.theirs s.my_mail s.their_mail s.trace here sa in
+      let later : Known i s.mine s.theirs (retakes i moment back ++ s.trace) = record {
+        proper = known.proper;
+        within = known.within;
+        nowhere = known.nowhere;
+        one_each = known.one_each;
+        two = λ k q e ne h g. either-retakes moment (pair_of k e) (pair_of q e) i back s.trace (known.two k q e ne h g);
+        covers = λ off p o. known.covers (there.synced_is ∙ sb) p (sym (open-retakes moment p i back s.trace) ∙ o);
       } in
+      let out : is_synced (other i) (retakes i moment back ++ s.trace) ≡ false = synced-retakes moment (other i) i back s.trace ∙ there.synced_is ∙ sb in
+      let view : View r i (hears s.mine l.boot os ps part) s.theirs s.their_mail (retakes i moment back ++ s.trace) = view_heard i s.mine s.theirs s.their_mail (retakes i moment back ++ s.trace) l.boot os ps part later can.0.3 can.0.4 can.0.5 can.0.6
+      (λ m inside boot to. here.later sa m inside to (omega arith))
+      sb
+      out
+      (λ u p. (waits_of r (other i) s.theirs s.mine s.their_mail s.my_mail s.trace there sa sb u).fresh (λ y q. omega arith)) in
       record {
         one_port = port-retakes moment i back s.trace v.one_port;
         one_endpoint = endpoint-retakes moment i back s.trace v.one_endpoint;
         silent = silent-retakes moment i back s.trace v.silent;
-        some_synced = inl sa;
+        founded_rightly = founded-retakes moment i back s.trace v.founded_rightly;
+        over_here = v.over_here;
+        over_there = v.over_there;
         here = record {
           synced_is = synced-retakes moment i i back s.trace ∙ here.synced_is;
           up_synced = here.up_synced;
@@ -482,35 +507,42 @@ module _ (r : Ranges) where
           boots = here.boots;
           known = λ u m inside boot. let le : m.to ≤ s.mine.peer = here.known u m inside boot in omega arith;
           peer_at = at_most;
-          later = λ z m inside more. here.later sa m inside (omega arith);
+          later = λ z m inside to more. here.later sa m inside to (omega arith);
           quiet = λ z. flag s.mine.synced sa z;
+          mute = λ u z. flag s.mine.synced sa z;
+          lacks = λ z u y. flag s.mine.synced sa y;
           state = λ z. inr view;
           awaits = λ z u. flag s.mine.synced sa z;
         };
-        there = side_beside r (other i) s.theirs s.mine _ s.their_mail s.my_mail s.trace _ there refl
+        there = side_beside r (other i) s.theirs s.mine (hears s.mine l.boot os ps part) s.their_mail s.my_mail s.trace (retakes i moment back ++ s.trace) there refl
             (synced-retakes moment (other i) i back s.trace ∙ there.synced_is)
             (λ u. goes_other-retakes moment (other i) i s.theirs.table back s.trace (same-not i) (there.goes u))
             (λ u. private_other-retakes moment (other i) i s.theirs.table back s.trace (same-not i) (there.private u))
+            (λ z u y o m n to k. o)
             (λ z. flag s.theirs.synced z sb)
-            (λ z u. let w : Awaits s.theirs s.mine s.my_mail = there.awaits z u in record {
-              letters = λ m n q inside to h. let o : (m.boot ≡ s.mine.boot) × (s.mine.peer ≡ s.theirs.boot) = w.letters m n q inside to h in let p : s.mine.peer ≡ s.theirs.boot = o.1 in absurd (omega arith);
-              fresh = λ q. w.fresh (λ p. omega arith);
+            (λ z u. let w : Waits (other i) s.theirs s.mine s.my_mail s.trace = waits_of r (other i) s.theirs s.mine s.their_mail s.my_mail s.trace there sa z u in inl record {
+              letters = λ m n q inside to new h. let p : s.mine.peer ≡ s.theirs.boot = (w.letters m n q inside to new h).1 in absurd (omega arith);
+              fresh = λ q. w.fresh (λ y p. omega arith);
+              goes = λ y. goes_other-retakes moment (other i) i s.theirs.table back s.trace (same-not i) (w.goes sa);
+              private = λ y. private_other-retakes moment (other i) i s.theirs.table back s.trace (same-not i) (w.private sa);
             });
       }
 
-  off_now : (moment : ℕ) (i : GatewayId) (s : Scene) (back : List Pair) → Inv r i s → s.mine.synced ≡ true → s.theirs.up ≡ false
+  -- the invariant after a word, or a last letter, by which the other's boot of this number is off
+  off_now : (moment : ℕ) (i : GatewayId) (s : Scene) (back : List Pair) (n : ℕ) → Inv r i s → s.mine.synced ≡ true → s.theirs.synced ≡ false → s.mine.peer ≤ n → n ≤ s.theirs.boot → (s.theirs.up ≡ true → n ≡ s.theirs.boot → ⊥)
       → ((p : Pair) → (In p back → is_back (s.mine.table p.key) ≡ Some p.endpoint) × (is_back (s.mine.table p.key) ≡ Some p.endpoint → In p back))
-      → Inv r i (record { mine = put_off s.mine s.theirs.boot; theirs = s.theirs; my_mail = s.my_mail; their_mail = s.their_mail; trace = retakes i moment back ++ s.trace })
-  off_now moment i s back v sa down exact =
+      → Inv r i (record { mine = put_off s.mine n; theirs = s.theirs; my_mail = s.my_mail; their_mail = s.their_mail; trace = retakes i moment back ++ s.trace })
+  off_now moment i s back n v sa sb low high apart exact =
       let here : Side r i s.mine s.theirs s.my_mail s.their_mail s.trace = v.here in
       let there : Side r (other i) s.theirs s.mine s.their_mail s.my_mail s.trace = v.there in
-      let sb : s.theirs.synced ≡ false = elim (cases_Bool s.theirs.synced) [ inl z ↦ flag s.theirs.up (there.up_synced z) down | inr z ↦ z ] in
       let known : Known i s.mine s.theirs s.trace = known_of i s.mine s.theirs s.my_mail s.their_mail s.trace here sa in
       record {
         one_port = port-retakes moment i back s.trace v.one_port;
         one_endpoint = endpoint-retakes moment i back s.trace v.one_endpoint;
         silent = silent-retakes moment i back s.trace v.silent;
-        some_synced = inl sa;
+        founded_rightly = founded-retakes moment i back s.trace v.founded_rightly;
+        over_here = v.over_here;
+        over_there = v.over_there;
         here = record {
           synced_is = synced-retakes moment i i back s.trace ∙ here.synced_is;
           up_synced = here.up_synced;
@@ -519,10 +551,12 @@ module _ (r : Ranges) where
           letters = λ u alone. let bad : true ≡ false = alone sa in absurd (cc);
           barred = λ m p. absurd (cc);
           boots = here.boots;
-          known = λ u m inside boot. (here.boots m inside).1;
-          peer_at = le_refl s.theirs.boot;
-          later = λ z m inside more. let le : m.boot ≤ s.theirs.boot = (there.boots m inside).0 in absurd (omega arith);
+          known = λ u l inside boot. let le : l.to ≤ s.mine.peer = here.known u l inside boot in omega arith;
+          peer_at = high;
+          later = λ z m inside to more. here.later sa m inside to (omega (arith, low, more));
           quiet = λ z. flag s.mine.synced sa z;
+          mute = λ u z. flag s.mine.synced sa z;
+          lacks = λ z u y. flag s.mine.synced sa y;
           state = λ z. inl record {
             lone = refl;
             other_out = sb;
@@ -533,17 +567,42 @@ module _ (r : Ranges) where
             two = λ k q e ne x y. either-retakes moment (pair_of k e) (pair_of q e) i back s.trace (known.two k q e ne (sym (held-revived (s.mine.table k)) ∙ x) (sym (held-revived (s.mine.table q)) ∙ y));
             covers = λ p o. held-revived (s.mine.table p.key) ∙ known.covers (there.synced_is ∙ sb) p (sym (open-retakes moment p i back s.trace) ∙ o);
             sent = refl;
-            unheard = λ u p. absurd (both_ways s.theirs.up down u);
+            unheard = apart;
           };
           awaits = λ z u. flag s.mine.synced sa z;
         };
-        there = side_beside r (other i) s.theirs s.mine _ s.their_mail s.my_mail s.trace _ there refl
+        there = side_beside r (other i) s.theirs s.mine (put_off s.mine n) s.their_mail s.my_mail s.trace (retakes i moment back ++ s.trace) there refl
             (synced-retakes moment (other i) i back s.trace ∙ there.synced_is)
             (λ u. goes_other-retakes moment (other i) i s.theirs.table back s.trace (same-not i) (there.goes u))
             (λ u. private_other-retakes moment (other i) i s.theirs.table back s.trace (same-not i) (there.private u))
+            (λ z u y o m k to x. o)
             (λ z. flag s.theirs.synced z sb)
-            (λ z u. flag s.theirs.up u down);
+            (λ z u. let w : Waits (other i) s.theirs s.mine s.my_mail s.trace = waits_of r (other i) s.theirs s.mine s.their_mail s.my_mail s.trace there sa z u in inl record {
+              letters = λ m k q inside to new h. let p : s.mine.peer ≡ s.theirs.boot = (w.letters m k q inside to new h).1 in absurd (apart u (omega (arith, p, low, high)));
+              fresh = λ q. w.fresh (λ y p. apart u (omega (arith, p, low, high)));
+              goes = λ y. goes_other-retakes moment (other i) i s.theirs.table back s.trace (same-not i) (w.goes sa);
+              private = λ y. private_other-retakes moment (other i) i s.theirs.table back s.trace (same-not i) (w.private sa);
+            });
       }
 
   pub inv_peer_off : (moment : ℕ) (i : GatewayId) (s : Scene) (number : ℕ) (back : List Pair) → Inv r i s → Can r i s (PeerOff number back) → Inv r i (after_act r i moment s (PeerOff number back))
-  inv_peer_off moment i s number back v can = subst (λ (n : ℕ). Inv r i (record { mine = put_off s.mine n; theirs = s.theirs; my_mail = s.my_mail; their_mail = s.their_mail; trace = retakes i moment back ++ s.trace })) (sym can.2.1) (off_now moment i s back v can.0.0 can.2.0 can.0.1)
+  inv_peer_off moment i s number back v can =
+      let at : number ≡ s.theirs.boot = can.2.1 in
+      let low : s.mine.peer ≤ s.theirs.boot = v.here.peer_at in
+      let sb : s.theirs.synced ≡ false = elim (cases_Bool s.theirs.synced) [ inl z ↦ flag s.theirs.up (v.there.up_synced z) can.2.0 | inr z ↦ z ] in
+      off_now moment i s back number v can.0.0 sb (omega (arith, at, low)) (omega (arith, at)) (λ u p. both_ways s.theirs.up can.2.0 u) can.0.1
+
+  pub inv_peer_ends : (moment : ℕ) (i : GatewayId) (s : Scene) (l : Letter) (back : List Pair) → Inv r i s → Can r i s (PeerEnds l back) → Inv r i (after_act r i moment s (PeerEnds l back))
+  inv_peer_ends moment i s l back v can =
+      let sa : s.mine.synced ≡ true = can.0.0 in
+      let at : l.boot ≡ s.mine.peer = can.0.2 in
+      let low : s.mine.peer ≤ s.theirs.boot = v.here.peer_at in
+      let over : s.theirs.up ≡ true → l.boot < s.theirs.boot = λ u. v.over_there u l (can.1 l (inl refl)) can.0.1 in
+      let sb : s.theirs.synced ≡ false = elim (cases_Bool s.theirs.synced) [
+        | inl z ↦ elim (v.here.state sa) [
+          | inl y ↦ flag s.theirs.synced z y.other_out
+          | inr y ↦ let p : s.mine.peer ≡ s.theirs.boot = (y.real z).peer in let less : l.boot < s.theirs.boot = over (v.there.up_synced z) in absurd (omega arith)
+        ]
+        | inr z ↦ z
+      ] in
+      off_now moment i s back l.boot v sa sb (omega (arith, at)) (omega (arith, at, low)) (λ u p. let less : l.boot < s.theirs.boot = over u in omega (arith, less, p)) can.0.4

@@ -2,12 +2,13 @@
 use Rattle.std.specs.Prelude.{◌≡◌, ℕ, suc, Bool, true, false, not, ◌||◌, cond, List, [], ◌∷◌, ◌++◌, ◌==◌, length, ◌<◌, ◌≤◌, ◌+◌, IsTrue, Some, None, ◌⊎◌}
 use Rattle.nat_types.specs.Same.{other}
 use Rattle.nat_types.specs.declared.gateways.GatewayId.{GatewayId}
+use Rattle.nat_types.specs.declared.gateways.GatewayId.TheVariants.{Zero}
 use Rattle.nat_types.specs.declared.notes.Note.{Note}
 use Rattle.nat_types.specs.declared.pairs.Endpoint.{Endpoint}
 use Rattle.nat_types.specs.declared.pairs.Key.{Key}
 use Rattle.nat_types.specs.declared.pairs.Pair.{Pair}
-use Rattle.spec_trace.specs.Past.{is_synced, is_open, was_alone, OnePort, OneEndpoint, Silent}
-use Rattle.spec_pair.specs.Box.{Box, Letter, In, Parcel, nth, empty, load, AreLoadable, batch}
+use Rattle.spec_trace.specs.Past.{is_synced, is_open, was_alone, OnePort, OneEndpoint, Silent, FoundedRightly}
+use Rattle.spec_pair.specs.Box.{Box, Letter, In, IsLacking, Parcel, nth, empty, load, AreLoadable, batch}
 use Rattle.spec_pair.proofs.Phase.{owns, Phase, Nothing, closing, Talks}
 use Rattle.spec_pair.specs.Ownership.{Ranges, Run, keyed, left_to, last_named, AreRising}
 use Rattle.spec_pair.specs.Talk.{Slot, Free, Pending, Doomed, Live, Closing, Held, Alone, held, pair_of, MachineRecord, Install, Accept, Refuse, Ask, Yes, No, Begin, Put, Done, Want, Grant, Owner, Tell}
@@ -118,10 +119,38 @@ abbrev pub grants_in : List MachineRecord → ℕ
 grants_in [] = 0
 grants_in (r ∷ rs) = is_grant r + grants_in rs
 
--- a letter for this life of an unsynced gateway is of the other's present boot, and the other knows that life
-pub record Awaits (a b : Box) (their_mail : List Letter) : Type 0 where
-  pub letters : (l : Letter) (n : ℕ) (r : MachineRecord) → In l their_mail → l.to ≡ a.boot → nth l.records n ≡ Some r → (l.boot ≡ b.boot) × (b.peer ≡ a.boot)
-  pub fresh : (b.peer ≡ a.boot → ⊥) → Fresh a
+-- The last letters that a gateway ever sent are of boots that are over.
+abbrev pub AreOver : Box → List Letter → Type 0
+AreOver a mail = a.up ≡ true → (l : Letter) → In l mail → l.ends ≡ true → l.boot < a.boot
+
+-- An unsynced gateway waits for the other: a letter for this life with a record, of a boot that it still takes records
+-- of, is of the other's present boot, which is synced and knows this life.
+pub record Waits (i : GatewayId) (a b : Box) (their_mail : List Letter) (t : List Note) : Type 0 where
+  pub letters : (l : Letter) (n : ℕ) (r : MachineRecord) → In l their_mail → l.to ≡ a.boot → a.peer ≤ l.boot → nth l.records n ≡ Some r → (l.boot ≡ b.boot) × (b.peer ≡ a.boot) × (b.synced ≡ true)
+  pub fresh : (b.synced ≡ true → b.peer ≡ a.boot → ⊥) → Fresh a
+  -- where the other isn't synced, notes of a loading that was cut off may stand
+  pub goes : b.synced ≡ true → GoesAt i a.table t
+  pub private : b.synced ≡ true → PrivateAt i a.table t
+
+-- An unsynced gateway has what a boot of the other left that crashed, or ended, as the last synced one: its letters are
+-- on their way still, by which the gateway may be loaded. `source` is the other's box as it was then.
+pub record Leaves (i : GatewayId) (source a b : Box) (my_mail their_mail : List Letter) (t : List Note) : Type 0 where
+  pub synced : source.synced ≡ true
+  pub back : source.peer ≡ a.boot
+  pub letters : (l : Letter) (n : ℕ) (r : MachineRecord) → In l their_mail → l.to ≡ a.boot → a.peer ≤ l.boot → nth l.records n ≡ Some r → l.boot ≡ source.boot
+  pub within : (l : Letter) → In l their_mail → l.boot ≡ source.boot → l.to ≡ a.boot → Within l source.sent
+  pub barred : (m : ℕ) → source.promised ≡ Some m → (l : Letter) → In l their_mail → l.boot ≡ source.boot → l.to ≡ a.boot → (n : ℕ) (q : MachineRecord) → nth l.records n ≡ Some q → l.first + n < m
+  pub peer_at : a.peer ≤ source.boot
+  pub older : source.boot ≤ b.boot
+  pub other_out : b.synced ≡ false
+  pub goes : GoesAt i a.table t
+  pub private : PrivateAt i a.table t
+  -- what the other is in a later boot: it has loaded nothing, and nobody knows it
+  pub dead : b.up ≡ true → source.boot < b.boot
+  pub fresh : b.up ≡ true → Fresh b
+  pub their_goes : b.up ≡ true → GoesAt (other i) b.table t
+  pub their_private : b.up ≡ true → PrivateAt (other i) b.table t
+  pub unsaid : b.up ≡ true → (l : Letter) → In l my_mail → l.to < b.boot
 
 module _ (r : Ranges) where
   -- Where the ports are. The ghost owner says of each key whose it is, also while its port is on its way or lost, where
@@ -220,28 +249,42 @@ module _ (r : Ranges) where
     pub sent : a.sent ≡ []
     pub unheard : b.up ≡ true → a.peer ≡ b.boot → ⊥
 
+  -- an unsynced gateway with what a dead boot of the other left, which was as a view says
+  pub record Orphan (i : GatewayId) (a b : Box) (my_mail their_mail : List Letter) (t : List Note) : Type 0 where
+    pub source : Box
+    pub view : View (other i) source a my_mail t
+    pub left : Leaves i source a b my_mail their_mail t
+
   -- what holds of gateway i, at a, beside the other, at b
   pub record Side (i : GatewayId) (a b : Box) (my_mail their_mail : List Letter) (t : List Note) : Type 0 where
     pub synced_is : is_synced i t ≡ a.synced
     pub up_synced : a.synced ≡ true → a.up ≡ true
-    pub goes : a.up ≡ true → GoesAt i a.table t
-    pub private : a.up ≡ true → PrivateAt i a.table t
+    pub goes : a.synced ≡ true → GoesAt i a.table t
+    pub private : a.synced ≡ true → PrivateAt i a.table t
     pub letters : a.up ≡ true → (a.synced ≡ true → a.lone ≡ false) → (l : Letter) → In l my_mail → l.boot ≡ a.boot → l.to ≡ a.peer → Within l a.sent
     pub boots : (l : Letter) → In l my_mail → (l.boot ≤ a.boot) × (l.to ≤ b.boot)
     -- no letter that was sent has a record that is only promised
     pub barred : (m : ℕ) → a.promised ≡ Some m → (l : Letter) → In l my_mail → l.boot ≡ a.boot → l.to ≡ a.peer → (n : ℕ) (q : MachineRecord) → nth l.records n ≡ Some q → l.first + n < m
     pub known : a.up ≡ true → (l : Letter) → In l my_mail → l.boot ≡ a.boot → l.to ≤ a.peer
     pub peer_at : a.peer ≤ b.boot
-    pub later : a.synced ≡ true → (l : Letter) → In l their_mail → a.peer < l.boot → l.records ≡ []
+    pub later : a.synced ≡ true → (l : Letter) → In l their_mail → l.to ≡ a.boot → a.peer < l.boot → l.records ≡ []
     pub quiet : a.synced ≡ false → a.sent ≡ []
+    -- no letter of an unsynced gateway's life has a record
+    pub mute : a.up ≡ true → a.synced ≡ false → (l : Letter) → In l my_mail → l.boot ≡ a.boot → l.records ≡ []
+    -- Where the other told gateway 0, which isn't synced, that it lacks a table, the other isn't synced, and no later
+    -- letter has a record.
+    pub lacks : i ≡ Zero → a.up ≡ true → a.synced ≡ false → (l : Letter) → In l their_mail → l.to ≡ a.boot → IsLacking l
+        → (b.synced ≡ false) × ((m : Letter) → In m their_mail → m.to ≡ a.boot → l.boot ≤ m.boot → m.records ≡ [])
     pub state : a.synced ≡ true → IsLone i a b t ⊎ View i a b their_mail t
-    pub awaits : a.synced ≡ false → a.up ≡ true → Awaits a b their_mail
+    pub awaits : a.synced ≡ false → a.up ≡ true → Waits i a b their_mail t ⊎ Orphan i a b my_mail their_mail t
 
-  -- The invariant: the promises, a synced gateway, and what holds of each of the two.
+  -- The invariant: the promises, what holds of each of the two, and that no last letter is of a present boot.
   pub record Inv (i : GatewayId) (s : Scene) : Type 0 where
     pub one_port : OnePort s.trace
     pub one_endpoint : OneEndpoint s.trace
     pub silent : Silent s.trace
-    pub some_synced : (s.mine.synced ≡ true) ⊎ (s.theirs.synced ≡ true)
+    pub founded_rightly : FoundedRightly s.trace
     pub here : Side i s.mine s.theirs s.my_mail s.their_mail s.trace
     pub there : Side (other i) s.theirs s.mine s.their_mail s.my_mail s.trace
+    pub over_here : AreOver s.mine s.my_mail
+    pub over_there : AreOver s.theirs s.their_mail

@@ -1,13 +1,13 @@
 -- The promises hold of each world that can come about.
-use Rattle.std.proofs.Common.{◌≡◌, ℕ, true, false, not, Bool, ◌⊎◌, ◌||◌, List, [], ◌∷◌, ◌++◌, length, ◌+◌, ◌≤◌, IsTrue, Some, refl, sym, ap, ◌∙◌, inl, inr, ◌↔◌, zero-le, arith}
+use Rattle.std.proofs.Common.{◌≡◌, ℕ, true, false, not, Bool, ◌⊎◌, ◌||◌, List, [], ◌∷◌, ◌++◌, length, ◌+◌, ◌≤◌, IsTrue, None, Some, refl, sym, ap, ◌∙◌, inl, inr, ◌↔◌, zero-le, arith}
 use Rattle.std.proofs.lemmas.Bool.{and_parts, both_ways, cases_Bool, or_left, or_right}
 use Rattle.nat_types.specs.declared.gateways.GatewayId.{GatewayId}
 use Rattle.nat_types.specs.declared.gateways.GatewayId.TheVariants.{Zero, One}
 use Rattle.nat_types.specs.declared.notes.Note.{Note}
 use Rattle.nat_types.specs.declared.pairs.Pair.{Pair}
 use Rattle.spec_trace.specs.Past.{is_synced, is_open, goes_on, is_private, IsHeldApart}
-use Rattle.spec_pair.specs.Acts.{Act, Do, Take, Hear, HandIn, Ignore, HearAnew, PeerOff, LoadBegin, LoadOwner, LoadPut, LoadDone, LoadSkip, WantPorts, GrantPorts, TakePorts, LosePorts, Send, LoneNew, LoneUse, LoneDrop, Crash, Boot}
-use Rattle.spec_pair.specs.Box.{Box, Letter}
+use Rattle.spec_pair.specs.Acts.{Act, Do, Take, Hear, HandIn, Ignore, HearAnew, PeerOff, LoadBegin, LoadOwner, LoadPut, LoadDone, LoadSkip, WantPorts, GrantPorts, TakePorts, LosePorts, Send, LoneNew, LoneUse, LoneDrop, PeerEnds, Found, Crash, End, Boot, BootFounding}
+use Rattle.spec_pair.specs.Box.{Box, Letter, never}
 use Rattle.spec_pair.proofs.Invariant.{bit, gifts, Real, View, Side, Inv}
 use Rattle.spec_pair.specs.Ownership.{Ranges, keyed}
 use Rattle.spec_pair.proofs.Phase.{owns, owner_slot, alone_in, slot_at}
@@ -17,16 +17,17 @@ use Rattle.nat_types.specs.Same.{other}
 use Rattle.nat_types.proofs.Offered.{same-eq}
 use Rattle.spec_pair.specs.Talk.{held, MachineRecord}
 use Rattle.spec_pair.proofs.Traced.{GoesAt}
-use Rattle.spec_pair.specs.World.{HasOwners, Scene, flip, Can, after_act, MachineEvent, seen_by, after_event, after_events, AreAllowed, founding, tables_of, TableHolds, TableTranslates, IsKept, both}
+use Rattle.spec_pair.specs.World.{HasOwners, Scene, flip, Can, after_act, MachineEvent, seen_by, after_event, after_events, AreAllowed, beginning, founding, nobody, tables_of, TableHolds, TableTranslates, IsKept, both}
 use Rattle.spec_pair.proofs.Acts.{inv_do, inv_take}
 use Rattle.spec_pair.proofs.Cursor.{inv_hand_in, inv_ignore}
-use Rattle.spec_pair.proofs.Hearing.{inv_hear, inv_peer_off, known_of}
+use Rattle.spec_pair.proofs.Founding.{inv_found, inv_boot_founding}
+use Rattle.spec_pair.proofs.Hearing.{inv_hear, inv_peer_off, inv_peer_ends, known_of}
 use Rattle.spec_pair.proofs.Lives.{inv_crash, inv_boot, inv_hear_anew}
 use Rattle.spec_pair.proofs.Loading.{inv_load_begin, inv_load_owner, inv_load_put, inv_load_done, inv_load_skip}
 use Rattle.spec_pair.proofs.Lone.{inv_lone_new, inv_lone_use, inv_lone_drop}
 use Rattle.spec_pair.proofs.Mirror.{inv_flip}
 use Rattle.spec_pair.proofs.Granting.{inv_want, inv_grant, inv_take_ports, inv_lose_ports, bit_true, bit_most}
-use Rattle.spec_pair.proofs.Sending.{inv_send}
+use Rattle.spec_pair.proofs.Sending.{inv_send, inv_end}
 
 module _ (r : Ranges) where
   pub inv_act : (moment : ℕ) (i : GatewayId) (s : Scene) (x : Act) → Inv r i s → Can r i s x → Inv r i (after_act r i moment s x)
@@ -36,6 +37,8 @@ module _ (r : Ranges) where
   inv_act moment i s HandIn v can = inv_hand_in r moment i s v can
   inv_act moment i s (Ignore l n q) v can = inv_ignore r moment i s l n q v can
   inv_act moment i s (PeerOff number back) v can = inv_peer_off r moment i s number back v can
+  inv_act moment i s (PeerEnds l back) v can = inv_peer_ends r moment i s l back v can
+  inv_act moment i s (Found l os part) v can = inv_found r moment i s l os part v can
   inv_act moment i s (HearAnew l) v can = inv_hear_anew r moment i s l v can
   inv_act moment i s (LoadBegin l n) v can = inv_load_begin r moment i s l n v can
   inv_act moment i s (LoadOwner l n a b) v can = inv_load_owner r moment i s l n a b v can
@@ -51,7 +54,9 @@ module _ (r : Ranges) where
   inv_act moment i s (LoneUse k e counts) v can = inv_lone_use r moment i s k e counts v can
   inv_act moment i s (LoneDrop k e) v can = inv_lone_drop r moment i s k e v can
   inv_act moment i s Crash v can = inv_crash r moment i s v can
+  inv_act moment i s (End first count) v can = inv_end r moment i s first count v can
   inv_act moment i s (Boot n) v can = inv_boot r moment i s n v can
+  inv_act moment i s (BootFounding n) v can = inv_boot_founding r moment i s n v can
 
   pub inv_by : (moment : ℕ) (by : GatewayId) (act : Act) (s : Scene) → Inv r Zero s → Can r by (seen_by by s) act → Inv r Zero (seen_by by (after_act r by moment (seen_by by s) act))
   inv_by moment Zero act s v can = inv_act moment Zero s act v can
@@ -61,42 +66,66 @@ module _ (r : Ranges) where
   inv_run [] s v can = v
   inv_run (e ∷ es) s v can = inv_run es (after_event r s e) (inv_by e.moment e.by e.act s v can.0) can.1
 
-  pub inv_start : Inv r Zero (founding r)
-  inv_start = record {
+  -- a gateway that is down, and of which no letter was sent
+  side_down : (i : GatewayId) (a b : Box) (t : List Note) → a.up ≡ false → a.synced ≡ false → a.sent ≡ [] → a.peer ≡ 0 → a.promised ≡ None → is_synced i t ≡ false → Side r i a b [] [] t
+  side_down i a b t down off sent peer promised out = record {
+    synced_is = out ∙ sym off;
+    up_synced = λ z. absurd (both_ways a.synced off z);
+    goes = λ z. absurd (both_ways a.synced off z);
+    private = λ z. absurd (both_ways a.synced off z);
+    letters = λ u alone l inside. absurd inside;
+    barred = λ m p l inside. absurd inside;
+    boots = λ l inside. absurd inside;
+    known = λ u l inside. absurd inside;
+    peer_at = omega (arith, peer);
+    later = λ z l inside. absurd inside;
+    quiet = λ z. sent;
+    mute = λ u z l inside. absurd inside;
+    lacks = λ z u y l inside. absurd inside;
+    state = λ z. absurd (both_ways a.synced off z);
+    awaits = λ z u. absurd (both_ways a.up down u);
+  }
+
+  founding_here : Side r Zero (founding r).mine (founding r).theirs [] [] []
+  founding_here = record {
+    synced_is = refl;
+    up_synced = λ z. refl;
+    goes = λ u p. (λ h. absurd (cc), λ h. absurd (cc));
+    private = λ u p. (λ h. absurd (cc), λ h. absurd (cc));
+    letters = λ u alone l inside. absurd inside;
+    barred = λ m p. absurd (cc);
+    boots = λ l inside. absurd inside;
+    known = λ u l inside. absurd inside;
+    peer_at = zero-le;
+    later = λ z l inside. absurd inside;
+    quiet = λ z. refl;
+    mute = λ u z l inside. absurd inside;
+    lacks = λ z u y l inside. absurd inside;
+    state = λ z. inl record { lone = refl; other_out = refl; proper = λ k. refl; within = λ p h. (and_parts (r.in_ranges p) (r.at_start Zero p) h).0; nowhere = λ k h. refl; one_each = λ k q e alike h. absurd (cc); two = λ k q e ne h. absurd (cc); covers = λ p o. absurd (cc); sent = refl; unheard = λ u. absurd (cc) };
+    awaits = λ z. absurd (cc);
+  }
+
+  -- the invariant holds at both beginnings
+  pub inv_start : (founded : Bool) → Inv r Zero (beginning r founded)
+  inv_start true = record {
     one_port = tt;
     one_endpoint = tt;
     silent = tt;
-    some_synced = inl refl;
-    here = record {
-      synced_is = refl;
-      up_synced = λ z. refl;
-      goes = λ u p. (λ h. absurd (cc), λ h. absurd (cc));
-      private = λ u p. (λ h. absurd (cc), λ h. absurd (cc));
-      letters = λ u alone l inside. absurd inside;
-      barred = λ m p. absurd (cc);
-      boots = λ l inside. absurd inside;
-      known = λ u l inside. absurd inside;
-      peer_at = zero-le;
-      later = λ z l inside. absurd inside;
-      quiet = λ z. refl;
-      state = λ z. inl record { lone = refl; other_out = refl; proper = λ k. refl; within = λ p h. (and_parts (r.in_ranges p) (r.at_start p) h).0; nowhere = λ k h. refl; one_each = λ k q e alike h. absurd (cc); two = λ k q e ne h. absurd (cc); covers = λ p o. absurd (cc); sent = refl; unheard = λ u. absurd (cc) };
-      awaits = λ z. absurd (cc);
-    };
-    there = record {
-      synced_is = refl;
-      up_synced = λ z. absurd (cc);
-      goes = λ u. absurd (cc);
-      private = λ u. absurd (cc);
-      letters = λ u. absurd (cc);
-      barred = λ m p. absurd (cc);
-      boots = λ l inside. absurd inside;
-      known = λ u. absurd (cc);
-      peer_at = zero-le;
-      later = λ z. absurd (cc);
-      quiet = λ z. refl;
-      state = λ z. absurd (cc);
-      awaits = λ z u. absurd (cc);
-    };
+    founded_rightly = tt;
+    here = founding_here;
+    there = side_down One never (founding r).mine [] refl refl refl refl refl refl;
+    over_here = λ u l inside. absurd inside;
+    over_there = λ u l inside. absurd inside;
+  }
+  inv_start false = record {
+    one_port = (tt, tt);
+    one_endpoint = (tt, tt);
+    silent = (tt, tt);
+    founded_rightly = (tt, tt);
+    here = side_down Zero never never nobody.trace refl refl refl refl refl refl;
+    there = side_down One never never nobody.trace refl refl refl refl refl refl;
+    over_here = λ u l inside. absurd inside;
+    over_there = λ u l inside. absurd inside;
   }
 
   -- what a gateway's side says of an open pair: it holds the pair, or the other gateway has it alone or marked
@@ -114,13 +143,13 @@ module _ (r : Ranges) where
             let synced : is_synced (other i) t ≡ true = ap (λ g. is_synced g t) theirs ∙ one.1 in
             let sb : b.synced ≡ true = sym there.synced_is ∙ synced in
             let at : b.table p.key ≡ owner_slot (x.phase p.key) = (x.real sb).table_is p.key ∙ x.talks.there.slots p.key ∙ ap (λ c. slot_at c (x.phase p.key)) its in
-            inr (synced, (there.private (there.up_synced sb) p).1 (ap alone_in at ∙ one.2), ap held at ∙ alone_held (owner_slot (x.phase p.key)) p.endpoint one.2)
+            inr (synced, (there.private sb p).1 (ap alone_in at ∙ one.2), ap held at ∙ alone_held (owner_slot (x.phase p.key)) p.endpoint one.2)
       ]
     ]
   ]
 
   side_goes : (i : GatewayId) (a b : Box) (ma mb : List Letter) (t : List Note) → Side r i a b ma mb t → IsTrue (is_synced i t) → GoesAt i a.table t
-  side_goes i a b ma mb t side s = side.goes (side.up_synced (sym side.synced_is ∙ s))
+  side_goes i a b ma mb t side s = side.goes (sym side.synced_is ∙ s)
 
   kept : (s : Scene) → Inv r Zero s → (p : Pair) → IsTrue (is_open p s.trace) → (i : GatewayId) → IsTrue (is_synced i s.trace) → TableHolds (tables_of s) i p ⊎ IsHeldApart (TableHolds (tables_of s)) p s.trace
   kept s v p o Zero z = elim (side_holds Zero s.mine s.theirs s.my_mail s.their_mail s.trace v.here v.there p o (sym v.here.synced_is ∙ z)) [ inl h ↦ inl h | inr h ↦ inr (One, h.0, h.1, h.2) ]
@@ -159,10 +188,10 @@ module _ (r : Ranges) where
   goes s v One z p = side_goes One s.theirs s.mine s.their_mail s.my_mail s.trace v.there z p
 
   pub is_kept : (s : Scene) → Inv r Zero s → IsKept s.trace (tables_of s)
-  is_kept s v = record { one_port = v.one_port; one_endpoint = v.one_endpoint; at_most_two = at_most_two s v; kept = kept s v; silent = v.silent; goes_on = goes s v }
+  is_kept s v = record { one_port = v.one_port; one_endpoint = v.one_endpoint; at_most_two = at_most_two s v; kept = kept s v; silent = v.silent; founded_rightly = v.founded_rightly; goes_on = goes s v }
 
-  pub always_kept : (es : List MachineEvent) → AreAllowed r es (founding r) → IsKept (after_events r es (founding r)).trace (tables_of (after_events r es (founding r)))
-  always_kept es can = is_kept (after_events r es (founding r)) (inv_run es (founding r) inv_start can)
+  pub always_kept : (founded : Bool) (es : List MachineEvent) → AreAllowed r es (beginning r founded) → IsKept (after_events r es (beginning r founded)).trace (tables_of (after_events r es (beginning r founded)))
+  always_kept founded es can = is_kept (after_events r es (beginning r founded)) (inv_run es (beginning r founded) (inv_start founded) can)
 
   length-append : (xs ys : List MachineRecord) → length (xs ++ ys) ≡ length xs + length ys
   length-append [] ys = omega arith
@@ -213,5 +242,5 @@ module _ (r : Ranges) where
     within = ports_within s v;
   }
 
-  pub always_owned : (es : List MachineEvent) → AreAllowed r es (founding r) → HasOwners r (after_events r es (founding r))
-  always_owned es can = has_owners (after_events r es (founding r)) (inv_run es (founding r) inv_start can)
+  pub always_owned : (founded : Bool) (es : List MachineEvent) → AreAllowed r es (beginning r founded) → HasOwners r (after_events r es (beginning r founded))
+  always_owned founded es can = has_owners (after_events r es (beginning r founded)) (inv_run es (beginning r founded) (inv_start founded) can)

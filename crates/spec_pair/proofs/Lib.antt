@@ -15,11 +15,12 @@ mod Grants
 mod Lists
 mod Mirror
 mod Acts
-mod Sending
 mod Lives
+mod Sending
 mod Granting
 mod Loading
 mod Hearing
+mod Founding
 mod Lone
 mod Cursor
 mod Kept

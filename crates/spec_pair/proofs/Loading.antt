@@ -9,11 +9,11 @@ use Rattle.nat_types.specs.declared.notes.Note.{Note}
 use Rattle.nat_types.specs.declared.pairs.Endpoint.{Endpoint}
 use Rattle.nat_types.specs.declared.pairs.Key.{Key}
 use Rattle.nat_types.specs.declared.pairs.Pair.{Pair}
-use Rattle.spec_trace.specs.Past.{is_synced, OnePort, OneEndpoint, Silent}
+use Rattle.spec_trace.specs.Past.{is_synced, OnePort, OneEndpoint, Silent, FoundedRightly}
 use Rattle.spec_pair.specs.Acts.{LoadOwner, LoadBegin, LoadPut, LoadDone, LoadSkip, IsMisplaced}
 use Rattle.spec_pair.specs.Box.{owners, takes_owner, Box, Letter, Parcel, record_of, with_pair, HasRoomFor, HasRoom, nth, empty, load, loaded_slot, puts, batch, takes_begin, takes_put, takes_done, In, StandsNext, AreLoadable}
-use Rattle.spec_pair.proofs.Beside.{side_beside, view_beside}
-use Rattle.spec_pair.proofs.Invariant.{Within, Fresh, Naming, Part, Loads, Real, View, Awaits, Side, Inv}
+use Rattle.spec_pair.proofs.Beside.{side_beside, view_beside, waits_none, waits_of}
+use Rattle.spec_pair.proofs.Invariant.{Within, Fresh, Leaves, Naming, Orphan, Part, Loads, Real, View, Waits, Side, Inv}
 use Rattle.spec_pair.proofs.Phase.{owns, Phase, closing, covered, alone_in}
 use Rattle.spec_pair.specs.Ownership.{Ranges, Run, keyed, left_to, cut, cuts, in_run, last_named, AreRising, IsRisingRun}
 use Rattle.spec_pair.specs.Talk.{Slot, Free, Live, Held, held, held_on, translated, MachineRecord, Put, Owner, Tell, set_at, note, Done, Begin}
@@ -23,7 +23,6 @@ use Rattle.spec_pair.proofs.Acts.{same-not}
 use Rattle.spec_pair.proofs.Covers.{goes_quiet, goes_in, goes_other, private_quiet, private_out, private_other, lets_go_retake}
 use Rattle.spec_pair.proofs.Inversions.{covered_more, none_some}
 use Rattle.spec_pair.proofs.Lists.{length_last}
-use Rattle.spec_pair.proofs.Lives.{other_synced}
 use Rattle.spec_pair.proofs.Mirror.{mirror}
 use Rattle.spec_pair.proofs.Set.{set_same, set_other}
 
@@ -140,56 +139,149 @@ some_run (o ∷ back) rs out q h = inr (o, back, refl, sym (some_record (Owner o
 run_of : ℕ → ℕ → Run
 run_of a b = record { first = a; last = b }
 
-module _ (r : Ranges) where
-  -- What an unsynced gateway reads: the next record of the session's batch after those that it took.
-  pub record Reading (i : GatewayId) (s : Scene) (q : MachineRecord) : Type 0 where
-    pub view : View r (other i) s.theirs s.mine s.my_mail s.trace
-    pub loads : Loads r (other i) s.theirs s.mine view.phase view.owner view.table view.their_owned view.their_want view.gone view.heard view.inn
-    pub back : s.theirs.peer ≡ s.mine.boot
-    pub peer : s.mine.peer ≡ s.theirs.boot
-    pub stands : nth (batch loads.os loads.ps ++ view.out) s.mine.taken ≡ Some q
+-- a list of which no record is the first is empty
+no_records : (xs : List MachineRecord) → ((q : MachineRecord) → nth xs 0 ≡ Some q → ⊥) → xs ≡ []
+no_records [] none = refl
+no_records (q ∷ xs) none = absurd (none q refl)
 
-  pub reading : (i : GatewayId) (s : Scene) (l : Letter) (n : ℕ) (q : MachineRecord) → Inv r i s → s.mine.synced ≡ false → In l s.their_mail → StandsNext s.mine l n q → Reading i s q
-  reading i s l n q v sa sent x =
-      let here : Side r i s.mine s.theirs s.my_mail s.their_mail s.trace = v.here in
+module _ (r : Ranges) where
+  -- What an unsynced gateway reads: the next record of the session's batch after those that it took. The batch is that of
+  -- `source`, which is the other as it is, or as it was when it crashed as the last synced one.
+  pub record Reading (i : GatewayId) (s : Scene) (q : MachineRecord) : Type 0 where
+    pub source : Box
+    pub synced : source.synced ≡ true
+    pub view : View r (other i) source s.mine s.my_mail s.trace
+    pub loads : Loads r (other i) source s.mine view.phase view.owner view.table view.their_owned view.their_want view.gone view.heard view.inn
+    pub back : source.peer ≡ s.mine.boot
+    pub peer : s.mine.peer ≡ source.boot
+    pub stands : nth (batch loads.os loads.ps ++ view.out) s.mine.taken ≡ Some q
+    pub bar : (m : ℕ) → source.promised ≡ Some m → s.mine.taken < m
+    pub within : (l : Letter) → In l s.their_mail → l.boot ≡ source.boot → l.to ≡ source.peer → Within l source.sent
+    pub goes : GoesAt i s.mine.table s.trace
+    pub private : PrivateAt i s.mine.table s.trace
+    pub whence : ((s.theirs.synced ≡ true) × (source ≡ s.theirs)) ⊎ Leaves i source s.mine s.theirs s.my_mail s.their_mail s.trace
+
+  stands_at : (sent gone out rest : List MachineRecord) (n m : ℕ) (q : MachineRecord) → sent ≡ gone ++ out → gone ≡ rest → n ≡ m → nth sent n ≡ Some q → nth (rest ++ out) m ≡ Some q
+  stands_at sent gone out rest n m q whole batch_is number h = ap (λ y. nth (y ++ out) m) (sym batch_is) ∙ ap (λ y. nth y m) (sym whole) ∙ ap (nth sent) (sym number) ∙ h
+
+  reading_live : (i : GatewayId) (s : Scene) (l : Letter) (n : ℕ) (q : MachineRecord) → Inv r i s → Waits i s.mine s.theirs s.their_mail s.trace → s.mine.synced ≡ false → In l s.their_mail → StandsNext s.mine l n q → Reading i s q
+  reading_live i s l n q v w sa sent x =
       let there : Side r (other i) s.theirs s.mine s.their_mail s.my_mail s.trace = v.there in
-      let sb : s.theirs.synced ≡ true = other_synced r i s v sa in
-      let from : (l.boot ≡ s.theirs.boot) × (s.theirs.peer ≡ s.mine.boot) = (here.awaits sa x.up).letters l n q sent x.to x.record_is in
+      let knows : l.boot ≡ s.mine.peer = x.boot in
+      let from : (l.boot ≡ s.theirs.boot) × (s.theirs.peer ≡ s.mine.boot) × (s.theirs.synced ≡ true) = w.letters l n q sent x.to (omega (arith, knows)) x.record_is in
+      let sb : s.theirs.synced ≡ true = from.2 in
       let view : View r (other i) s.theirs s.mine s.my_mail s.trace = elim (there.state sb) [ inl y ↦ absurd (y.unheard x.up from.1) | inr y ↦ y ] in
       let loads : Loads r (other i) s.theirs s.mine view.phase view.owner view.table view.their_owned view.their_want view.gone view.heard view.inn = view.loads sa x.up from.1 in
-      let stands : nth s.theirs.sent (l.first + n) ≡ Some q = there.letters (there.up_synced sb) (λ z. view.lone) l sent from.0 (x.to ∙ sym from.1) n q x.record_is in
       record {
+        source = s.theirs;
+        synced = sb;
         view = view;
         loads = loads;
         back = from.1;
         peer = sym x.boot ∙ from.0;
-        stands = ap (λ y. nth (y ++ view.out) s.mine.taken) (sym loads.batch_is) ∙ ap (λ y. nth y s.mine.taken) (sym view.sent) ∙ ap (nth s.theirs.sent) (sym x.number) ∙ stands;
+        stands = stands_at s.theirs.sent view.gone view.out (batch loads.os loads.ps) (l.first + n) s.mine.taken q view.sent loads.batch_is x.number (there.letters (there.up_synced sb) (λ z. view.lone) l sent from.0 (x.to ∙ sym from.1) n q x.record_is);
+        bar = λ m p. (let less : l.first + n < m = there.barred m p l sent from.0 (x.to ∙ sym from.1) n q x.record_is in let at : l.first + n ≡ s.mine.taken = x.number in omega arith);
+        within = there.letters (there.up_synced sb) (λ z. view.lone);
+        goes = w.goes sb;
+        private = w.private sb;
+        whence = inl (sb, refl);
       }
+
+  reading_left : (i : GatewayId) (s : Scene) (l : Letter) (n : ℕ) (q : MachineRecord) → Orphan r i s.mine s.theirs s.my_mail s.their_mail s.trace → s.mine.synced ≡ false → In l s.their_mail → StandsNext s.mine l n q → Reading i s q
+  reading_left i s l n q o sa sent x =
+      let knows : l.boot ≡ s.mine.peer = x.boot in
+      let from : l.boot ≡ o.source.boot = o.left.letters l n q sent x.to (omega (arith, knows)) x.record_is in
+      let loads : Loads r (other i) o.source s.mine o.view.phase o.view.owner o.view.table o.view.their_owned o.view.their_want o.view.gone o.view.heard o.view.inn = o.view.loads sa x.up o.left.back in
+      record {
+        source = o.source;
+        synced = o.left.synced;
+        view = o.view;
+        loads = loads;
+        back = o.left.back;
+        peer = sym x.boot ∙ from;
+        stands = stands_at o.source.sent o.view.gone o.view.out (batch loads.os loads.ps) (l.first + n) s.mine.taken q o.view.sent loads.batch_is x.number (o.left.within l sent from x.to n q x.record_is);
+        bar = λ m p. (let less : l.first + n < m = o.left.barred m p l sent from x.to n q x.record_is in let at : l.first + n ≡ s.mine.taken = x.number in omega arith);
+        within = λ m inside boot to. o.left.within m inside boot (to ∙ o.left.back);
+        goes = o.left.goes;
+        private = o.left.private;
+        whence = inr o.left;
+      }
+
+  pub reading : (i : GatewayId) (s : Scene) (l : Letter) (n : ℕ) (q : MachineRecord) → Inv r i s → s.mine.synced ≡ false → In l s.their_mail → StandsNext s.mine l n q → Reading i s q
+  reading i s l n q v sa sent x = elim (v.here.awaits sa x.up) [ inl w ↦ reading_live i s l n q v w sa sent x | inr o ↦ reading_left i s l n q o sa sent x ]
+
+  -- what a loading gateway waits for, or was left, after a step that leaves it unsynced
+  still_awaits : (i : GatewayId) (s : Scene) (a2 : Box) (t2 : List Note) (q : MachineRecord) (x : Reading i s q) → Side r i s.mine s.theirs s.my_mail s.their_mail s.trace → s.mine.synced ≡ false
+      → a2.up ≡ s.mine.up → a2.boot ≡ s.mine.boot → a2.peer ≡ s.mine.peer → a2.up ≡ true
+      → View r (other i) x.source a2 s.my_mail t2 → GoesAt i a2.table t2 → PrivateAt i a2.table t2
+      → ((table : Key → Slot) → GoesAt (other i) table s.trace → GoesAt (other i) table t2) → ((table : Key → Slot) → PrivateAt (other i) table s.trace → PrivateAt (other i) table t2)
+      → Waits i a2 s.theirs s.their_mail t2 ⊎ Orphan r i a2 s.theirs s.my_mail s.their_mail t2
+  still_awaits i s a2 t2 q x here sa up boot peer u view goes private goes_there private_there = elim x.whence [
+    | inl live ↦
+        let w : Waits i s.mine s.theirs s.their_mail s.trace = waits_of r i s.mine s.theirs s.my_mail s.their_mail s.trace here live.0 sa (sym up ∙ u) in
+        inl record {
+          letters = λ l n z inside to new nn. let o : (l.boot ≡ s.theirs.boot) × (s.theirs.peer ≡ s.mine.boot) × (s.theirs.synced ≡ true) = w.letters l n z inside (to ∙ boot) (omega (arith, peer, new)) nn in (o.0, o.1 ∙ sym boot, o.2);
+          fresh = λ z. absurd (z live.0 (ap (λ (b : Box). b.peer) (sym live.1) ∙ x.back ∙ sym boot));
+          goes = λ z. goes;
+          private = λ z. private;
+        }
+    | inr left ↦ inr record {
+      source = x.source;
+      view = view;
+      left = record {
+        synced = left.synced;
+        back = left.back ∙ sym boot;
+        letters = λ l n z inside to new nn. left.letters l n z inside (to ∙ boot) (omega (arith, peer, new)) nn;
+        within = λ l inside lb to. left.within l inside lb (to ∙ boot);
+        barred = λ m p l inside lb to. left.barred m p l inside lb (to ∙ boot);
+        peer_at = (let o : s.mine.peer ≤ x.source.boot = left.peer_at in omega (arith, peer, o));
+        older = left.older;
+        other_out = left.other_out;
+        goes = goes;
+        private = private;
+        dead = left.dead;
+        fresh = left.fresh;
+        their_goes = λ z. goes_there s.theirs.table (left.their_goes z);
+        their_private = λ z. private_there s.theirs.table (left.their_private z);
+        unsaid = left.unsaid;
+      };
+    }
+  ]
 
   -- the invariant after a step of the loading that leaves the gateway unsynced
   still_loading : (i : GatewayId) (s : Scene) (a2 : Box) (t2 : List Note) (q : MachineRecord) → Inv r i s → Reading i s q → s.mine.synced ≡ false
       → a2.up ≡ s.mine.up → a2.boot ≡ s.mine.boot → a2.synced ≡ false → a2.peer ≡ s.mine.peer → a2.sent ≡ s.mine.sent → a2.promised ≡ s.mine.promised
-      → (g : ((j : GatewayId) → is_synced j t2 ≡ is_synced j s.trace)) → OnePort t2 → OneEndpoint t2 → Silent t2
-      → (s.mine.up ≡ true → GoesAt i a2.table t2) → ((table : Key → Slot) → GoesAt (other i) table s.trace → GoesAt (other i) table t2)
-      → (s.mine.up ≡ true → PrivateAt i a2.table t2) → ((table : Key → Slot) → PrivateAt (other i) table s.trace → PrivateAt (other i) table t2)
+      → (g : ((j : GatewayId) → is_synced j t2 ≡ is_synced j s.trace)) → OnePort t2 → OneEndpoint t2 → Silent t2 → FoundedRightly t2
+      → GoesAt i a2.table t2 → ((table : Key → Slot) → GoesAt (other i) table s.trace → GoesAt (other i) table t2)
+      → PrivateAt i a2.table t2 → ((table : Key → Slot) → PrivateAt (other i) table s.trace → PrivateAt (other i) table t2)
       → ((owner : Key → GatewayId) (ph : Key → Phase) → Covers owner ph s.trace → Covers owner ph t2) → ((owner : Key → GatewayId) (g : GatewayId) (ph : Key → Phase) → LetsGo owner g ph s.trace → LetsGo owner g ph t2)
       → ((ph : Key → Phase) → WereAlone ph s.trace → WereAlone ph t2) → ((owner : Key → GatewayId) (ph : Key → Phase) → TwoAlone owner ph s.trace → TwoAlone owner ph t2)
-      → ((x : Reading i s q) → Naming r (other (other i)) s.theirs a2 x.loads.os ⊎ Part r (other (other i)) s.theirs a2 x.loads.os x.loads.ps)
+      → ((x : Reading i s q) → Naming r (other (other i)) x.source a2 x.loads.os ⊎ Part r (other (other i)) x.source a2 x.loads.os x.loads.ps)
       → Inv r i (record { mine = a2; theirs = s.theirs; my_mail = s.my_mail; their_mail = s.their_mail; trace = t2 })
-  still_loading i s a2 t2 q v x sa up boot sa2 peer sent prom same_synced port endpoint silent goes goes_there private private_there covers lets were two part =
+  still_loading i s a2 t2 q v x sa up boot sa2 peer sent prom same_synced port endpoint silent founded goes goes_there private private_there covers lets were two part =
       let here : Side r i s.mine s.theirs s.my_mail s.their_mail s.trace = v.here in
       let there : Side r (other i) s.theirs s.mine s.their_mail s.my_mail s.trace = v.there in
-      let sb : s.theirs.synced ≡ true = other_synced r i s v sa in
+      let view : View r (other i) x.source a2 s.my_mail t2 = view_beside r (other i) x.source s.mine a2 s.my_mail s.my_mail s.trace t2 x.view
+      x.view.letters
+      (covers x.view.owner x.view.phase x.view.covers)
+      (λ g. lets x.view.owner g x.view.phase (x.view.lets g))
+      (were x.view.phase x.view.were)
+      (two x.view.owner x.view.phase x.view.two)
+      (λ z. flag a2.synced z sa2)
+      (λ m p. ((x.view.owes m p).0, sa2))
+      (λ z u p. record { os = x.loads.os; ps = x.loads.ps; rising = x.loads.rising; owned_is = x.loads.owned_is; want_is = x.loads.want_is; batch_is = x.loads.batch_is; heard_is = x.loads.heard_is; inn_is = x.loads.inn_is; are_new = x.loads.are_new; bar = x.loads.bar; table_is = x.loads.table_is; none_closing = x.loads.none_closing; progress = inr (part x) }) in
       record {
         one_port = port;
         one_endpoint = endpoint;
         silent = silent;
-        some_synced = inr sb;
+        founded_rightly = founded;
+        over_here = λ u l inside ends. (let less : l.boot < s.mine.boot = v.over_here (sym up ∙ u) l inside ends in omega (arith, boot, less));
+        over_there = v.over_there;
         here = record {
           synced_is = same_synced i ∙ here.synced_is ∙ sa ∙ sym sa2;
           up_synced = λ h. flag a2.synced h sa2;
-          goes = λ u. goes (sym up ∙ u);
-          private = λ u. private (sym up ∙ u);
+          goes = λ h. flag a2.synced h sa2;
+          private = λ h. flag a2.synced h sa2;
           letters = λ u alone l inside lb lt. subst (Within l) (sym sent) (here.letters (sym up ∙ u) (λ z. flag s.mine.synced z sa) l inside (lb ∙ boot) (lt ∙ peer));
           barred = λ m p l inside lb lt. here.barred m (sym prom ∙ p) l inside (lb ∙ boot) (lt ∙ peer);
           boots = λ l inside. let o : (l.boot ≤ s.mine.boot) × (l.to ≤ s.theirs.boot) = here.boots l inside in (omega (arith, o.0), o.1);
@@ -197,47 +289,34 @@ module _ (r : Ranges) where
           peer_at = (let o : s.mine.peer ≤ s.theirs.boot = here.peer_at in omega arith);
           later = λ h. flag a2.synced h sa2;
           quiet = λ h. sent ∙ here.quiet sa;
+          mute = λ u h l inside lb. here.mute (sym up ∙ u) sa l inside (lb ∙ boot);
+          lacks = λ z u h l inside to k.
+              let o : (s.theirs.synced ≡ false) × ((m : Letter) → In m s.their_mail → m.to ≡ s.mine.boot → l.boot ≤ m.boot → m.records ≡ []) = here.lacks z (sym up ∙ u) sa l inside (to ∙ boot) k in
+              (o.0, λ m within to2 le. o.1 m within (to2 ∙ boot) le);
           state = λ h. flag a2.synced h sa2;
-          awaits = λ h u. let w : Awaits s.mine s.theirs s.their_mail = here.awaits sa (sym up ∙ u) in
-              record {
-                letters = λ l n z inside to nn. let o : (l.boot ≡ s.theirs.boot) × (s.theirs.peer ≡ s.mine.boot) = w.letters l n z inside (to ∙ boot) nn in (o.0, o.1 ∙ sym boot);
-                fresh = λ z. absurd (z (x.back ∙ sym boot));
-              };
+          awaits = λ h u. still_awaits i s a2 t2 q x here sa up boot peer u view goes private goes_there private_there;
         };
-        there = record {
-          synced_is = same_synced (other i) ∙ there.synced_is;
-          up_synced = there.up_synced;
-          goes = λ u. goes_there s.theirs.table (there.goes u);
-          private = λ u. private_there s.theirs.table (there.private u);
-          letters = there.letters;
-          barred = there.barred;
-          boots = λ l inside. let o : (l.boot ≤ s.theirs.boot) × (l.to ≤ s.mine.boot) = there.boots l inside in (o.0, omega (arith, o.1));
-          known = there.known;
-          peer_at = (let o : s.theirs.peer ≤ s.mine.boot = there.peer_at in omega arith);
-          later = there.later;
-          quiet = there.quiet;
-          state = λ h. inr (view_beside r (other i) s.theirs s.mine _ s.my_mail _ s.trace _ x.view
-              x.view.letters
-              (covers x.view.owner x.view.phase x.view.covers)
-              (λ g. lets x.view.owner g x.view.phase (x.view.lets g))
-              (were x.view.phase x.view.were)
-              (two x.view.owner x.view.phase x.view.two)
-              (λ z. flag a2.synced z sa2)
-              (λ m p. ((x.view.owes m p).0, sa2))
-              (λ z u p. record { os = x.loads.os; ps = x.loads.ps; rising = x.loads.rising; owned_is = x.loads.owned_is; want_is = x.loads.want_is; batch_is = x.loads.batch_is; heard_is = x.loads.heard_is; inn_is = x.loads.inn_is; are_new = x.loads.are_new; bar = x.loads.bar; table_is = x.loads.table_is; none_closing = x.loads.none_closing; progress = inr (part x) }));
-          awaits = λ h u. flag s.theirs.synced sb h;
-        };
+        there = side_beside r (other i) s.theirs s.mine a2 s.their_mail s.my_mail s.trace t2 there boot
+            (same_synced (other i) ∙ there.synced_is)
+            (λ u. goes_there s.theirs.table (there.goes u))
+            (λ u. private_there s.theirs.table (there.private u))
+            (λ z u y o l m to k. sa2)
+            (λ h. elim x.whence [ inl live ↦ inr (subst (λ (b : Box). View r (other i) b a2 s.my_mail t2) live.1 view) | inr left ↦ flag s.theirs.synced h left.other_out ])
+            (λ h u. elim x.whence [
+              | inl live ↦ flag s.theirs.synced live.0 h
+              | inr left ↦ inl (waits_none (other i) s.theirs a2 a2 s.my_mail t2 sa2 (λ l m q inside to new nn. let less : l.to < s.theirs.boot = left.unsaid u l inside in omega arith) (left.fresh u))
+            ]);
       }
 
   -- the record that comes while Owners or Puts are loaded is the next of the batch
-  comes_name : (i : GatewayId) (s : Scene) (q : MachineRecord) (x : Reading i s q) (g : Naming r (other (other i)) s.theirs s.mine x.loads.os) → nth (owners g.back (puts x.loads.ps ++ Done ∷ []) ++ x.view.out) 0 ≡ Some q
+  comes_name : (i : GatewayId) (s : Scene) (q : MachineRecord) (x : Reading i s q) (g : Naming r (other (other i)) x.source s.mine x.loads.os) → nth (owners g.back (puts x.loads.ps ++ Done ∷ []) ++ x.view.out) 0 ≡ Some q
   comes_name i s q x g = sym (next_name g.front g.back x.loads.ps x.view.out) ∙ ap (λ y. nth (batch y x.loads.ps ++ x.view.out) (suc (length g.front))) (sym g.whole) ∙ ap (nth (batch x.loads.os x.loads.ps ++ x.view.out)) (sym g.taken) ∙ x.stands
 
-  comes_next : (i : GatewayId) (s : Scene) (q : MachineRecord) (x : Reading i s q) (g : Part r (other (other i)) s.theirs s.mine x.loads.os x.loads.ps) → nth ((puts g.back ++ Done ∷ []) ++ x.view.out) 0 ≡ Some q
+  comes_next : (i : GatewayId) (s : Scene) (q : MachineRecord) (x : Reading i s q) (g : Part r (other (other i)) x.source s.mine x.loads.os x.loads.ps) → nth ((puts g.back ++ Done ∷ []) ++ x.view.out) 0 ≡ Some q
   comes_next i s q x g = sym (next_load x.loads.os g.front g.back x.view.out) ∙ ap (λ y. nth (batch x.loads.os y ++ x.view.out) (suc (length x.loads.os + length g.front))) (sym g.whole) ∙ ap (nth (batch x.loads.os x.loads.ps ++ x.view.out)) (sym g.taken) ∙ x.stands
 
   -- once all runs are named the Puts begin
-  turns : (i : GatewayId) (s : Scene) (q : MachineRecord) (x : Reading i s q) (g : Naming r (other (other i)) s.theirs s.mine x.loads.os) → g.back ≡ [] → Part r (other (other i)) s.theirs s.mine x.loads.os x.loads.ps
+  turns : (i : GatewayId) (s : Scene) (q : MachineRecord) (x : Reading i s q) (g : Naming r (other (other i)) x.source s.mine x.loads.os) → g.back ≡ [] → Part r (other (other i)) x.source s.mine x.loads.os x.loads.ps
   turns i s q x g none =
       let all : x.loads.os ≡ g.front = g.whole ∙ ap (λ y. g.front ++ y) none ∙ append-nil g.front in
       let count : length x.loads.os ≡ length g.front = ap length all in
@@ -254,7 +333,7 @@ module _ (r : Ranges) where
       }
 
   -- where a record other than an Owner comes, all runs are named
-  in_part : (i : GatewayId) (s : Scene) (q : MachineRecord) (x : Reading i s q) → s.mine.loading ≡ true → ((a b : ℕ) → q ≡ Owner a b → ⊥) → Part r (other (other i)) s.theirs s.mine x.loads.os x.loads.ps
+  in_part : (i : GatewayId) (s : Scene) (q : MachineRecord) (x : Reading i s q) → s.mine.loading ≡ true → ((a b : ℕ) → q ≡ Owner a b → ⊥) → Part r (other (other i)) x.source s.mine x.loads.os x.loads.ps
   in_part i s q x h none = elim x.loads.progress [
     | inl f ↦ flag s.mine.loading h f.loading
     | inr y ↦ elim y [
@@ -263,7 +342,7 @@ module _ (r : Ranges) where
     ]
   ]
 
-  no_begin : {A : Type 0} (i : GatewayId) (s : Scene) (x : Reading i s Begin) → Part r (other (other i)) s.theirs s.mine x.loads.os x.loads.ps → A
+  no_begin : {A : Type 0} (i : GatewayId) (s : Scene) (x : Reading i s Begin) → Part r (other (other i)) x.source s.mine x.loads.os x.loads.ps → A
   no_begin i s x g = elim (some_load g.back x.view.out Begin (comes_next i s Begin x g)) [ inl e ↦ absurd (let bad : Begin ≡ Done = e in cc) | inr e ↦ absurd (not_begin e.0.told e.0.pair (sym e.3)) ]
 
   pub inv_load_begin : (moment : ℕ) (i : GatewayId) (s : Scene) (l : Letter) (n : ℕ) → Inv r i s → Can r i s (LoadBegin l n) → Inv r i (after_act r i moment s (LoadBegin l n))
@@ -276,21 +355,21 @@ module _ (r : Ranges) where
           | inr g ↦ no_begin i s x g
         ]
       ] in
-      still_loading i s (takes_begin (r.at_begin i) s.mine) s.trace Begin v x can.0.0 refl refl can.0.0 refl refl refl (λ j. refl) v.one_port v.one_endpoint v.silent
-      (λ u. goes_quiet i s.mine.table empty s.trace (v.here.goes u) (λ q. ap translated (sym (f.table q))))
+      still_loading i s (takes_begin (r.at_begin i) s.mine) s.trace Begin v x can.0.0 refl refl can.0.0 refl refl refl (λ j. refl) v.one_port v.one_endpoint v.silent v.founded_rightly
+      (goes_quiet i s.mine.table empty s.trace x.goes (λ q. ap translated (sym (f.table q))))
       (λ table g. g)
-      (λ u. private_quiet i s.mine.table empty s.trace (v.here.private u) (λ q. ap alone_in (sym (f.table q))))
+      (private_quiet i s.mine.table empty s.trace x.private (λ q. ap alone_in (sym (f.table q))))
       (λ table g. g) (λ owner ph c. c) (λ owner g ph z. z) (λ ph z. z) (λ owner ph z. z)
       (λ y. inl record { front = []; back = y.loads.os; whole = refl; peer = y.peer; taken = ap suc f.taken; loading = refl; wants = f.wants; table = λ q. refl; owned = λ p. ap (λ j. r.at_begin j p) (sym (other-other i)); named = refl })
 
-  no_owner : {A : Type 0} (i : GatewayId) (s : Scene) (first last : ℕ) (x : Reading i s (Owner first last)) → Part r (other (other i)) s.theirs s.mine x.loads.os x.loads.ps → A
+  no_owner : {A : Type 0} (i : GatewayId) (s : Scene) (first last : ℕ) (x : Reading i s (Owner first last)) → Part r (other (other i)) x.source s.mine x.loads.os x.loads.ps → A
   no_owner i s first last x g = elim (some_load g.back x.view.out (Owner first last) (comes_next i s (Owner first last) x g)) [ inl e ↦ absurd (let bad : Owner first last ≡ Done = e in cc) | inr e ↦ absurd (not_owner e.0.told e.0.pair first last (sym e.3)) ]
 
   pub inv_load_owner : (moment : ℕ) (i : GatewayId) (s : Scene) (l : Letter) (n first last : ℕ) → Inv r i s → Can r i s (LoadOwner l n first last) → Inv r i (after_act r i moment s (LoadOwner l n first last))
   inv_load_owner moment i s l n first last v can =
       let x : Reading i s (Owner first last) = reading i s l n (Owner first last) v can.0.0 (can.1 l (inl refl)) can.0.4 in
-      still_loading i s (takes_owner s.mine first last) s.trace (Owner first last) v x can.0.0 refl refl can.0.0 refl refl refl (λ j. refl) v.one_port v.one_endpoint v.silent
-      v.here.goes (λ table g. g) v.here.private (λ table g. g) (λ owner ph c. c) (λ owner g ph z. z) (λ ph z. z) (λ owner ph z. z)
+      still_loading i s (takes_owner s.mine first last) s.trace (Owner first last) v x can.0.0 refl refl can.0.0 refl refl refl (λ j. refl) v.one_port v.one_endpoint v.silent v.founded_rightly
+      x.goes (λ table g. g) x.private (λ table g. g) (λ owner ph c. c) (λ owner g ph z. z) (λ ph z. z) (λ owner ph z. z)
       (λ y. elim y.loads.progress [
         | inl f ↦ flag s.mine.loading can.0.1 f.loading
         | inr z ↦ elim z [
@@ -327,19 +406,19 @@ module _ (r : Ranges) where
   inv_load_put moment i s l n p v can =
       let x : Reading i s (record_of p) = reading i s l n (record_of p) v can.0.0 (can.1 l (inl refl)) can.0.4 in
       let slot : Slot = loaded_slot (keyed s.mine.owned) p.pair.key p.pair.endpoint in
-      still_loading i s (takes_put s.mine p.pair) (note i moment (Retaken p.pair) ∷ s.trace) (record_of p) v x can.0.0 refl refl can.0.0 refl refl refl (λ j. refl) (tt, v.one_port) (tt, v.one_endpoint) (tt, v.silent)
-      (λ u. goes_in moment i s.mine.table (set_at s.mine.table p.pair.key slot) s.trace p.pair.key p.pair.endpoint (v.here.goes u)
+      still_loading i s (takes_put s.mine p.pair) (note i moment (Retaken p.pair) ∷ s.trace) (record_of p) v x can.0.0 refl refl can.0.0 refl refl refl (λ j. refl) (tt, v.one_port) (tt, v.one_endpoint) (tt, v.silent) (tt, v.founded_rightly)
+      (goes_in moment i s.mine.table (set_at s.mine.table p.pair.key slot) s.trace p.pair.key p.pair.endpoint x.goes
       (ap translated (set_same s.mine.table p.pair.key slot p.pair.key refl) ∙ loaded_translates (keyed s.mine.owned p.pair.key) p.pair.endpoint)
       (λ q ne. ap translated (set_other s.mine.table p.pair.key slot q ne))
       (λ m h. absurd (none_some (translated (s.mine.table p.pair.key)) m (ap translated can.0.2) h)))
       (λ table g. (goes_other moment (other i) i table s.trace p.pair (same-not i) g).2)
-      (λ u. private_out moment i s.mine.table (set_at s.mine.table p.pair.key slot) s.trace p.pair.key p.pair.endpoint (v.here.private u)
+      (private_out moment i s.mine.table (set_at s.mine.table p.pair.key slot) s.trace p.pair.key p.pair.endpoint x.private
       (ap alone_in (set_same s.mine.table p.pair.key slot p.pair.key refl) ∙ loaded_shared (keyed s.mine.owned p.pair.key) p.pair.endpoint)
       (λ q ne. ap alone_in (set_other s.mine.table p.pair.key slot q ne))
       (λ m h. absurd (none_some (alone_in (s.mine.table p.pair.key)) m (ap alone_in can.0.2) h)))
       (λ table g. (private_other moment (other i) i table s.trace p.pair (same-not i) g).1)
       (λ owner ph c. c) (λ owner g ph z. lets_load moment owner g i p.pair ph s.trace (v.here.synced_is ∙ can.0.0) z) (λ ph z. z) (λ owner ph z. z)
-      (λ y. let g : Part r (other (other i)) s.theirs s.mine y.loads.os y.loads.ps = in_part i s (record_of p) y can.0.1 (λ a b e. not_owner p.told p.pair a b e) in
+      (λ y. let g : Part r (other (other i)) y.source s.mine y.loads.os y.loads.ps = in_part i s (record_of p) y can.0.1 (λ a b e. not_owner p.told p.pair a b e) in
       let m : (rest : List Parcel) × (g.back ≡ p ∷ rest) = is_put g.back y.view.out p (comes_next i s (record_of p) y g) in
       let to_own : Key → Bool = keyed (left_to r (other (other i)) y.loads.os) in
       inr record {
@@ -371,28 +450,34 @@ module _ (r : Ranges) where
       at true e = covered_more (cond (same (owner p.key) i) true (is_synced (owner p.key) t)) (ph p.key) p.endpoint (ap (λ b. covered b (ph p.key)) (sym (ap (λ g. is_synced g t) (same-eq (owner p.key) i e) ∙ off)) ∙ c p o)
       at false e = ap (λ b. covered (cond b true (is_synced (owner p.key) t)) (ph p.key)) e ∙ c p o
 
+  -- once it is loaded, no letter of a later boot of the other than the one that loaded it has a record for the gateway
+  later_done : (i : GatewayId) (s : Scene) (q : MachineRecord) (x : Reading i s q) (m : Letter) → m.boot ≤ s.theirs.boot → In m s.their_mail → m.to ≡ s.mine.boot → s.mine.peer < m.boot → m.records ≡ []
+  later_done i s q x m most inside to newer =
+      let known : s.mine.peer ≡ x.source.boot = x.peer in
+      elim x.whence [
+        | inl live ↦ let same_boot : x.source.boot ≡ s.theirs.boot = ap (λ (b : Box). b.boot) live.1 in absurd (omega (arith, known, same_boot, most, newer))
+        | inr left ↦ no_records m.records (λ z h. let at : m.boot ≡ x.source.boot = left.letters m 0 z inside to (omega (arith, newer)) h in omega (arith, at, known, newer))
+      ]
+
   pub inv_load_done : (moment : ℕ) (i : GatewayId) (s : Scene) (l : Letter) (n : ℕ) → Inv r i s → Can r i s (LoadDone l n) → Inv r i (after_act r i moment s (LoadDone l n))
   inv_load_done moment i s l n v can =
       let here : Side r i s.mine s.theirs s.my_mail s.their_mail s.trace = v.here in
       let there : Side r (other i) s.theirs s.mine s.their_mail s.my_mail s.trace = v.there in
       let sa : s.mine.synced ≡ false = can.0.0 in
-      let sb : s.theirs.synced ≡ true = other_synced r i s v sa in
       let up : s.mine.up ≡ true = can.0.2.up in
       let x : Reading i s Done = reading i s l n Done v sa (can.1 l (inl refl)) can.0.2 in
-      let g : Part r (other (other i)) s.theirs s.mine x.loads.os x.loads.ps = in_part i s Done x can.0.1 (λ a b e. cc) in
+      let g : Part r (other (other i)) x.source s.mine x.loads.os x.loads.ps = in_part i s Done x can.0.1 (λ a b e. cc) in
       let no_more : g.back ≡ [] = is_end g.back x.view.out (comes_next i s Done x g) in
       let all : x.loads.ps ≡ g.front = g.whole ∙ ap (λ y. g.front ++ y) no_more ∙ append-nil g.front in
-      let none_promised : (m : ℕ) → s.theirs.promised ≡ Some m → ⊥ = λ m p.
-      let from : (l.boot ≡ s.theirs.boot) × (s.theirs.peer ≡ s.mine.boot) = (here.awaits sa up).letters l n Done (can.1 l (inl refl)) can.0.2.to can.0.2.record_is in
-      let less : l.first + n < m = there.barred m p l (can.1 l (inl refl)) from.0 (can.0.2.to ∙ sym from.1) n Done can.0.2.record_is in
-      let at : l.first + n ≡ s.mine.taken = can.0.2.number in
+      let none_promised : (m : ℕ) → x.source.promised ≡ Some m → ⊥ = λ m p.
+      let less : s.mine.taken < m = x.bar m p in
       let end : s.mine.taken ≡ suc (length x.loads.os + length g.front) = g.taken in
       let whole : m ≡ suc (length x.loads.os + length x.loads.ps) = x.loads.bar m p in
       let same_length : length x.loads.ps ≡ length g.front = ap length all in
       omega arith in
       let a2 : Box = takes_done s.mine in
       let t2 : List Note = note i moment Synced ∷ s.trace in
-      let real : Real s.theirs a2 x.view.table x.view.their_owned x.view.their_want x.view.gone x.view.heard x.view.inn = record {
+      let real : Real x.source a2 x.view.table x.view.their_owned x.view.their_want x.view.gone x.view.heard x.view.inn = record {
         table_is = λ q. g.table q ∙ ap (λ y. load (keyed (left_to r (other (other i)) x.loads.os)) empty y q) (sym all) ∙ sym (x.loads.table_is q);
         owned_is = λ p. g.owned p ∙ sym (x.loads.owned_is p);
         want_is = g.wants ∙ sym x.loads.want_is;
@@ -408,7 +493,7 @@ module _ (r : Ranges) where
         back = x.peer;
         lone = refl;
       } in
-      let theirs_view : View r (other i) s.theirs a2 s.my_mail t2 = record {
+      let theirs_view : View r (other i) x.source a2 s.my_mail t2 = record {
         lone = x.view.lone;
         phase = x.view.phase;
         table = x.view.table;
@@ -432,33 +517,61 @@ module _ (r : Ranges) where
         owes = λ m p. absurd (none_promised m p);
         loads = λ z u p. absurd (cc);
       } in
-      let my_view : View r (other (other i)) a2 s.theirs s.their_mail t2 = mirror r (other i) s.theirs a2 s.their_mail s.my_mail t2 theirs_view sb refl (λ m inside boot to. there.letters (there.up_synced sb) (λ z. x.view.lone) m inside boot to) (λ m p. absurd (cc)) in
+      let turned : View r (other (other i)) a2 x.source s.their_mail t2 = mirror r (other i) x.source a2 s.their_mail s.my_mail t2 theirs_view x.synced refl x.within (λ m p. absurd (cc)) in
+      let my_view : View r i a2 x.source s.their_mail t2 = subst (λ (j : GatewayId). View r j a2 x.source s.their_mail t2) (other-other i) turned in
       record {
         one_port = (tt, v.one_port);
         one_endpoint = (tt, v.one_endpoint);
         silent = (tt, v.silent);
-        some_synced = inr sb;
+        founded_rightly = (tt, v.founded_rightly);
+        over_here = v.over_here;
+        over_there = v.over_there;
         here = record {
           synced_is = ap (λ b. cond b true (is_synced i s.trace)) (same-self i);
           up_synced = λ h. up;
-          goes = here.goes;
-          private = here.private;
+          goes = λ h. x.goes;
+          private = λ h. x.private;
           letters = λ u alone. here.letters u (λ z. flag s.mine.synced z sa);
           barred = λ m p. absurd (cc);
           boots = here.boots;
           known = here.known;
           peer_at = here.peer_at;
-          later = λ h m inside newer. let le : m.boot ≤ s.theirs.boot = (there.boots m inside).0 in let p : s.mine.peer ≡ s.theirs.boot = x.peer in absurd (omega arith);
+          later = λ h m inside to newer. later_done i s Done x m (there.boots m inside).0 inside to newer;
           quiet = λ h. absurd (cc);
-          state = λ h. inr (subst (λ (j : GatewayId). View r j a2 s.theirs s.their_mail t2) (other-other i) my_view);
+          mute = λ u h. absurd (cc);
+          lacks = λ z u h. absurd (cc);
+          state = λ h. inr (elim x.whence [
+            | inl live ↦ subst (λ (b : Box). View r i a2 b s.their_mail t2) live.1 my_view
+            | inr left ↦ view_beside r i a2 x.source s.theirs s.their_mail s.their_mail t2 t2 my_view
+                my_view.letters
+                my_view.covers
+                my_view.lets
+                my_view.were
+                my_view.two
+                (λ z. flag s.theirs.synced z left.other_out)
+                (λ m p. absurd (cc))
+                (λ z u p. let d : x.source.boot < s.theirs.boot = left.dead u in let e : s.mine.peer ≡ x.source.boot = x.peer in let f : s.mine.peer ≡ s.theirs.boot = p in absurd (omega arith))
+          ]);
           awaits = λ h u. absurd (cc);
         };
-        there = side_beside r (other i) s.theirs s.mine _ s.their_mail s.my_mail s.trace _ there refl
+        there = side_beside r (other i) s.theirs s.mine (takes_done s.mine) s.their_mail s.my_mail s.trace (note i moment Synced ∷ s.trace) there refl
             (ap (λ b. cond b true (is_synced (other i) s.trace)) (same-not i) ∙ there.synced_is)
             there.goes
             there.private
-            (λ h. inr theirs_view)
-            (λ h u. flag s.theirs.synced sb h);
+            (λ z u y o m inside to k. elim x.whence [
+              | inl live ↦ flag s.theirs.synced live.0 y
+              | inr left ↦ let less : m.to < s.theirs.boot = left.unsaid u m inside in absurd (omega arith)
+            ])
+            (λ h. elim x.whence [ inl live ↦ inr (subst (λ (b : Box). View r (other i) b a2 s.my_mail t2) live.1 theirs_view) | inr left ↦ flag s.theirs.synced h left.other_out ])
+            (λ h u. elim x.whence [
+              | inl live ↦ flag s.theirs.synced live.0 h
+              | inr left ↦ inl record {
+                letters = λ m k q inside to new nn. let less : m.to < s.theirs.boot = left.unsaid u m inside in absurd (omega arith);
+                fresh = λ z. left.fresh u;
+                goes = λ z. left.their_goes u;
+                private = λ z. left.their_private u;
+              }
+            ]);
       }
 
   -- the next pair of the batch is new where it is put
@@ -475,7 +588,7 @@ module _ (r : Ranges) where
       let m : IsMisplaced r a (Put p.key p.endpoint) = lost in
       m loading inside free (λ q h. room q (ap held (sym (same_table q)) ∙ h))
 
-  never_put : (i : GatewayId) (s : Scene) (q : MachineRecord) (x : Reading i s q) (g : Part r (other (other i)) s.theirs s.mine x.loads.os x.loads.ps) → IsMisplaced r s.mine q → ⊥
+  never_put : (i : GatewayId) (s : Scene) (q : MachineRecord) (x : Reading i s q) (g : Part r (other (other i)) x.source s.mine x.loads.os x.loads.ps) → IsMisplaced r s.mine q → ⊥
   never_put i s q x g lost = elim (some_load g.back x.view.out q (comes_next i s q x g)) [
     | inl e ↦ let m : IsMisplaced r s.mine Done = subst (λ (y : MachineRecord). IsMisplaced r s.mine y) e lost in m g.loading
     | inr e ↦

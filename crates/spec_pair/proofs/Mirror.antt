@@ -72,5 +72,5 @@ module _ (r : Ranges) where
       }
 
   pub inv_flip : (i : GatewayId) (s : Scene) → Inv r i s → Inv r (other i) (flip s)
-  inv_flip Zero s v = record { one_port = v.one_port; one_endpoint = v.one_endpoint; silent = v.silent; some_synced = elim v.some_synced [ inl x ↦ inr x | inr x ↦ inl x ]; here = v.there; there = v.here }
-  inv_flip One s v = record { one_port = v.one_port; one_endpoint = v.one_endpoint; silent = v.silent; some_synced = elim v.some_synced [ inl x ↦ inr x | inr x ↦ inl x ]; here = v.there; there = v.here }
+  inv_flip Zero s v = record { one_port = v.one_port; one_endpoint = v.one_endpoint; silent = v.silent; founded_rightly = v.founded_rightly; here = v.there; there = v.here; over_here = v.over_there; over_there = v.over_here }
+  inv_flip One s v = record { one_port = v.one_port; one_endpoint = v.one_endpoint; silent = v.silent; founded_rightly = v.founded_rightly; here = v.there; there = v.here; over_here = v.over_there; over_there = v.over_here }

@@ -11,7 +11,7 @@ use Rattle.nat_types.specs.declared.notes.Note.{Note}
 use Rattle.nat_types.specs.declared.pairs.Endpoint.{Endpoint}
 use Rattle.nat_types.specs.declared.pairs.Key.{Key}
 use Rattle.nat_types.specs.declared.pairs.Pair.{Pair}
-use Rattle.spec_trace.specs.Past.{is_synced, has_released, is_only_at, is_agreed, was_alone, OnePort, OneEndpoint, Silent}
+use Rattle.spec_trace.specs.Past.{is_synced, has_released, is_only_at, is_agreed, was_alone, OnePort, OneEndpoint, Silent, FoundedRightly}
 use Rattle.spec_pair.proofs.Phase.{owns, MayDoOwned, Phase, Nothing, Proposed, Told, Accepted, Refused, GivenUp, GivenUpRefused, Shared, Asked, Staying, Leaving, Apart, owner_slot, named, shared, single, closing, closed_in, alone_in, covered, accept, give_up, refuse, set_apart, leave, stay, is_given_up, flight_at, Talks, phase_after}
 use Rattle.spec_pair.specs.Talk.{Slot, Free, Pending, Doomed, Live, Closing, Held, Alone, held, mark, translated, MachineRecord, Install, Accept, Refuse, Ask, Yes, No, Tell, is_on, on, set_at, pair_of, Deed, Propose, Close, Use, Mark, MakeAlone, Report, DropAlone, Agree, Yield, Reject, Adopt, Decline, Agreed, Rejected, Rebuffed, Leave, Stay, Left, Parted, Stayed, Pass, Skip, taken_by, table_after, noted_by, note}
 use Rattle.spec_pair.proofs.Traced.{Covers, LetsGo, GoesAt, PrivateAt, WereAlone, TwoAlone}
@@ -505,6 +505,31 @@ silent_deed moment i (Parted k e) t s h = h
 silent_deed moment i (Stayed k e) t s h = (tt, h)
 silent_deed moment i (Pass k) t s h = h
 silent_deed moment i (Skip r) t s h = h
+
+-- no deed founds the pair
+pub founded_deed : (moment : ℕ) (i : GatewayId) (d : Deed) (t : List Note) → FoundedRightly t → FoundedRightly (noted_by i moment d ++ t)
+founded_deed moment i (Propose k e) t h = h
+founded_deed moment i (Close k e) t h = (tt, h)
+founded_deed moment i (Use k e counts) t h = (tt, h)
+founded_deed moment i (Mark k e) t h = (tt, h)
+founded_deed moment i (MakeAlone k e) t h = (tt, h)
+founded_deed moment i (Report k e) t h = h
+founded_deed moment i (DropAlone k e) t h = (tt, h)
+founded_deed moment i (Agree k e) t h = (tt, h)
+founded_deed moment i (Yield k e q) t h = (tt, h)
+founded_deed moment i (Reject k e) t h = h
+founded_deed moment i (Adopt k e) t h = (tt, h)
+founded_deed moment i (Decline k e) t h = h
+founded_deed moment i (Agreed k e) t h = (tt, h)
+founded_deed moment i (Rejected k) t h = h
+founded_deed moment i (Rebuffed k e) t h = h
+founded_deed moment i (Leave k e) t h = (tt, h)
+founded_deed moment i (Stay k e) t h = h
+founded_deed moment i (Left k e) t h = h
+founded_deed moment i (Parted k e) t h = h
+founded_deed moment i (Stayed k e) t h = (tt, h)
+founded_deed moment i (Pass k) t h = h
+founded_deed moment i (Skip r) t h = h
 
 pub synced_deed : (moment : ℕ) (j i : GatewayId) (d : Deed) (t : List Note) → is_synced j (noted_by i moment d ++ t) ≡ is_synced j t
 synced_deed moment j i (Propose k e) t = refl

@@ -188,7 +188,10 @@ module _ (r : Ranges) where
         ap (λ z. nth z s.mine.taken) (x.real sb).sent ∙ ap (nth (x.heard ++ x.inn)) (sym reads.number) ∙ stands
     | inr sa ↦
         let x : Reading r i s q = reading r i s l n q v sa sent reads in
-        ap (λ z. nth z s.mine.taken) (x.view.sent ∙ ap (λ g. g ++ x.view.out) x.loads.batch_is) ∙ x.stands
+        elim x.whence [
+          | inl live ↦ ap (λ (b : Box). nth b.sent s.mine.taken) (sym live.1) ∙ ap (λ z. nth z s.mine.taken) (x.view.sent ∙ ap (λ g. g ++ x.view.out) x.loads.batch_is) ∙ x.stands
+          | inr left ↦ absurd (both_ways s.theirs.synced left.other_out sb)
+        ]
   ]
 
   pushed_by_other : (i : GatewayId) (s : Scene) (l : Letter) (n : ℕ) (q : MachineRecord) → Inv r Zero s → (seen_by i s).theirs.synced ≡ true → In l (seen_by i s).their_mail → StandsNext (seen_by i s).mine l n q → nth (seen_by i s).theirs.sent (seen_by i s).mine.taken ≡ Some q
