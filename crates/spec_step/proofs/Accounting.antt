@@ -7,6 +7,7 @@ use Rattle.addresses.specs.declared.ethernet.Mac.{Mac}
 use Rattle.nat_types.specs.declared.gateways.GatewayId.{GatewayId}
 use Rattle.nat_types.specs.declared.gateways.Side.{Side}
 use Rattle.nat_types.specs.declared.gateways.Side.TheVariants.{Inside, Outside}
+use Rattle.nat_types.specs.declared.notes.NoteKind.TheVariants.{Crashed}
 use Rattle.nat_types.specs.declared.notes.Note.{Note}
 use Rattle.nat_types.specs.declared.pairs.Endpoint.{Endpoint}
 use Rattle.nat_types.specs.declared.pairs.Key.{Key}
@@ -16,17 +17,19 @@ use Rattle.arp.specs.declared.packets.ArpPacket.{ArpPacket}
 use Rattle.bindings.specs.Lives.{idle_keys_in}
 use Rattle.link.specs.declared.datagrams.Datagram.{Datagram}
 use Rattle.link.specs.declared.faults.LinkFault.{LinkFault}
-use Rattle.link.specs.Grammar.{IsWellFormed, IsWellFormedRecord}
+use Rattle.link.specs.declared.datagrams.Status.TheVariants.{Ending}
+use Rattle.link.specs.Grammar.{IsWellFormed, IsWellFormedRecord, spelling}
 use Rattle.link.specs.Link.{Link, after_take, closed_at, is_due_on_tick, is_restart, records_taken, refusal, sent_on_answer, sent_on_tick, wanted, datagram_of, left_by}
 use Rattle.link.specs.Reading.{reading}
 use Rattle.link.proofs.Offered.{all_taken, reading_takes}
 use Rattle.resync.specs.Loading.{Load, loaded}
+use Rattle.spec_pair.specs.Talk.{note}
 use Rattle.spec_binding.specs.Books.{Book, emptied, is_lone, is_synced, IsBook, load_of}
 use Rattle.spec_binding.specs.Ledgers.{Ledger, lone_ledger, ledger_after, release_all, may_ask, restarted_ledger, rests_for, taken_ledger, go_on_all, sought_keys, founded_ledger}
 use Rattle.spec_binding.specs.Resets.{back_in, begun_anew, restart_link, restart_notes, restarted, retaken, founding_link, founding_note}
 use Rattle.spec_binding.specs.Rows.{after, answered, load_taken, noted_by, row_of, taken_answer, taken_book, taken_ended, taken_what, unsynced_after, idle_row, alone_row, is_full}
 use Rattle.spec_binding.specs.Uses.{Accounts}
-use Rattle.spec_binding.proofs.Offered.{lone-keeps, fed-keeps, idle-keeps, restart-keeps, taken-keeps, change-leaves, lone-accounts, fed-accounts, later-accounts, let-go-accounts, restarted-accounts, taken-accounts, alone-row-keeps, go-on-accounts, founding-accounts, founding-keeps, crashed-accounts}
+use Rattle.spec_binding.proofs.Offered.{lone-keeps, fed-keeps, idle-keeps, restart-keeps, taken-keeps, change-leaves, lone-accounts, fed-accounts, later-accounts, let-go-accounts, restarted-accounts, taken-accounts, alone-row-keeps, go-on-accounts, founding-accounts, founding-keeps}
 use Rattle.waiting.specs.declared.waits.Ended.TheVariants.{AllPairs, One}
 use Rattle.waiting.specs.declared.waits.WaitsFor.TheVariants as wait
 use Rattle.packet_rules.specs.declared.readings.Reading.{Reading}
@@ -184,21 +187,21 @@ taken-rests reads s n synced =
     (λ before is a. lone-accounts g.moment g.ledger before is a) in
     resting-then s mid (word_taken s n) first (released-rests reads mid AllPairs)
 
-founded-rests : (s : GatewayAndOutput) → Resting s (pair_founded s)
-founded-rests s =
+founded-rests : (s : GatewayAndOutput) → is_synced s.shown.ledger.book.stage ≡ false → Resting s (pair_founded s)
+founded-rests s unsynced =
     let g = s.shown in let b = g.ledger.book in
     let g2 : Shown = record g { ledger = founded_ledger g.ledger; link = founding_link b g.link } in
     let told = with_notes s.told (founding_note b.id g.moment ∷ []) in
     let first : Resting s (scene g2 told) = resting-noted s (founded_ledger g.ledger) (founding_link b g.link) (founding_note b.id g.moment ∷ [])
     ((refl, refl), tt) (record { alone = refl; plain = λ never. (tt, tt) }) refl (λ is. founding-keeps b is)
-    (λ before is a. founding-accounts g.moment g.ledger before is a) in
+    (λ before is a. founding-accounts g.moment g.ledger before unsynced a) in
     resting-then s (scene g2 told) (pair_founded s) first (routed-rests g2.moment g2 told (has_synced g g2 && is_running g2))
 
 heard-rests : Reads → (s : GatewayAndOutput) (d : Datagram) → IsWellFormed d → Resting s (heard_by s d)
 heard-rests reads s d fits = heard-leads s d (λ x. Resting s x)
     (link-rests s (after_take s.shown.link d s.shown.moment))
     (λ is x. resting-then s (taken_in s d) (reset (taken_in s d)) x (reset-rests reads (taken_in s d)))
-    (λ y is x. resting-then s y (pair_founded y) x (founded-rests y))
+    (λ y is x. resting-then s y (pair_founded y) x (founded-rests y is.unsynced))
     (λ x. resting-then s (met_by s d) _ x (records-rest reads (met_by s d) (records_taken s.shown.link d) (all_taken s.shown.link d fits)))
     (λ y is x. resting-then s y (word_taken y d.boot) x (taken-rests reads y d.boot is))
 
@@ -365,6 +368,10 @@ ticked-ends s = resting-then s (scene (handed_in s.shown) s.told) (link_ticked s
     at : (g : Shown) (due : Bool) → Resting (scene g s.told) (let t : GatewayAndOutput = cond due (scene (record g { link = sent_on_tick g.link g.moment }) (with_datagram s.told (datagram_in g))) (scene g s.told) in t)
     at g true = resting-unseen (scene g s.told) _ refl refl refl (λ k. k)
     at g false = resting-nothing (scene g s.told)
+
+-- the ledger accounts for the gateway's own crash, which is no use
+crashed-accounts : (now : ℕ) (l : Ledger) (h : List Note) → Accounts now l h → Accounts now l (note l.book.id now Crashed ∷ h)
+crashed-accounts now l h a = record { uses = record { alike = a.uses.alike; known = a.uses.known; rested = a.uses.rested }; none = a.none; idle = (tt, a.idle) }
 
 -- the last datagram and the last note of a gateway that ends
 last-ends : (s : GatewayAndOutput) → Resting s (link_ended s)

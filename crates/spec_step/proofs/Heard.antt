@@ -9,9 +9,12 @@ use Rattle.nat_types.proofs.Offered.{same-eq}
 use Rattle.link.specs.declared.datagrams.Datagram.{Datagram}
 use Rattle.link.specs.Link.{after_take, is_lacking, is_over, is_restart, records_taken}
 use Rattle.spec_binding.specs.Books.{Book, emptied, is_synced}
-use Rattle.spec_binding.specs.Resets.{begun_anew, restarted}
+use Rattle.spec_binding.specs.Ledgers.{restarted_ledger}
+use Rattle.spec_binding.specs.Resets.{begun_anew, restart_link, restart_notes, restarted}
+use Rattle.waiting.specs.declared.waits.Ended.TheVariants.{AllPairs}
 use Rattle.spec_step.specs.Parts.{does_found, heard_by, met_by, pair_founded, peer_ended, records_done, reset, with_link, word_taken}
-use Rattle.spec_step.specs.Shown.{GatewayAndOutput, id_of}
+use Rattle.spec_step.specs.Shown.{GatewayAndOutput, id_of, scene, with_notes}
+use Rattle.spec_step.proofs.Staging.{released-stage}
 
 -- a greater boot changes nothing in whether the gateway is synced, nor in which gateway it is
 pub restart-synced : (b : Book) → is_synced b.stage ≡ is_synced (restarted b).stage
@@ -28,6 +31,14 @@ restarted-id b = at (is_synced b.stage)
     at true = refl
     at false = refl
 
+-- so a reset leaves both, also behind the packets that it frees
+pub reset-stage : (s : GatewayAndOutput) → (id_of (reset s).shown ≡ id_of s.shown) × (is_synced (reset s).shown.ledger.book.stage ≡ is_synced s.shown.ledger.book.stage)
+reset-stage s =
+    let g = s.shown in let b = g.ledger.book in
+    let mid = scene (record g { ledger = restarted_ledger g.ledger; link = restart_link b g.link }) (with_notes s.told (restart_notes b g.moment)) in
+    let same = released-stage mid AllPairs in
+    (same.0 ∙ restarted-id b, ap is_synced same.1 ∙ sym (restart-synced b))
+
 -- the scene where the link has taken the datagram, and nothing else has happened
 abbrev pub taken_in : GatewayAndOutput → Datagram → GatewayAndOutput
 taken_in s d = with_link s (after_take s.shown.link d s.shown.moment)
@@ -38,13 +49,18 @@ pub record IsBare (x : GatewayAndOutput) : Type 0 where
   pub unsynced : is_synced x.shown.ledger.book.stage ≡ false
 
 module _ (s : GatewayAndOutput) (d : Datagram) where
-  bare-of : does_found s.shown d ≡ true → IsBare s
+  pub bare-of : does_found s.shown d ≡ true → IsBare s
   bare-of is =
       let parts = and_parts (same (id_of s.shown) Zero) (not (is_synced s.shown.ledger.book.stage) && is_lacking s.shown.link d) is in
       record {
         zero = same-eq (id_of s.shown) Zero parts.0;
         unsynced = not-true (is_synced s.shown.ledger.book.stage) (and_parts (not (is_synced s.shown.ledger.book.stage)) (is_lacking s.shown.link d) parts.1).0;
       }
+
+  pub lacking-of : does_found s.shown d ≡ true → is_lacking s.shown.link d ≡ true
+  lacking-of is =
+      let parts = and_parts (same (id_of s.shown) Zero) (not (is_synced s.shown.ledger.book.stage) && is_lacking s.shown.link d) is in
+      (and_parts (not (is_synced s.shown.ledger.book.stage)) (is_lacking s.shown.link d) parts.1).1
 
   module _ (P : GatewayAndOutput → Type 0) where
     anew : P (taken_in s d) → (is_restart s.shown.link d ≡ true → P (taken_in s d) → P (reset (taken_in s d)))
@@ -53,7 +69,9 @@ module _ (s : GatewayAndOutput) (d : Datagram) where
     anew first resets false is = first
 
     bare : IsBare s → (b : Bool) → IsBare (let x : GatewayAndOutput = cond b (reset (taken_in s d)) (taken_in s d) in x)
-    bare is true = record { zero = restarted-id s.shown.ledger.book ∙ is.zero; unsynced = sym (restart-synced s.shown.ledger.book) ∙ is.unsynced }
+    bare is true =
+        let stays = reset-stage (taken_in s d) in
+        record { zero = stays.0 ∙ is.zero; unsynced = stays.1 ∙ is.unsynced }
     bare is false = record { zero = is.zero; unsynced = is.unsynced }
 
     -- what holds once the link has taken the datagram holds behind its reset and its founding

@@ -5,6 +5,7 @@ mod Asked
 mod Asking
 mod AskingParts
 mod Before
+mod Bare
 mod Beginning
 mod Behind
 mod Changing
@@ -48,9 +49,11 @@ mod Sending
 mod Sends
 mod Settling
 mod Sides
+mod Staging
 mod Standing
 mod Steady
 mod Stepping
+mod Syncing
 mod TakingOver
 mod Takes
 mod Takings

@@ -69,6 +69,7 @@ use Rattle.spec_step.proofs.Turning.{back_as, turn-by}
 use Rattle.icmp.specs.declared.packets.ErrorFlow.{ErrorFlow}
 use Rattle.spec_step.proofs.Behind.{asked_behind}
 use Rattle.spec_step.proofs.Ahead.{Keeps, asking, record-behind, row-behind}
+use Rattle.spec_step.proofs.Bare.{step-bare}
 use Rattle.spec_step.proofs.Heard.{heard-leads, restart-synced, taken_in}
 
 -- what the parts of a step keep of a settled gateway
@@ -501,18 +502,25 @@ does-calms s (SideIs side up) done does = subst (λ (x : GatewayAndOutput). Calm
 
 -- ---- the datagram at the end
 
-answered-settles : (s : GatewayAndOutput) → IsCalm s.shown → IsSettled (link_answered s).shown
+-- what a settled gateway is, but for one without a table
+record IsQuiet (g : Shown) : Type 0 where
+  running : is_running g ≡ true → HaveBegun g
+  idle : is_running g ≡ false → AreIdle g
+  answered : g.link.due ≡ false
+  places : IsKept g.kept
+
+answered-settles : (s : GatewayAndOutput) → IsCalm s.shown → IsQuiet (link_answered s).shown
 answered-settles s is = record { running = is.running; idle = is.idle; answered = refl; places = is.places }
 
 or-none : (a b : Bool) → (a || b) ≡ false → a ≡ false
 or-none true b is = is
 or-none false b is = refl
 
-ticked-settles : (s : GatewayAndOutput) → IsCalm s.shown → IsSettled (link_ticked s).shown
+ticked-settles : (s : GatewayAndOutput) → IsCalm s.shown → IsQuiet (link_ticked s).shown
 ticked-settles s is = at (is_due_on_tick (handed_in s.shown).link s.shown.moment) refl
   where
     at : (b : Bool) → is_due_on_tick (handed_in s.shown).link s.shown.moment ≡ b
-        → IsSettled (let x : GatewayAndOutput = (let g = handed_in s.shown in cond b (scene (record g { link = sent_on_tick g.link g.moment }) (with_datagram s.told (datagram_in g))) (scene g s.told)) in x.shown)
+        → IsQuiet (let x : GatewayAndOutput = (let g = handed_in s.shown in cond b (scene (record g { link = sent_on_tick g.link g.moment }) (with_datagram s.told (datagram_in g))) (scene g s.told)) in x.shown)
     at true due = record { running = is.running; idle = is.idle; answered = refl; places = is.places }
     at false due = record { running = is.running; idle = is.idle; answered = or-none s.shown.link.due (is_time s.shown.link.ticked s.shown.moment) due; places = is.places }
 
@@ -521,11 +529,12 @@ plug-owes : (s : GatewayAndOutput) (side : Side) (up : Bool) → (side_plugged s
 plug-owes s Inside up = refl
 plug-owes s Outside up = refl
 
-ended-settles : (s : GatewayAndOutput) (event : Event) (done : GatewayAndOutput) → Does s event done → IsSettled s.shown → IsCalm done.shown → IsSettled (ended_on event done).shown
+ended-settles : (s : GatewayAndOutput) (event : Event) (done : GatewayAndOutput) → Does s event done → IsSettled s.shown → IsCalm done.shown → IsQuiet (ended_on event done).shown
 ended-settles s (Frame side bytes) done does was is = answered-settles done is
 ended-settles s (Comes bytes) done does was is = answered-settles done is
 ended-settles s (Tick now) done does was is = ticked-settles done is
 ended-settles s Stop done does was is = answered-settles done is
+ended-settles s End done does was is = record { running = is.running; idle = is.idle; answered = refl; places = is.places }
 ended-settles s (PeerOff n) done does was is = answered-settles done is
 ended-settles s (SideIs side up) done does was is =
     let same : done.shown.link ≡ s.shown.link = ap (λ (x : GatewayAndOutput). x.shown.link) does ∙ plug-owes s side up in
@@ -534,8 +543,9 @@ ended-settles s (SideIs side up) done does was is =
 -- a settled gateway is settled after a whole step
 pub step-settles : (s : GatewayAndOutput) (event : Event) (s2 : GatewayAndOutput) → IsStepOn s event s2 → IsSettled s.shown → IsSettled s2.shown
 step-settles s event s2 step is =
-    subst (λ (x : GatewayAndOutput). IsSettled x.shown) (sym step.sends)
-    (ended-settles s event step.done step.does is (does-calms s event step.done step.does (record { running = is.running; idle = is.idle; places = is.places })))
+    let quiet : IsQuiet s2.shown = subst (λ (x : GatewayAndOutput). IsQuiet x.shown) (sym step.sends)
+    (ended-settles s event step.done step.does is (does-calms s event step.done step.does (record { running = is.running; idle = is.idle; places = is.places }))) in
+    record { running = quiet.running; idle = quiet.idle; answered = quiet.answered; bare = λ unsynced. step-bare s event s2 step is unsynced; places = quiet.places }
 
 -- ---- a gateway as it begins
 
@@ -544,16 +554,17 @@ none-kept = record { pairs = omega arith; shares = λ address. omega arith; hops
 
 pub begun-settles : (settings : Settings) (id : GatewayId) (boot : ℕ) → IsSettled (begun settings id boot)
 unfolding begun stations.new_station
-begun-settles settings id boot = record { running = λ r. absurd (cc); idle = λ d. (refl, refl); answered = refl; places = none-kept }
+begun-settles settings id boot = record { running = λ r. absurd (cc); idle = λ d. (refl, refl); answered = refl; bare = λ unsynced. (refl, refl); places = none-kept }
 
-pub founded-settles : (settings : Settings) (boot : ℕ) → IsSettled (founded settings boot)
+pub founded-settles : (settings : Settings) (id : GatewayId) (boot : ℕ) → IsSettled (founded settings id boot)
 unfolding founded begun
-founded-settles settings boot =
-    let inside = (stations.new_station settings Zero Inside).router in
-    let outside = (stations.new_station settings Zero Outside).router in
+founded-settles settings id boot =
+    let inside = (stations.new_station settings id Inside).router in
+    let outside = (stations.new_station settings id Outside).router in
     record {
       running = λ r. (started-begun inside.state inside 0 refl, started-begun outside.state outside 0 refl);
       idle = λ d. absurd (cc);
       answered = refl;
+      bare = λ unsynced. absurd (cc);
       places = none-kept;
     }

@@ -2,10 +2,12 @@
 -- word and ticks.
 use Rattle.std.proofs.Common.{◌≡◌, ℕ, Bool, true, false, cond, not, ◌&&◌, List, [], ◌∷◌, ◌++◌, length, Option, Some, None, Result, Ok, Err, refl, sym, ap, subst, ◌∙◌, arith, min, inl}
 use Rattle.std.specs.List.{AllByRecursion}
+use Rattle.std.proofs.lemmas.Bool.{both_ways}
 use Rattle.std.proofs.Math.Nat.{le-max_left}
 use Rattle.addresses.specs.declared.ethernet.Mac.{Mac}
 use Rattle.nat_types.specs.declared.gateways.Side.{Side}
 use Rattle.nat_types.specs.declared.gateways.Side.TheVariants.{Inside, Outside}
+use Rattle.nat_types.specs.declared.notes.NoteKind.TheVariants.{Crashed}
 use Rattle.nat_types.specs.declared.pairs.Endpoint.{Endpoint}
 use Rattle.nat_types.specs.declared.pairs.Key.{Key}
 use Rattle.nat_types.specs.declared.records.Record.{Record}
@@ -16,14 +18,15 @@ use Rattle.bindings.specs.Lives.{idle_keys_in}
 use Rattle.link.specs.declared.datagrams.Datagram.{Datagram}
 use Rattle.link.specs.declared.faults.LinkFault.{LinkFault}
 use Rattle.link.specs.Grammar.{IsWellFormed, IsWellFormedRecord}
-use Rattle.link.specs.Link.{Link, after_take, closed_at, is_due_on_tick, is_restart, records_taken, refusal, sent_on_answer, sent_on_tick}
+use Rattle.link.specs.Link.{Link, after_take, closed_at, is_due_on_tick, is_over, left_by, records_taken, refusal, sent_on_answer, sent_on_tick}
 use Rattle.link.specs.Reading.{reading}
 use Rattle.link.proofs.Offered.{all_taken, reading_takes}
-use Rattle.spec_binding.specs.Books.{is_lone, is_synced}
-use Rattle.spec_binding.specs.Ledgers.{lone_ledger, may_ask, restarted_ledger, rests_for, taken_ledger, sought_keys}
-use Rattle.spec_binding.specs.Resets.{back_in, restart_link, restart_notes, retaken}
+use Rattle.spec_binding.specs.Books.{Book, is_lone, is_synced}
+use Rattle.spec_binding.specs.Ledgers.{founded_ledger, lone_ledger, may_ask, restarted_ledger, rests_for, taken_ledger, sought_keys}
+use Rattle.spec_binding.specs.Resets.{back_in, founding_link, founding_note, restart_link, restart_notes, retaken}
 use Rattle.spec_binding.specs.Rows.{answered, idle_row, noted_by, taken_answer, taken_ended, taken_what, alone_row, is_full}
-use Rattle.spec_binding.proofs.Offered.{lone-keeps, alone-moves-none, idle-keeps, idle-moves-none, restart-keeps, taken-keeps, alone-row-keeps, word-moves-none}
+use Rattle.spec_binding.proofs.Offered.{founding-keeps, lone-keeps, alone-moves-none, idle-keeps, idle-moves-none, restart-keeps, taken-keeps, alone-row-keeps, word-moves-none}
+use Rattle.spec_pair.specs.Talk.{note}
 use Rattle.waiting.specs.declared.waits.Ended.TheVariants.{AllPairs, One}
 use Rattle.waiting.specs.declared.waits.WaitsFor.TheVariants as wait
 use Rattle.packet_rules.specs.declared.networks.Networks.{Networks}
@@ -39,9 +42,9 @@ use Rattle.vrrp_states.specs.declared.Action.TheVariants.{Nothing, Advertise, Ad
 use Rattle.vrrp_states.specs.Table as table
 use Rattle.vrrp_states.specs.Table.{Event as RouterEvent, Router}
 use Rattle.spec_step.specs.declared.events.Event.{Event}
-use Rattle.spec_step.specs.declared.events.Event.TheVariants.{Frame, Datagram as Comes, Tick, Stop, PeerOff, Side as SideIs}
+use Rattle.spec_step.specs.declared.events.Event.TheVariants.{Frame, Datagram as Comes, Tick, Stop, End, PeerOff, Side as SideIs}
 use Rattle.spec_step.specs.Machine.{AreBytes, HasBytes}
-use Rattle.spec_step.specs.Parts.{acted, all_framed, all_idle_done, answered_by, arp_taken, datagram_in, datagram_read, flow_taken, framed, frames_of, handed_in, has_synced, heard_by, heard_unless, idle_done, idle_taken, link_answered, link_ticked, old_dropped, record_done, record_shown, record_told, records_done, released, reset, started, wait_ended, with_link, word_taken, side_plugged, error_taken, echo_taken, refused, all_sought_done, alone_taken, gone_alone, peer_told, sought_done, waits_for_sender, is_taught, record_taken}
+use Rattle.spec_step.specs.Parts.{acted, all_framed, all_idle_done, answered_by, arp_taken, datagram_in, datagram_read, flow_taken, framed, frames_of, handed_in, has_synced, heard_by, heard_unless, idle_done, idle_taken, link_answered, link_ticked, old_dropped, record_done, record_shown, record_told, records_done, released, reset, started, wait_ended, with_link, word_taken, side_plugged, error_taken, echo_taken, refused, all_sought_done, alone_taken, gone_alone, peer_told, sought_done, waits_for_sender, is_taught, record_taken, link_ended, met_by, pair_founded}
 use Rattle.spec_step.specs.Shown.{GatewayAndOutput, Shown, id_of, is_running, scene, station_on, with_notes, with_station, is_apart}
 use Rattle.spec_step.specs.Routers.{BothAct, RouterActs}
 use Rattle.spec_step.specs.GivingWay.{GivingWay, left, turn_of}
@@ -50,10 +53,11 @@ use Rattle.spec_step.specs.PassedOn.{TellsAll}
 use Rattle.spec_step.specs.Truly.{IsSetUp, AtHand, Known, hand_of, known_of, unasked}
 use Rattle.spec_step.specs.Verdict.{reading_on}
 use Rattle.spec_step.proofs.Turning.{back_as, turn-by}
+use Rattle.spec_step.proofs.Heard.{IsBare, end-leads, met-leads, taken_in}
 use Rattle.spec_step.proofs.Packets.{kept-filter}
 use Rattle.spec_step.proofs.Passing.{IsSound}
 use Rattle.spec_step.proofs.Saying.{Saying, Speaks, framed-says, packet-says, released-says, row-says, saying-nothing, saying-then, speaks-then, error-packet-says, echo-says, refused-says, asking-says}
-use Rattle.spec_step.proofs.Rooting.{lone-rooted, idle-roots, restart-rooted, taken-roots, alone-row-roots}
+use Rattle.spec_step.proofs.Rooting.{emptied-rooted, lone-rooted, idle-roots, restart-rooted, same-rooted, taken-roots, alone-row-roots}
 use Rattle.spec_step.proofs.Sending.{Frames, advert-other, answer-other, gratuitous-other, own-six}
 use Rattle.spec_step.proofs.Steady.{restart-steady, taken-steady}
 use Rattle.spec_step.proofs.Telling.{Told, at_hand, old-tells, tells-quietly, tells-then, tells-unseen}
@@ -336,21 +340,27 @@ founded-says s bare =
         let mid = founded_scene s in
         λ is w. (
           record {
-            tells = tells-quietly s mid notes refl refl refl refl (founded-rooted b)
-                (record { id = refl; synced = λ t. absurd (both_ways (is_synced b.stage) t bare.unsynced); stays = λ x p t p_is. absurd (both_ways (is_synced b.stage) t bare.unsynced) }) (refl, (refl, omega arith));
+            tells = tells-quietly s mid notes refl refl refl refl (emptied-rooted b.entries [])
+                (record { id = refl; synced = λ t. absurd (both_ways (is_synced b.stage) bare.unsynced t); stays = λ x p t p_is. absurd (both_ways (is_synced b.stage) bare.unsynced t) }) (refl, (refl, omega arith));
             sound = record { book = founding-keeps b is.book; kept = is.kept };
             wired = w;
           },
           refl,
         )
 
-heard-says : Frames → (s : GatewayAndOutput) (d : Datagram) → IsWellFormed d → Saying [] s (heard_by s d)
-heard-says frames s d fits = heard-leads s d (λ x. Saying [] s x)
+-- what comes before a datagram's records
+pub met-says : Frames → (s : GatewayAndOutput) (d : Datagram) → Saying [] s (met_by s d)
+met-says frames s d = met-leads s d (λ x. Saying [] s x)
     (link-says s (after_take s.shown.link d s.shown.moment))
     (λ is x. saying-then [] [] s (taken_in s d) (reset (taken_in s d)) x (reset-says frames (taken_in s d)))
     (λ y is x. saying-then [] [] s y (pair_founded y) x (founded-says y is))
-    (λ x. saying-then [] [] s (met_by s d) _ x (records-say frames (met_by s d) (records_taken s.shown.link d) (all_taken s.shown.link d fits)))
-    (λ y is x. saying-then [] [] s y (word_taken y d.boot) x (taken-says frames y d.boot is))
+
+heard-says : Frames → (s : GatewayAndOutput) (d : Datagram) → IsWellFormed d → Saying [] s (heard_by s d)
+heard-says frames s d fits =
+    let done = records_done (met_by s d) (records_taken s.shown.link d) in
+    end-leads s d (λ x. Saying [] s x) done (is_over s.shown.link d)
+    (saying-then [] [] s (met_by s d) done (met-says frames s d) (records-say frames (met_by s d) (records_taken s.shown.link d) (all_taken s.shown.link d fits)))
+    (λ is x. saying-then [] [] s done (word_taken done d.boot) x (taken-says frames done d.boot is))
 
 datagram-says : Frames → (s : GatewayAndOutput) (bytes : List ℕ) (r : Result Datagram LinkFault) → reading bytes ≡ r → AreBytes bytes → Saying [] s (datagram_read s r)
 datagram-says frames s bytes (Ok d) read are = at (refusal s.shown.link d)
@@ -506,7 +516,7 @@ ticked-tells s = at (is_due_on_tick (handed_in s.shown).link s.shown.moment)
 -- the last datagram and the last note of a gateway that ends
 last-tells : (s : GatewayAndOutput) → Told [] s (link_ended s)
 last-tells s = let g = handed_in s.shown in
-    tells-quietly s (link_ended s) (note (id_of g) g.moment Crashed ∷ []) refl refl refl refl (still-rooted s)
+    tells-quietly s (link_ended s) (note (id_of g) g.moment Crashed ∷ []) refl refl refl refl (same-rooted s.shown.ledger.book.entries s.shown.ledger.book.entries [] refl)
     (record { id = refl; synced = λ t. t; stays = λ x p t p_is. inl p_is }) (refl, (refl, omega arith))
 
 answered-ends : (h : List AtHand) (s done : GatewayAndOutput) → Told h s done → IsSetUp done.shown → Told (h ++ []) s (link_answered done) × IsSetUp (link_answered done).shown
