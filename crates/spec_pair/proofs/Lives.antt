@@ -35,10 +35,10 @@ synced_off g i t off = elim (cases_Bool (same g i)) [
 
 -- a boot of the other gateway changes nothing in which pairs go on at the one, or are private to it
 goes_boot : (moment : ℕ) (j i : GatewayId) (n : ℕ) (table : Key → Slot) (t : List Note) → same j i ≡ false → GoesAt j table t → GoesAt j table (note i moment (Booted n) ∷ t)
-goes_boot moment j i n table t no g p = (λ h. (g p).0 (ap (λ b. cond b false (goes_on j p t)) (sym no) ∙ h), λ h. ap (λ b. cond b false (goes_on j p t)) no ∙ (g p).1 h)
+goes_boot moment j i n table t far g p = (λ h. (g p).0 (ap (λ b. cond b false (goes_on j p t)) (sym far) ∙ h), λ h. ap (λ b. cond b false (goes_on j p t)) far ∙ (g p).1 h)
 
 private_boot : (moment : ℕ) (j i : GatewayId) (n : ℕ) (table : Key → Slot) (t : List Note) → same j i ≡ false → PrivateAt j table t → PrivateAt j table (note i moment (Booted n) ∷ t)
-private_boot moment j i n table t no g p = (λ h. (g p).0 (ap (λ b. cond b false (is_private j p t)) (sym no) ∙ h), λ h. ap (λ b. cond b false (is_private j p t)) no ∙ (g p).1 h)
+private_boot moment j i n table t far g p = (λ h. (g p).0 (ap (λ b. cond b false (is_private j p t)) (sym far) ∙ h), λ h. ap (λ b. cond b false (is_private j p t)) far ∙ (g p).1 h)
 
 -- nothing goes on, or is private, at a gateway that has just booted
 goes_none : (moment : ℕ) (i : GatewayId) (n : ℕ) (t : List Note) → GoesAt i empty (note i moment (Booted n) ∷ t)

@@ -4,7 +4,6 @@ use Rattle.std.proofs.lemmas.Bool.{both_ways, cases_Bool}
 use Rattle.nat_types.specs.Same.{other}
 use Rattle.nat_types.specs.declared.gateways.GatewayId.{GatewayId}
 use Rattle.nat_types.specs.declared.gateways.GatewayId.TheVariants.{Zero}
-use Rattle.nat_types.specs.declared.notes.NoteKind.TheVariants.{Crashed}
 use Rattle.nat_types.specs.declared.notes.Note.{Note}
 use Rattle.spec_pair.specs.Acts.{Send, End, MaySend}
 use Rattle.spec_pair.specs.Box.{Box, Letter, In, IsLacking, batch, last_letter, nth, letter}

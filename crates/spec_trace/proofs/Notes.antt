@@ -1,7 +1,7 @@
 -- What the checker of traces does at each note.
 use Rattle.std.proofs.Common.{◌≡◌, ℕ, ◌+◌, ◌-◌, ◌<◌, ◌≤◌, inl, inr, Bool, true, false, not, ◌&&◌, ◌||◌, cond, List, [], ◌∷◌, ◌++◌, length, take, get_or, filter, reverse, IsTrue, ◌↔◌, refl, sym, ap, subst, ◌∙◌, arith}
 use Rattle.std.specs.List.{All, Contains}
-use Rattle.std.proofs.lemmas.Bool.{both_ways}
+use Rattle.std.proofs.lemmas.Bool.{both_ways, and_parts, and_from}
 use Rattle.std.proofs.lemmas.List.{take_all}
 use Rattle.std.proofs.lemmas.List.Elements.{All-contains, Contains-get_or}
 use Rattle.nat_types.specs.declared.gateways.GatewayId.{GatewayId}
@@ -15,9 +15,9 @@ use Rattle.nat_types.proofs.Offered.{pair-eq, same-eq, differs-other}
 use Rattle.spec_trace.specs.declared.checker.AuditFault.{AuditFault}
 use Rattle.spec_trace.specs.declared.checker.AuditFault.TheVariants.{NoMemory, NotFits, NotKept, NotSilent, NotFoundedRightly}
 use Rattle.spec_trace.specs.Past as past
-use Rattle.spec_trace.specs.Past.{begun, is_open, synced_after, is_synced, is_only_at, is_agreed, was_alone, open_after, OnePortAt, OneEndpointAt, SilentAt, FoundedRightlyAt, OnePort, OneEndpoint, Silent, FoundedRightly}
+use Rattle.spec_trace.specs.Past.{begun, is_open, synced_after, is_synced, is_private, is_only_at, is_agreed, was_alone, open_after, OnePortAt, OneEndpointAt, SilentAt, FoundedRightlyAt, OnePort, OneEndpoint, Silent, FoundedRightly}
 use Rattle.spec_trace.specs.Trace.{of_world, Kept}
-use Rattle.spec_trace.specs.Audit.{ListsHold, DoSuit, IsHeld, FitsUnlessAlone, IsWell, up_to, FirstNotFits, FirstNotSilent, FirstNotFounded, FaultSays, AreOpen, IsWellAt, Judged, Going, by_gateway}
+use Rattle.spec_trace.specs.Audit.{ListsHold, DoSuit, IsHeld, IsWell, up_to, FirstNotFits, FirstNotSilent, FirstNotFounded, FaultSays, AreOpen, IsWellAt, Judged, Going, by_gateway}
 use Rattle.spec_trace.proofs.Lists.{push_iff, has_iff, without_iff, less_iff, reverse_take}
 use Rattle.spec_trace.proofs.Worlds.{begun_more, begun_order, private_begun, alone_begun}
 
@@ -49,16 +49,16 @@ unfit_open f n p xs s k t e unfit up opens it = (
 )
 
 -- of two gateways neither is synced
-neither : (i j : GatewayId) (t : List Note) (b : Bool) → same j i ≡ b → is_synced i t ≡ false → is_synced (other i) t ≡ false → is_synced j t ≡ false
-neither i j t true e a b = ap (λ (x : GatewayId). is_synced x t) (same-eq j i e) ∙ a
-neither i j t false e a b = ap (λ (x : GatewayId). is_synced x t) (differs-other j i e) ∙ b
+neither : (i j : GatewayId) (t : List Note) (b : Bool) → same i j ≡ b → is_synced i t ≡ false → is_synced (other i) t ≡ false → is_synced j t ≡ false
+neither i j t true e a b = ap (λ (x : GatewayId). is_synced x t) (sym (same-eq i j e)) ∙ a
+neither i j t false e a b = ap (λ (x : GatewayId). is_synced x t) (differs-other i j e) ∙ b
 
 -- a Founded note at which neither gateway is synced is well
 pub founded_well : (n : Note) (t : List Note) → n.what ≡ Founded → is_synced n.by t ≡ false → is_synced (other n.by) t ≡ false → IsWellAt t n
 founded_well n t e a b = (
   subst (λ (x : NoteKind). OnePortAt x t × OneEndpointAt x t) (sym e) (tt, tt),
   subst (λ (x : NoteKind). SilentAt n.by x t) (sym e) tt,
-  subst (λ (x : NoteKind). FoundedRightlyAt x t) (sym e) (λ j. neither n.by j t (same j n.by) refl a b),
+  subst (λ (x : NoteKind). FoundedRightlyAt x t) (sym e) (λ j. neither n.by j t (same n.by j) refl a b),
 )
 
 -- a Founded note at which a gateway is synced isn't
@@ -97,13 +97,37 @@ released_stays p xs t i w opens e agreed q =
 pub crashed_less : (xs : List Pair) (t : List Note) (i : GatewayId) (w : NoteKind) → AreOpen xs t → w ≡ Crashed → (q : Pair) → Contains (filter (λ x. not (is_only_at i x t)) xs) q ↔ IsTrue (open_after q w (is_agreed i q t) (is_only_at i q t) (is_open q t))
 crashed_less xs t i w opens e q = subst (λ (x : NoteKind). Contains (filter (λ y. not (is_only_at i y t)) xs) q ↔ IsTrue (open_after q x (is_agreed i q t) (is_only_at i q t) (is_open q t))) (sym e) (less_iff q xs (λ y. is_only_at i y t) (is_open q t) (opens q))
 
--- a founding: the empty list has the open pairs
-pub founded_none : (t : List Note) (i : GatewayId) (w : NoteKind) → w ≡ Founded → (q : Pair) → Contains [] q ↔ IsTrue (open_after q w (is_agreed i q t) (is_only_at i q t) (is_open q t))
-founded_none t i w e q = subst (λ (x : NoteKind). Contains [] q ↔ IsTrue (open_after q x (is_agreed i q t) (is_only_at i q t) (is_open q t))) (sym e) (λ c. absurd (let none : c.0 < 0 = c.1 in omega arith), λ h. absurd (cc))
-
-pub gateway_is : (i : GatewayId) (zero one : Bool) (t : List Note) → zero ≡ is_synced Zero t → one ≡ is_synced One t → by_gateway i zero one ≡ is_synced i t
+gateway_is : (i : GatewayId) (zero one : Bool) (t : List Note) → zero ≡ is_synced Zero t → one ≡ is_synced One t → by_gateway i zero one ≡ is_synced i t
 gateway_is Zero zero one t a b = a
 gateway_is One zero one t a b = b
+
+-- no synced gateway has the pair for itself alone
+not_apart : (u v a b : Bool) (zero one : List Pair) (t : List Note) (q : Pair) → (IsTrue a ↔ Contains zero q) → (IsTrue b ↔ Contains one q) → (u && (a && is_private Zero q t)) ≡ false → (v && (b && is_private One q t)) ≡ false → (i : GatewayId) → IsTrue (by_gateway i u v) → IsTrue (is_private i q t) → ListsHold zero one i q → ⊥
+not_apart u v a b zero one t q f g none never Zero up private holds = both_ways (u && (a && is_private Zero q t)) none (and_from u (a && is_private Zero q t) up (and_from a (is_private Zero q t) (f.1 holds) private))
+not_apart u v a b zero one t q f g none never One up private holds = both_ways (v && (b && is_private One q t)) never (and_from v (b && is_private One q t) up (and_from b (is_private One q t) (g.1 holds) private))
+
+-- where a gateway is synced it holds the pair
+held_where : (u a : Bool) → (u ≡ true → a ≡ true) → (not u || a) ≡ true
+held_where true a f = f refl
+held_where false a f = refl
+
+where_held : (u a : Bool) → (not u || a) ≡ true → u ≡ true → a ≡ true
+where_held true a h e = h
+where_held false a h e = absurd (cc)
+
+both_held : (u v a b : Bool) (zero one : List Pair) (q : Pair) → (IsTrue a ↔ Contains zero q) → (IsTrue b ↔ Contains one q) → ((not u || a) && (not v || b)) ≡ true → (i : GatewayId) → IsTrue (by_gateway i u v) → ListsHold zero one i q
+both_held u v a b zero one q f g h Zero up = f.0 (where_held u a (and_parts (not u || a) (not v || b) h).0 up)
+both_held u v a b zero one q f g h One up = g.0 (where_held v b (and_parts (not u || a) (not v || b) h).1 up)
+
+-- of a pair that no synced gateway has for itself alone: each synced gateway holds it where it is held
+pub both_iff : (r u v a b : Bool) (zero one : List Pair) (t : List Note) (q : Pair) → (IsTrue a ↔ Contains zero q) → (IsTrue b ↔ Contains one q) → (u && (a && is_private Zero q t)) ≡ false → (v && (b && is_private One q t)) ≡ false → r ≡ ((not u || a) && (not v || b)) → IsTrue r ↔ IsHeld u v zero one t q
+both_iff r u v a b zero one t q f g none never e =
+    let alone : (i : GatewayId) → IsTrue (by_gateway i u v) → IsTrue (is_private i q t) → ListsHold zero one i q → ⊥ = not_apart u v a b zero one t q f g none never in (
+      λ h i up. inl (both_held u v a b zero one q f g (sym e ∙ h) i up),
+      λ h. e ∙ and_from (not u || a) (not v || b)
+          (held_where u a (λ up. elim (h Zero up) [ inl c ↦ f.1 c | inr c ↦ absurd (alone c.0 c.1 c.2 c.3) ]))
+          (held_where v b (λ up. elim (h One up) [ inl c ↦ g.1 c | inr c ↦ absurd (alone c.0 c.1 c.2 c.3) ])),
+    )
 
 -- where all open pairs of the list are held, the tables are kept
 pub is_kept : (f : Bool) (opens zero one : List Pair) (z o : Bool) (t : List Note) → Going opens z o (begun f t) → All (IsHeld z o zero one t) opens → past.Kept (ListsHold zero one) (begun f t)

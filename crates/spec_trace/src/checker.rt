@@ -1,6 +1,7 @@
 //! The checker of traces. The checker goes through the notes once, and keeps the list of open pairs
-//! and which gateways are synced.
-ghost use Rattle.std.specs.Prelude.{◌≡◌, ◌+◌, not, List, ◌∷◌, filter, reverse, ◌&&◌, IsTrue, ◌↔◌, OnOk, OnErr, IfErr, All, Contains};
+//! and which gateways are synced. In all functions `founded` says how the world of the notes began:
+//! with gateway 0 founded, or with nobody up.
+ghost use Rattle.std.specs.Prelude.{◌≡◌, ◌+◌, not, List, ◌∷◌, filter, reverse, ◌&&◌, ◌||◌, IsTrue, ◌↔◌, OnOk, OnErr, IfErr, All, Contains};
 ghost use Rattle.nat_types.specs.Same.{other, same, same_pair};
 ghost use Rattle.nat_types.specs.declared.gateways.GatewayId.TheVariants.{Zero, One};
 ghost use Rattle.spec_trace.specs.Past as past;
@@ -107,7 +108,7 @@ fn has_released(trace: &[Note], gateway: GatewayId, pair: Pair) -> bool
     gone
 }
 
-/// Whether a gateway is synced after these notes of a world that began so.
+/// Whether a gateway is synced after these notes.
 fn is_synced(founded: bool, trace: &[Note], gateway: GatewayId) -> bool
     ensures { result ≡ past.is_synced gateway (past.begun founded (reverse trace.now)) }
 {
@@ -176,8 +177,7 @@ fn is_in_use(founded: bool, trace: &[Note], gateway: GatewayId, pair: Pair) -> b
     is_synced(founded, trace, gateway) && goes_on(trace, gateway, pair)
 }
 
-/// Whether a pair is private to a gateway and not in use at the other, after these notes of a world
-/// that began so.
+/// Whether a pair is private to a gateway and not in use at the other, after these notes.
 #[tactic(auto, using(crate::proofs::Worlds::private_begun))]
 fn is_only_at(founded: bool, trace: &[Note], gateway: GatewayId, pair: Pair) -> bool
     ensures { result ≡ past.is_only_at gateway pair (past.begun founded (reverse trace.now)) }
@@ -227,6 +227,21 @@ fn fits_all(opens: &[Pair], before: &[Note], used: Pair) -> bool
     opens.iter().all(|open| do_fit(before, used, *open))
 }
 
+/// Whether a gateway is synced and holds a pair that is private to it.
+fn is_apart(trace: &[Note], synced: bool, held: bool, gateway: GatewayId, pair: Pair) -> bool
+    ensures { result ≡ (synced && (held && past.is_private gateway pair (reverse trace.now))) }
+{
+    synced && held && is_private(trace, gateway, pair)
+}
+
+/// Whether each synced gateway holds a pair. `synced` says which are synced, and `at_zero` and `at_one`
+/// which hold it.
+fn is_shared(synced: (bool, bool), at_zero: bool, at_one: bool) -> bool
+    ensures { result ≡ ((not synced.0 || at_zero) && (not synced.1 || at_one)) }
+{
+    (!synced.0 || at_zero) && (!synced.1 || at_one)
+}
+
 /// Whether an open pair is held by each synced gateway, or by a synced one to which it is private.
 /// `synced` says whether gateway 0 and gateway 1 are synced; `zero` and `one` are their tables.
 fn is_kept(trace: &[Note], synced: (bool, bool), zero: &[Pair], one: &[Pair], pair: Pair) -> bool
@@ -235,13 +250,13 @@ fn is_kept(trace: &[Note], synced: (bool, bool), zero: &[Pair], one: &[Pair], pa
 {
     let at_zero = has(zero, pair);
     let at_one = has(one, pair);
-    if synced.0 && at_zero && is_private(trace, GatewayId::Zero, pair) {
+    if is_apart(trace, synced.0, at_zero, GatewayId::Zero, pair) {
         return true;
     }
-    if synced.1 && at_one && is_private(trace, GatewayId::One, pair) {
+    if is_apart(trace, synced.1, at_one, GatewayId::One, pair) {
         return true;
     }
-    (!synced.0 || at_zero) && (!synced.1 || at_one)
+    is_shared(synced, at_zero, at_one)
 }
 
 /// Whether each open pair is kept.
@@ -267,7 +282,7 @@ fn remove(opens: &mut Vec<Pair>, pair: Pair)
 }
 
 /// Takes from the open pairs those that are lost with the box of a gateway that crashes after these
-/// notes of a world that began so.
+/// notes.
 fn lose(opens: &mut Vec<Pair>, founded: bool, before: &[Note], gateway: GatewayId)
     ensures { opens.new.items
         ≡ filter (λ q. not (past.is_only_at gateway q (past.begun founded (reverse before.now))))
@@ -285,8 +300,8 @@ fn of_gateway(gateway: GatewayId, zero: bool, one: bool) -> bool
     }
 }
 
-/// Judges one note of a world that began so. `before` has the notes before it, `opens` the pairs open
-/// there, and `synced` says whether its gateway is synced there.
+/// Judges one note. `before` has the notes before it, `opens` the pairs open there, and `synced` says
+/// whether its gateway is synced there.
 fn judge(
     opens: &[Pair],
     founded: bool,
@@ -323,8 +338,8 @@ fn judge(
     }
 }
 
-/// Whether a release of a pair after these notes of a world that began so is an agreed deletion.
-/// `alone` says that the other gateway isn't synced.
+/// Whether a release of a pair after these notes is an agreed deletion. `alone` says that the other
+/// gateway isn't synced.
 #[tactic(auto, using(crate::proofs::Worlds::released_begun))]
 fn is_agreed(founded: bool, before: &[Note], alone: bool, gateway: GatewayId, pair: Pair) -> bool
     requires { alone
@@ -336,9 +351,8 @@ fn is_agreed(founded: bool, before: &[Note], alone: bool, gateway: GatewayId, pa
         || is_only_at(founded, before, gateway, pair)
 }
 
-/// Changes the list of open pairs as one note does, of a world that began so. `before` has the notes
-/// before it, and `alone` says that the other gateway isn't synced. Answers `NoMemory` where the list
-/// can't grow.
+/// Changes the list of open pairs as one note does. `before` has the notes before it, and `alone`
+/// says that the other gateway isn't synced. Answers `NoMemory` where the list can't grow.
 fn follow(
     opens: &mut Vec<Pair>,
     founded: bool,

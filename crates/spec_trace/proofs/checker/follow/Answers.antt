@@ -1,7 +1,7 @@
 use Rattle.std.proofs.Common.{reverse, sym, ◌∙◌}
 use Rattle.std.specs.List.{Contains}
 use Rattle.spec_trace.specs.Past.{begun}
-use Rattle.spec_trace.proofs.Notes.{used_new, used_old, released_gone, released_stays, founded_none, crashed_less}
+use Rattle.spec_trace.proofs.Notes.{used_new, used_old, released_gone, released_stays, crashed_less}
 use Rattle.spec_trace.proofs.checker.follow.Goals as goal
 
 pub returns-in_ok-push-in-Used-clause-ok : goal.returns-in_ok-push-in-Used-clause-ok
@@ -20,6 +20,3 @@ returns-else-is_agreed-clause-ok c = released_stays c.in-Released.pair c.args.op
 
 pub returns-in-Crashed-clause-ok : goal.returns-in-Crashed-clause-ok
 returns-in-Crashed-clause-ok c q = rw c.lose.ensures (crashed_less c.args.opens.now.items (begun c.args.founded (reverse c.args.before.now)) c.args.note.now.by c.args.note.now.what c.requires.pairs c.in-Crashed.is q)
-
-pub returns-in-Founded-clause-ok : goal.returns-in-Founded-clause-ok
-returns-in-Founded-clause-ok c q = rw c.clear.ensures (founded_none (begun c.args.founded (reverse c.args.before.now)) c.args.note.now.by c.args.note.now.what c.in-Founded.is q)
