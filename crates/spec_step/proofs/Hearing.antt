@@ -350,7 +350,7 @@ module _ (reads : Reads) (s : GatewayAndOutput) (h : List Record) (bytes : List 
 
       at : (z : Bool) → is_restart e d ≡ z → (c : Bool) → does_found s.shown d ≡ c → Ready (let x : GatewayAndOutput = cond z (reset after) after in let y : GatewayAndOutput = cond c (pair_founded x) x in y)
       at z boot true sure = founds sure z (start-ready z boot rightly)
-      at z boot false no = start-ready z boot rightly
+      at z boot false never = start-ready z boot rightly
 
   -- the peer's end, behind the records, is a part of a step of the machine
   over : (done : GatewayAndOutput) → Through done → is_over e d ≡ true → is_synced done.shown.ledger.book.stage ≡ true → Arrives (l ∷ []) [] s (word_taken done d.boot) h

@@ -3,6 +3,7 @@ mod Ahead
 mod Apart
 mod Asked
 mod Asking
+mod AskingHeard
 mod AskingParts
 mod Before
 mod Bare
@@ -20,6 +21,7 @@ mod Freeing
 mod Giving
 mod GoingOn
 mod HavingPlace
+mod Growing
 mod Healing
 mod Heard
 mod Hearing

@@ -38,7 +38,7 @@ use Rattle.vrrp_states.specs.Table.{Event as RouterEvent}
 use Rattle.spec_step.specs.declared.events.Event.{Event}
 use Rattle.spec_step.specs.declared.events.Event.TheVariants.{Frame, Datagram as Comes, Tick, Stop, End, PeerOff, Side as SideIs}
 use Rattle.spec_step.specs.GivingWay.{GivingWay, left, turn_of}
-use Rattle.spec_step.specs.Parts.{all_idle_done, all_sought_done, alone_taken, answered_by, arp_taken, by_row, datagram_in, datagram_read, does_found, gone_alone, handed_in, has_synced, heard_by, heard_unless, idle_done, idle_taken, is_taught, link_ticked, met_by, old_dropped, pair_founded, peer_ended, peer_told, record_done, record_shown, record_taken, record_told, records_done, released, reset, routers_started, side_plugged, sought_done, waits_for_sender, wait_ended, word_taken}
+use Rattle.spec_step.specs.Parts.{all_idle_done, all_sought_done, alone_taken, answered_by, arp_taken, by_row, datagram_in, datagram_read, does_found, gone_alone, handed_in, has_synced, heard_by, heard_unless, idle_done, idle_taken, is_taught, link_ticked, met_by, old_dropped, pair_founded, peer_ended, peer_told, record_done, record_shown, record_taken, record_told, records_done, released, reset, retaken_by, routers_started, side_plugged, sought_done, waits_for_sender, wait_ended, word_taken}
 use Rattle.spec_step.specs.Routers.{BothAct, RouterActs}
 use Rattle.spec_step.specs.Shown.{GatewayAndOutput, Shown, id_of, is_apart, is_running, scene, station_on, with_notes, with_station}
 use Rattle.spec_step.specs.Steps.{Does, FrameDoes, IsStepOn, ended_on, stopped, ticked, word_by, word_refusal}
@@ -46,7 +46,7 @@ use Rattle.spec_step.specs.Verdict.{reading_on}
 use Rattle.spec_step.proofs.Ahead.{asking, record-behind}
 use Rattle.spec_step.proofs.Heard.{end-leads, heard-leads, reset-stage, taken_in}
 use Rattle.spec_step.proofs.Lines.{acts-shown, both-shown}
-use Rattle.spec_step.proofs.Staging.{echo-has, error-has, flow-has, refused-has, released-stage}
+use Rattle.spec_step.proofs.Staging.{read-stage, released-stage}
 use Rattle.spec_step.proofs.Turning.{back_as, turn-by}
 
 -- the gateway is synced
@@ -88,13 +88,16 @@ acts-on s side event s2 acts on =
 both-on : (s : GatewayAndOutput) (event : RouterEvent) (s2 : GatewayAndOutput) → BothAct s event s2 → On s → On s2
 both-on s event s2 both on = subst (λ (g : Shown). is_synced g.ledger.book.stage ≡ true) (sym (both-shown s event s2 both)) on
 
+read-on : (s : GatewayAndOutput) (side : Side) (bytes : List ℕ) (r : Result Reading Reason) → On s → On (retaken_by s side bytes r)
+read-on s side bytes r on = ap is_synced (read-stage s side bytes r).1 ∙ on
+
 frame-on : (s : GatewayAndOutput) (side : Side) (bytes : List ℕ) (r : Result Reading Reason) (s2 : GatewayAndOutput) → FrameDoes s side bytes r s2 → On s → On s2
 frame-on s side bytes (Ok (Arp p)) s2 does on = subst (λ (x : GatewayAndOutput). On x) (sym does) (arp-on s side p on)
 frame-on s side bytes (Ok (Advert a from)) s2 does on = acts-on s side (table.Heard a.priority a.interval from.0) s2 does on
-frame-on s side bytes (Ok (Packet packet)) s2 does on = subst (λ (x : GatewayAndOutput). On x) (sym does) (ap is_synced (flow-has (id_of s.shown) s.shown.ledger.book.stage s side bytes packet.flow (refl, refl)).1 ∙ on)
-frame-on s side bytes (Ok (Error packet)) s2 does on = subst (λ (x : GatewayAndOutput). On x) (sym does) (ap is_synced (error-has (id_of s.shown) s.shown.ledger.book.stage s side bytes packet.flow (refl, refl)).1 ∙ on)
-frame-on s side bytes (Ok (Asked echo)) s2 does on = subst (λ (x : GatewayAndOutput). On x) (sym does) (ap is_synced (echo-has (id_of s.shown) s.shown.ledger.book.stage s side bytes echo (refl, refl)).1 ∙ on)
-frame-on s side bytes (Err reason) s2 does on = subst (λ (x : GatewayAndOutput). On x) (sym does) (ap is_synced (refused-has (id_of s.shown) s.shown.ledger.book.stage s side side bytes reason (refl, refl)).1 ∙ on)
+frame-on s side bytes (Ok (Packet packet)) s2 does on = subst (λ (x : GatewayAndOutput). On x) (sym does) (read-on s side bytes (Ok (Packet packet)) on)
+frame-on s side bytes (Ok (Error packet)) s2 does on = subst (λ (x : GatewayAndOutput). On x) (sym does) (read-on s side bytes (Ok (Error packet)) on)
+frame-on s side bytes (Ok (Asked echo)) s2 does on = subst (λ (x : GatewayAndOutput). On x) (sym does) (read-on s side bytes (Ok (Asked echo)) on)
+frame-on s side bytes (Err reason) s2 does on = subst (λ (x : GatewayAndOutput). On x) (sym does) (read-on s side bytes (Err reason) on)
 
 -- ---- records, datagrams and the operator's word
 
@@ -147,9 +150,9 @@ unless-on : (s : GatewayAndOutput) (d : Datagram) (o : Option LinkFault) → On 
 unless-on s d None on = heard-on s d on
 unless-on s d (Some fault) on = on
 
-read-on : (s : GatewayAndOutput) (r : Result Datagram LinkFault) → On s → On (datagram_read s r)
-read-on s (Ok d) on = unless-on s d (refusal s.shown.link d) on
-read-on s (Err fault) on = on
+hears-on : (s : GatewayAndOutput) (r : Result Datagram LinkFault) → On s → On (datagram_read s r)
+hears-on s (Ok d) on = unless-on s d (refusal s.shown.link d) on
+hears-on s (Err fault) on = on
 
 word-on : (s : GatewayAndOutput) (n : ℕ) (o : Option Reason) → On s → On (word_by s n o)
 word-on s n None on = word-taken-on s n
@@ -194,7 +197,7 @@ ticked-on s on = at (is_due_on_tick (handed_in s.shown).link s.shown.moment)
 
 does-on : (s : GatewayAndOutput) (event : Event) (done : GatewayAndOutput) → Does s event done → On s → On done
 does-on s (Frame side bytes) done does on = frame-on s side bytes.now (reading_on s.shown side bytes.now) done does on
-does-on s (Comes bytes) done does on = subst (λ (x : GatewayAndOutput). On x) (sym does) (read-on s (reading bytes.now) on)
+does-on s (Comes bytes) done does on = subst (λ (x : GatewayAndOutput). On x) (sym does) (hears-on s (reading bytes.now) on)
 does-on s (Tick now) done does on =
     let turned : On does.0 = turn-on (ticked s now) does.0 does.2 on in
     let middle : On does.1 = both-on does.0 table.Tick does.1 does.3 turned in
