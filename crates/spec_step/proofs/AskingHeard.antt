@@ -111,19 +111,16 @@ link-asks s e = quiet-asks [] s (with_link s e) (quiet-by s (with_link s e) refl
 heard-asks : Frames → (s : GatewayAndOutput) (d : Datagram) → IsWellFormed d → IsBook s.shown.ledger.book → Ask-on [] (frees_heard s d None) s (heard_by s d)
 heard-asks frames s d fits is = λ w. all (through w) w
   where
-    e : Link
-    e = s.shown.link
-
-    abbrev x : GatewayAndOutput
+    x : GatewayAndOutput
     x = taken_in s d
 
-    abbrev met : GatewayAndOutput
+    met : GatewayAndOutput
     met = met_by s d
 
-    abbrev rs : List Record
+    rs : List Record
     rs = records_taken s.shown.link d
 
-    abbrev done : GatewayAndOutput
+    done : GatewayAndOutput
     done = records_done met rs
 
     -- the book is one behind the records too

@@ -530,7 +530,7 @@ founded-grows c s = λ le.
 met-grows : (c : ℕ) (s : GatewayAndOutput) (d : Datagram) → Growing c (entries_of s + 3 * c + 1) c s (met_by s d)
 met-grows c s d = at (is_restart s.shown.link d) (does_found s.shown d)
   where
-    abbrev start : Bool → GatewayAndOutput
+    start : Bool → GatewayAndOutput
     start b = cond b (reset (taken_in s d)) (taken_in s d)
 
     starts : (b : Bool) → Growing c (entries_of s + 3 * c) c s (start b)
@@ -559,7 +559,7 @@ most entries c = 2 * entries + 3 * (3 * c) + 128 * (1 + 3 * c) + 2
 heard-within : (c : ℕ) (s : GatewayAndOutput) (d : Datagram) → IsWellFormed d → Within c (most (length s.shown.ledger.book.entries) c) s (heard_by s d)
 heard-within c s d fits = λ le. at (is_over s.shown.link d && is_synced (records_done (met_by s d) (records_taken s.shown.link d)).shown.ledger.book.stage) (through le)
   where
-    abbrev done : GatewayAndOutput
+    done : GatewayAndOutput
     done = records_done (met_by s d) (records_taken s.shown.link d)
 
     through : Growing c ((entries_of s + 3 * c + 1) + 64 * (1 + 3 * c)) (c + 64 * (1 + c)) s done

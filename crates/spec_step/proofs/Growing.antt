@@ -9,7 +9,8 @@ use Rattle.nat_types.specs.declared.pairs.Pair.{Pair}
 use Rattle.nat_types.specs.declared.records.Record.{Record}
 use Rattle.nat_types.specs.declared.records.Record.TheVariants as rec
 use Rattle.bindings.specs.declared.entries.Entry.{Entry}
-use Rattle.bindings.specs.Entries.{entry_in, has_key, is_pair, put_in, with_state, without}
+use Rattle.bindings.specs.Entries.{entry_in, has_key, is_pair}
+use Rattle.bindings.specs.Lists.{put_in, with_state, without}
 use Rattle.bindings.specs.Revivals.{revived_entries, woken_entry}
 use Rattle.bindings.proofs.Offered.{length-put, length-turn}
 use Rattle.resync.specs.Loading.{Load, is_beside, is_new, loaded, loaded_state, names_run, none_yet, where_, with_pair, with_run}

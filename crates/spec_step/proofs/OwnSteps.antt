@@ -202,10 +202,10 @@ met-just frames s d = at (is_restart s.shown.link d) (does_found s.shown d)
     after : GatewayAndOutput
     after = taken_in s d
 
-    abbrev start : Bool → GatewayAndOutput
+    start : Bool → GatewayAndOutput
     start b = cond b (reset after) after
 
-    abbrev own : Bool → List Sent
+    own : Bool → List Sent
     own b = cond b (own_reset after) []
 
     starts : (b : Bool) → Justly (own b) s (start b)
