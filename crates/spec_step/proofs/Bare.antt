@@ -94,7 +94,7 @@ reset-bare s has =
       (reset-stage s).1 ∙ has.0,
       ap (λ (x : GatewayAndOutput). x.shown.kept) same ∙ has.1,
       ap (λ (x : GatewayAndOutput). occupied x.shown.link) same
-      ∙ ap (λ (t : Bool). occupied (let x : Link = cond t (with_promised e (length (restart_batch b))) e in x)) has.0 ∙ has.2,
+          ∙ ap (λ (t : Bool). occupied (let x : Link = cond t (with_promised e (length (restart_batch b))) e in x)) has.0 ∙ has.2,
     )
 
 -- ---- records

@@ -492,8 +492,7 @@ record-all c s r = λ le.
     let s3 = scene (record_shown g r) (record_told g r s.told) in
     let same = routed-same (has_synced g g2 && is_running g2) g2 in
     let kept : length s3.shown.kept ≤ c = omega (arith, le, ap (λ (ws : List HeldPacket). length ws) same.0) in
-    let within = record-within c s r le in
-    (
+    let within = record-within c s r le in (
       within.0,
       within.1,
       omega (
@@ -520,8 +519,7 @@ founded-grows : (c : ℕ) (s : GatewayAndOutput) → Growing c 1 0 s (pair_found
 founded-grows c s = λ le.
     let g = s.shown in
     let g2 : Shown = record g { ledger = founded_ledger g.ledger; link = founding_link g.ledger.book g.link } in
-    let same = routed-same (has_synced g g2 && is_running g2) g2 in
-    (
+    let same = routed-same (has_synced g g2 && is_running g2) g2 in (
       omega (arith, length-append s.told.notes (founding_note (id_of g) g.moment ∷ [])),
       omega (arith, le, ap (λ (ws : List HeldPacket). length ws) same.0),
       omega (arith, ap (λ (l : Ledger). length l.book.entries) same.1),
