@@ -19,14 +19,14 @@ use Rattle.link.specs.declared.datagrams.Datagram.{Datagram}
 use Rattle.link.specs.declared.faults.LinkFault.{LinkFault}
 use Rattle.link.specs.declared.datagrams.Status.TheVariants.{Ending}
 use Rattle.link.specs.Grammar.{IsWellFormed, IsWellFormedRecord, spelling}
-use Rattle.link.specs.Link.{Link, after_take, closed_at, is_due_on_tick, is_restart, records_taken, refusal, sent_on_answer, sent_on_tick, wanted, datagram_of, left_by}
+use Rattle.link.specs.Link.{Link, after_take, closed_at, is_due_on_tick, records_taken, refusal, sent_on_answer, sent_on_tick, wanted, datagram_of, left_by}
 use Rattle.link.specs.Reading.{reading}
 use Rattle.link.proofs.Offered.{all_taken, reading_takes}
 use Rattle.resync.specs.Loading.{Load, loaded}
 use Rattle.spec_pair.specs.Talk.{note}
-use Rattle.spec_binding.specs.Books.{Book, emptied, is_lone, is_synced, IsBook, load_of}
+use Rattle.spec_binding.specs.Books.{Book, is_lone, is_synced, IsBook, load_of}
 use Rattle.spec_binding.specs.Ledgers.{Ledger, lone_ledger, ledger_after, release_all, may_ask, restarted_ledger, rests_for, taken_ledger, go_on_all, sought_keys, founded_ledger}
-use Rattle.spec_binding.specs.Resets.{back_in, begun_anew, restart_link, restart_notes, restarted, retaken, founding_link, founding_note}
+use Rattle.spec_binding.specs.Resets.{back_in, restart_link, restart_notes, retaken, founding_link, founding_note}
 use Rattle.spec_binding.specs.Rows.{after, answered, load_taken, noted_by, row_of, taken_answer, taken_book, taken_ended, taken_what, unsynced_after, idle_row, alone_row, is_full}
 use Rattle.spec_binding.specs.Uses.{Accounts}
 use Rattle.spec_binding.proofs.Offered.{lone-keeps, fed-keeps, idle-keeps, restart-keeps, taken-keeps, change-leaves, lone-accounts, fed-accounts, later-accounts, let-go-accounts, restarted-accounts, taken-accounts, alone-row-keeps, go-on-accounts, founding-accounts, founding-keeps}

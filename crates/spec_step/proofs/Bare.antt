@@ -1,5 +1,5 @@
 -- A gateway without a table keeps no packet, and has pushed nothing that isn't taken, until it is synced.
-use Rattle.std.proofs.Common.{◌≡◌, ◌⊎◌, inl, inr, ◌∙◌, ℕ, ◌+◌, ◌-◌, min, Bool, true, false, not, cond, ◌&&◌, Option, Some, None, Result, Ok, Err, List, [], ◌∷◌, ◌++◌, drop, filter, length, take, refl, sym, ap, subst, arith}
+use Rattle.std.proofs.Common.{◌≡◌, ◌⊎◌, inl, inr, ◌∙◌, ℕ, ◌-◌, Bool, true, false, not, cond, ◌&&◌, Option, Some, None, Result, Ok, Err, List, [], ◌∷◌, filter, length, take, refl, sym, ap, subst, arith}
 use Rattle.std.proofs.lemmas.Bool.{and_parts, both_ways}
 use Rattle.std.proofs.lemmas.List.{length-append, length-drop, length-take}
 use Rattle.addresses.specs.declared.internet.Ip.{Ip}
@@ -13,13 +13,13 @@ use Rattle.bindings.specs.Entries.{slot_of}
 use Rattle.bindings.specs.Lives.{idle_keys_in}
 use Rattle.link.specs.declared.datagrams.Datagram.{Datagram}
 use Rattle.link.specs.declared.faults.LinkFault.{LinkFault}
-use Rattle.link.specs.Link.{Link, acknowledged_to, after_take, is_due_on_tick, is_restart, left_by as left_after, occupied, records_taken, refusal, restarted as link_restarted, sent_on_tick, wanted, with_fed, with_promised}
+use Rattle.link.specs.Link.{Link, acknowledged_to, after_take, is_due_on_tick, is_restart, occupied, records_taken, refusal, restarted as link_restarted, sent_on_tick, wanted, with_promised}
 use Rattle.link.specs.Reading.{reading}
 use Rattle.link.proofs.Offered.{left_keeps}
 use Rattle.spec_binding.specs.declared.changes.Transition.{Transition}
 use Rattle.spec_binding.specs.declared.setups.Stage.{Stage}
 use Rattle.spec_binding.specs.declared.setups.Stage.TheVariants.{Unsynced, Paired, Lone}
-use Rattle.spec_binding.specs.Books.{Book, is_lone, is_paired, is_synced}
+use Rattle.spec_binding.specs.Books.{is_lone, is_paired, is_synced}
 use Rattle.spec_binding.specs.Ledgers.{may_ask, restarted_ledger, rests_for, sought_keys}
 use Rattle.spec_binding.specs.Resets.{restart_batch, restart_link, restart_notes}
 use Rattle.spec_binding.specs.Rows.{alone_row, answered, behind, idle_row, is_full, quiet, release_row, row_of, sought_row, taken_ended}
@@ -30,18 +30,17 @@ use Rattle.waiting.specs.declared.waits.WaitsFor.TheVariants as wait
 use Rattle.waiting.specs.Packets.{HeldPacket, ended_by, is_young, left_by}
 use Rattle.packet_rules.specs.declared.readings.Reading.{Reading}
 use Rattle.packet_rules.specs.declared.reasons.Reason.{Reason}
-use Rattle.packet_rules.specs.declared.reasons.Reason.TheVariants.{NotUp, OldWord}
-use Rattle.interfaces.specs.Stations.{Interface, is_active, with_plug}
+use Rattle.interfaces.specs.Stations.{is_active}
 use Rattle.output.specs.Output.{with_datagram}
 use Rattle.vrrp_states.specs.Table as table
 use Rattle.vrrp_states.specs.Table.{Event as RouterEvent}
 use Rattle.spec_step.specs.declared.events.Event.{Event}
 use Rattle.spec_step.specs.declared.events.Event.TheVariants.{Frame, Datagram as Comes, Tick, Stop, End, PeerOff, Side as SideIs}
-use Rattle.spec_step.specs.GivingWay.{GivingWay, left, turn_of}
-use Rattle.spec_step.specs.Parts.{all_idle_done, all_sought_done, all_taken, alone_taken, by_row, datagram_in, datagram_read, gone_alone, handed_in, has_synced, heard_by, heard_unless, idle_done, idle_taken, link_ticked, met_by, old_dropped, pair_founded, peer_told, record_done, record_shown, record_taken, record_told, records_done, refused, released, renewed_behind, reset, routers_started, side_plugged, sought_done, wait_ended, with_link, word_taken}
+use Rattle.spec_step.specs.GivingWay.{GivingWay, turn_of}
+use Rattle.spec_step.specs.Parts.{all_idle_done, all_sought_done, all_taken, alone_taken, by_row, datagram_in, datagram_read, gone_alone, handed_in, has_synced, heard_by, heard_unless, idle_done, idle_taken, link_ticked, met_by, old_dropped, peer_told, record_done, record_shown, record_taken, record_told, records_done, released, renewed_behind, reset, routers_started, side_plugged, sought_done, wait_ended}
 use Rattle.spec_step.specs.Routers.{BothAct}
 use Rattle.spec_step.specs.Settled.{IsSettled}
-use Rattle.spec_step.specs.Shown.{GatewayAndOutput, Shown, id_of, is_apart, is_running, is_up, scene, station_on, with_notes, with_station}
+use Rattle.spec_step.specs.Shown.{GatewayAndOutput, Shown, id_of, is_apart, is_running, is_up, scene, station_on, with_notes}
 use Rattle.spec_step.specs.Steps.{Does, FrameDoes, IsStepOn, ended_on, ticked, word_by, word_refusal}
 use Rattle.spec_step.specs.Verdict.{reading_on}
 use Rattle.spec_step.proofs.Behind.{asked_behind}

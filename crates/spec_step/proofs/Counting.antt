@@ -32,9 +32,9 @@ use Rattle.link.specs.Reading.{reading}
 use Rattle.link.proofs.Offered.{length-takeable, reading_takes}
 use Rattle.spec_binding.specs.declared.changes.Transition.{Transition}
 use Rattle.spec_binding.specs.Books.{Book, is_lone, is_synced}
-use Rattle.spec_binding.specs.Ledgers.{Ledger, founded_ledger, lone_ledger, may_ask, restarted_ledger, rests_for, taken_ledger, sought_keys}
+use Rattle.spec_binding.specs.Ledgers.{Ledger, founded_ledger, lone_ledger, may_ask, restarted_ledger, rests_for, sought_keys}
 use Rattle.spec_binding.specs.Resets.{back_in, founding_link, founding_note, restart_link, restart_notes, retaken}
-use Rattle.spec_binding.specs.Rows.{answered, carry_row, idle_row, is_full, noted_by, taken_answer, taken_ended, taken_what, wish_of, alone_row, noted_with}
+use Rattle.spec_binding.specs.Rows.{carry_row, idle_row, is_full, noted_by, taken_ended, taken_what, wish_of, alone_row, noted_with}
 use Rattle.waiting.specs.declared.waits.Ended.{Ended}
 use Rattle.waiting.specs.declared.waits.Ended.TheVariants.{AllPairs, One}
 use Rattle.waiting.specs.declared.waits.WaitsFor.{WaitsFor}
@@ -61,7 +61,7 @@ use Rattle.spec_step.specs.declared.events.Event.TheVariants.{Frame, Datagram as
 use Rattle.spec_step.specs.declared.plans.Plan.{Plan}
 use Rattle.spec_step.specs.declared.plans.Plan.TheVariants.{Send, Ask, AskAgain, Wait as WaitFor}
 use Rattle.spec_step.specs.Machine.{AreBytes, HasBytes}
-use Rattle.spec_step.specs.Parts.{all_framed, all_idle_done, all_taken, answered_by, arp_taken, asked_again, by_plan, by_row, by_verdict, carried_all, carried_by, datagram_in, datagram_read, flags_in, flow_taken, framed, frames_of, handed_in, has_synced, heard_by, heard_unless, idle_done, idle_taken, keeping, link_answered, link_ticked, old_dropped, record_done, record_shown, record_told, records_done, released, renewed_behind, request_by, reset, retaken_by, started, taken_again, wait_ended, waiting, wanted_by, wanted_for, with_link, word_taken, by_error_plan, by_error_verdict, error_taken, echo_taken, size_in, refused, all_sought_done, alone_taken, gone_alone, peer_told, sought_done, waits_for_sender, is_taught, record_taken, does_found, link_ended, met_by, pair_founded, routers_started}
+use Rattle.spec_step.specs.Parts.{all_framed, all_idle_done, all_taken, answered_by, arp_taken, asked_again, by_plan, by_row, by_verdict, carried_all, carried_by, datagram_in, datagram_read, flags_in, flow_taken, framed, frames_of, handed_in, has_synced, heard_by, heard_unless, idle_done, idle_taken, keeping, link_answered, link_ticked, old_dropped, record_done, record_shown, record_told, records_done, released, renewed_behind, request_by, reset, retaken_by, started, taken_again, wait_ended, waiting, wanted_by, wanted_for, word_taken, by_error_plan, by_error_verdict, error_taken, echo_taken, size_in, refused, all_sought_done, alone_taken, gone_alone, peer_told, sought_done, waits_for_sender, is_taught, record_taken, does_found, met_by, pair_founded, routers_started}
 use Rattle.spec_step.specs.Rests.{most_notes}
 use Rattle.spec_step.specs.Shown.{GatewayAndOutput, Shown, id_of, is_apart, is_running, scene, station_on, with_notes, with_station}
 use Rattle.spec_step.specs.Routers.{BothAct, RouterActs}

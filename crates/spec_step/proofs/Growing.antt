@@ -1,37 +1,33 @@
 -- How many entries a table gets: at most one by a packet that is taken, and one by a record.
-use Rattle.std.proofs.Common.{◌≡◌, ◌≤◌, ℕ, suc, ◌+◌, ◌*◌, Bool, true, false, not, cond, ◌&&◌, Option, Some, None, Result, Ok, Err, List, [], ◌∷◌, length, map, filter, refl, sym, ap, subst, arith}
+use Rattle.std.proofs.Common.{◌≤◌, ℕ, suc, ◌+◌, Bool, true, false, not, cond, ◌&&◌, List, [], ◌∷◌, length, filter, refl, ap, arith}
 use Rattle.std.proofs.lemmas.List.{length-map}
 use Rattle.std.proofs.lemmas.List.Filters.{length-filter_both}
 use Rattle.nat_types.specs.declared.pairs.Endpoint.{Endpoint}
 use Rattle.nat_types.specs.declared.pairs.EntryState.TheVariants.{Doomed, Held, Live}
 use Rattle.nat_types.specs.declared.pairs.Key.{Key}
-use Rattle.nat_types.specs.declared.pairs.Pair.{Pair}
 use Rattle.nat_types.specs.declared.records.Record.{Record}
 use Rattle.nat_types.specs.declared.records.Record.TheVariants as rec
 use Rattle.bindings.specs.declared.entries.Entry.{Entry}
 use Rattle.bindings.specs.Entries.{entry_in, has_key, is_pair}
-use Rattle.bindings.specs.Lists.{put_in, with_state, without}
+use Rattle.bindings.specs.Lists.{with_state, without}
 use Rattle.bindings.specs.Revivals.{revived_entries, woken_entry}
 use Rattle.bindings.proofs.Offered.{length-put, length-turn}
-use Rattle.resync.specs.Loading.{Load, is_beside, is_new, loaded, loaded_state, names_run, none_yet, where_, with_pair, with_run}
+use Rattle.resync.specs.Loading.{Load, is_beside, is_new, loaded_state, names_run, none_yet, where_, with_pair, with_run}
 use Rattle.spec_binding.specs.declared.changes.Change.{Change}
 use Rattle.spec_binding.specs.declared.changes.Change.TheVariants as change
-use Rattle.spec_binding.specs.declared.changes.Transition.{Transition}
 use Rattle.spec_binding.specs.Books.{Book, emptied, is_synced, load_of}
 use Rattle.spec_binding.specs.Ledgers.{rests_for}
 use Rattle.spec_binding.specs.Resets.{begun_anew, restarted}
-use Rattle.spec_binding.specs.Rows.{after, changed, is_full, load_taken, numbers_of, row_of, taken_book, taken_ended, unsynced_after, wish_of}
+use Rattle.spec_binding.specs.Rows.{after, changed, is_full, load_taken, numbers_of, row_of, taken_book, unsynced_after, wish_of}
 use Rattle.spec_binding.proofs.Offered.{gained-is}
 use Rattle.waiting.specs.declared.waits.Ended.{Ended}
 use Rattle.waiting.specs.Packets.{HeldPacket, ended_by, left_by}
 use Rattle.waiting.specs.Waits.{ends}
-use Rattle.packet_rules.specs.declared.readings.Reading.{Reading}
-use Rattle.packet_rules.specs.declared.reasons.Reason.{Reason}
-use Rattle.spec_step.specs.Parts.{all_taken, by_row, record_taken, released, retaken_by, taken_again, wanted_by}
+use Rattle.spec_step.specs.Parts.{all_taken, record_taken, released, taken_again, wanted_by}
 use Rattle.spec_step.specs.Shown.{GatewayAndOutput, Shown, is_apart, scene}
 use Rattle.spec_step.specs.Verdict.{reading_on}
 use Rattle.output.specs.Output.{Output}
-use Rattle.spec_step.proofs.Ahead.{asking, record-behind, record_alone, row-behind}
+use Rattle.spec_step.proofs.Ahead.{record-behind, row-behind}
 use Rattle.spec_step.proofs.Staging.{retaken-has}
 
 -- how many entries the gateway has

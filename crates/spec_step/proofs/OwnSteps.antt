@@ -18,9 +18,9 @@ use Rattle.link.specs.Link.{after_take, is_due_on_tick, is_over, is_restart, rec
 use Rattle.link.specs.Reading.{reading}
 use Rattle.link.proofs.Offered.{all_taken as all_formed, reading_takes}
 use Rattle.spec_binding.specs.Books.{is_lone, is_synced}
-use Rattle.spec_binding.specs.Ledgers.{founded_ledger, rests_for, sought_keys, taken_ledger}
+use Rattle.spec_binding.specs.Ledgers.{founded_ledger, rests_for, sought_keys}
 use Rattle.spec_binding.specs.Resets.{founding_link}
-use Rattle.spec_binding.specs.Rows.{answered, taken_answer, taken_ended}
+use Rattle.spec_binding.specs.Rows.{taken_ended}
 use Rattle.waiting.specs.declared.waits.Ended.{Ended}
 use Rattle.waiting.specs.declared.waits.Ended.TheVariants.{AllPairs, One}
 use Rattle.waiting.specs.declared.waits.WaitsFor.TheVariants as wait
@@ -38,7 +38,7 @@ use Rattle.spec_step.specs.declared.events.Event.TheVariants.{Frame, Datagram as
 use Rattle.spec_step.specs.GivingWay.{GivingWay, left, turn_of}
 use Rattle.spec_step.specs.Machine.{AreBytes, HasBytes}
 use Rattle.spec_step.specs.OwnAnswers.{SaysJust}
-use Rattle.spec_step.specs.Parts.{acted, all_framed, all_idle_done, answered_by, arp_taken, datagram_in, datagram_read, framed, frames_of, handed_in, has_synced, heard_by, heard_unless, idle_done, idle_taken, link_answered, link_ticked, old_dropped, record_done, records_done, released, reset, routers_started, side_plugged, wait_ended, with_link, with_routers, word_taken, all_sought_done, alone_taken, gone_alone, peer_told, sought_done, waits_for_sender, is_taught, record_taken, does_found, link_ended, met_by, pair_founded, peer_ended}
+use Rattle.spec_step.specs.Parts.{acted, all_framed, all_idle_done, answered_by, arp_taken, datagram_in, datagram_read, framed, frames_of, handed_in, has_synced, heard_by, heard_unless, idle_done, idle_taken, link_answered, link_ticked, old_dropped, record_done, records_done, released, reset, routers_started, side_plugged, wait_ended, with_routers, word_taken, all_sought_done, alone_taken, gone_alone, peer_told, sought_done, waits_for_sender, is_taught, record_taken, does_found, met_by, pair_founded, peer_ended}
 use Rattle.spec_step.specs.Routers.{BothAct, RouterActs}
 use Rattle.spec_step.specs.Sayings.{AreOwnIn, own_alone, own_arp, own_datagram, own_ended, own_framed, own_heard, own_lone, own_over, own_record, own_records, own_released, own_reset, own_word}
 use Rattle.spec_step.specs.Shown.{GatewayAndOutput, Shown, is_running, scene, station_on, with_station, is_apart}

@@ -7,7 +7,7 @@ use Rattle.link.specs.Grammar.{IsWellFormedRecord}
 use Rattle.link.specs.Link.{Link}
 use Rattle.spec_pair.specs.Box.{Letter}
 use Rattle.spec_binding.specs.Books.{is_lone, Book, is_synced}
-use Rattle.spec_binding.specs.Ledgers.{rests_for, taken_ledger}
+use Rattle.spec_binding.specs.Ledgers.{rests_for}
 use Rattle.spec_binding.specs.Machine.{IsTurn, Stands}
 use Rattle.spec_binding.specs.Rows.{answered, noted_by, taken_answer, taken_book, taken_ended, taken_what, behind, after, row_of, quiet, is_full, unsynced_after}
 use Rattle.spec_binding.proofs.Offered.{taken-keeps, taken-together, works-more, record-works}

@@ -17,12 +17,12 @@ use Rattle.ipv4.specs.declared.flows.Flow.{Flow}
 use Rattle.bindings.specs.Lives.{idle_keys_in}
 use Rattle.link.specs.declared.datagrams.Datagram.{Datagram}
 use Rattle.link.specs.declared.faults.LinkFault.{LinkFault}
-use Rattle.link.specs.Link.{after_take, closed_at, is_due_on_tick, is_restart, records_taken, refusal, sent_on_tick}
+use Rattle.link.specs.Link.{closed_at, is_due_on_tick, records_taken, refusal, sent_on_tick}
 use Rattle.link.specs.Reading.{reading}
 use Rattle.spec_binding.specs.Books.{is_lone}
-use Rattle.spec_binding.specs.Ledgers.{lone_ledger, restarted_ledger, rests_for, sought_keys, taken_ledger, founded_ledger}
+use Rattle.spec_binding.specs.Ledgers.{lone_ledger, restarted_ledger, rests_for, sought_keys, founded_ledger}
 use Rattle.spec_binding.specs.Resets.{back_in, restart_link, restart_notes, retaken, founding_link}
-use Rattle.spec_binding.specs.Rows.{answered, taken_answer, taken_ended}
+use Rattle.spec_binding.specs.Rows.{taken_ended}
 use Rattle.waiting.specs.declared.waits.Ended.{Ended}
 use Rattle.waiting.specs.declared.waits.Ended.TheVariants.{AllPairs, One}
 use Rattle.waiting.specs.declared.waits.WaitsFor.TheVariants as wait
@@ -48,7 +48,7 @@ use Rattle.spec_step.specs.declared.turns.Turn.{Turn}
 use Rattle.spec_step.specs.declared.turns.Turn.TheVariants.{Leaves, Returns, Stays}
 use Rattle.spec_step.specs.Founding.{begun, founded}
 use Rattle.spec_step.specs.GivingWay.{TakesTurn, turn_of}
-use Rattle.spec_step.specs.Parts.{all_framed, all_idle_done, all_sought_done, all_taken, alone_taken, answered_by, arp_taken, asked_again, by_error_plan, by_error_verdict, by_plan, by_verdict, carried_all, datagram_in, datagram_read, echo_taken, error_taken, flags_in, flow_taken, frames_of, framed, gone_alone, handed_in, has_synced, heard_by, heard_unless, idle_done, idle_taken, is_taught, link_ticked, old_dropped, peer_told, record_done, record_shown, record_told, records_done, refused, released, renewed_behind, request_by, reset, retaken_by, routers_started, side_plugged, size_in, sought_done, taken_again, waits_for_sender, wait_ended, wanted_for, with_link, record_taken, met_by, pair_founded, word_taken}
+use Rattle.spec_step.specs.Parts.{all_framed, all_idle_done, all_sought_done, all_taken, alone_taken, answered_by, arp_taken, asked_again, by_error_plan, by_error_verdict, by_plan, by_verdict, carried_all, datagram_in, datagram_read, echo_taken, error_taken, flags_in, flow_taken, frames_of, framed, gone_alone, handed_in, has_synced, heard_by, heard_unless, idle_done, idle_taken, is_taught, link_ticked, old_dropped, peer_told, record_done, record_shown, record_told, records_done, refused, released, renewed_behind, request_by, reset, retaken_by, routers_started, side_plugged, size_in, sought_done, taken_again, waits_for_sender, wait_ended, wanted_for, record_taken, met_by, pair_founded, word_taken}
 use Rattle.spec_step.specs.Routers.{BothAct, RouterActs}
 use Rattle.spec_step.specs.Shown.{GatewayAndOutput, Shown, id_of, is_apart, is_running, is_up, scene, station_on, with_notes, with_station}
 use Rattle.spec_step.specs.Steps.{Does, FrameDoes, IsStepOn, ended_on, ticked, word_by, word_refusal}

@@ -1,7 +1,6 @@
 -- What holds of the book, and what holds of it once one wish for a port was granted: where the one holds before a packet
 -- is taken, the other does behind it. So which gateway it is, and how far it has come, stay as they are.
-use Rattle.std.proofs.Common.{◌≡◌, ◌∙◌, ℕ, Bool, true, false, cond, Option, Some, None, Result, Ok, Err, List, [], ◌∷◌, refl}
-use Rattle.addresses.specs.declared.ethernet.Mac.{Mac}
+use Rattle.std.proofs.Common.{◌≡◌, ◌∙◌, ℕ, Bool, true, false, cond, Result, Ok, Err, List, [], ◌∷◌, refl}
 use Rattle.addresses.specs.declared.internet.Ip.{Ip}
 use Rattle.addresses.specs.declared.transport.TcpFlags.{TcpFlags}
 use Rattle.nat_types.specs.declared.gateways.GatewayId.{GatewayId}

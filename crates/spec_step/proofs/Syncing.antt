@@ -1,6 +1,6 @@
 -- A synced gateway stays synced, and a gateway 0 without a table founds the pair at a datagram that says that the peer
 -- lacks one too.
-use Rattle.std.proofs.Common.{◌≡◌, ◌∙◌, ℕ, Bool, true, false, not, cond, ◌&&◌, Option, Some, None, Result, Ok, Err, List, [], ◌∷◌, refl, sym, ap, ap₂, subst}
+use Rattle.std.proofs.Common.{◌≡◌, ◌∙◌, ℕ, Bool, true, false, not, cond, ◌&&◌, Option, Some, None, Result, Ok, Err, List, [], ◌∷◌, refl, sym, ap, subst}
 use Rattle.std.specs.Borrow.{Bor}
 use Rattle.addresses.specs.declared.ethernet.Mac.{Mac}
 use Rattle.nat_types.specs.Same.{same}
@@ -11,7 +11,6 @@ use Rattle.nat_types.specs.declared.gateways.Side.TheVariants.{Inside, Outside}
 use Rattle.nat_types.specs.declared.pairs.Endpoint.{Endpoint}
 use Rattle.nat_types.specs.declared.pairs.Key.{Key}
 use Rattle.nat_types.specs.declared.records.Record.{Record}
-use Rattle.nat_types.proofs.Offered.{same-true}
 use Rattle.arp.specs.declared.packets.ArpPacket.{ArpPacket}
 use Rattle.bindings.specs.Lives.{idle_keys_in}
 use Rattle.link.specs.declared.datagrams.Datagram.{Datagram}
@@ -37,11 +36,11 @@ use Rattle.vrrp_states.specs.Table as table
 use Rattle.vrrp_states.specs.Table.{Event as RouterEvent}
 use Rattle.spec_step.specs.declared.events.Event.{Event}
 use Rattle.spec_step.specs.declared.events.Event.TheVariants.{Frame, Datagram as Comes, Tick, Stop, End, PeerOff, Side as SideIs}
-use Rattle.spec_step.specs.GivingWay.{GivingWay, left, turn_of}
-use Rattle.spec_step.specs.Parts.{all_idle_done, all_sought_done, alone_taken, answered_by, arp_taken, by_row, datagram_in, datagram_read, does_found, gone_alone, handed_in, has_synced, heard_by, heard_unless, idle_done, idle_taken, is_taught, link_ticked, met_by, old_dropped, pair_founded, peer_ended, peer_told, record_done, record_shown, record_taken, record_told, records_done, released, reset, retaken_by, routers_started, side_plugged, sought_done, waits_for_sender, wait_ended, word_taken}
+use Rattle.spec_step.specs.GivingWay.{GivingWay, turn_of}
+use Rattle.spec_step.specs.Parts.{all_idle_done, all_sought_done, alone_taken, answered_by, arp_taken, by_row, datagram_in, datagram_read, does_found, gone_alone, handed_in, has_synced, heard_by, heard_unless, idle_done, idle_taken, is_taught, link_ticked, met_by, old_dropped, pair_founded, peer_told, record_done, record_shown, record_taken, record_told, records_done, released, reset, retaken_by, routers_started, sought_done, waits_for_sender, wait_ended, word_taken}
 use Rattle.spec_step.specs.Routers.{BothAct, RouterActs}
 use Rattle.spec_step.specs.Shown.{GatewayAndOutput, Shown, id_of, is_apart, is_running, scene, station_on, with_notes, with_station}
-use Rattle.spec_step.specs.Steps.{Does, FrameDoes, IsStepOn, ended_on, stopped, ticked, word_by, word_refusal}
+use Rattle.spec_step.specs.Steps.{Does, FrameDoes, IsStepOn, ended_on, ticked, word_by, word_refusal}
 use Rattle.spec_step.specs.Verdict.{reading_on}
 use Rattle.spec_step.proofs.Ahead.{asking, record-behind}
 use Rattle.spec_step.proofs.Heard.{end-leads, heard-leads, reset-stage, taken_in}

@@ -21,10 +21,10 @@ use Rattle.link.specs.Grammar.{IsWellFormed, IsWellFormedRecord}
 use Rattle.link.specs.Link.{Link, after_take, closed_at, is_due_on_tick, is_over, left_by, records_taken, refusal, sent_on_answer, sent_on_tick}
 use Rattle.link.specs.Reading.{reading}
 use Rattle.link.proofs.Offered.{all_taken, reading_takes}
-use Rattle.spec_binding.specs.Books.{Book, is_lone, is_synced}
-use Rattle.spec_binding.specs.Ledgers.{founded_ledger, lone_ledger, may_ask, restarted_ledger, rests_for, taken_ledger, sought_keys}
+use Rattle.spec_binding.specs.Books.{is_lone, is_synced}
+use Rattle.spec_binding.specs.Ledgers.{founded_ledger, lone_ledger, may_ask, restarted_ledger, rests_for, sought_keys}
 use Rattle.spec_binding.specs.Resets.{back_in, founding_link, founding_note, restart_link, restart_notes, retaken}
-use Rattle.spec_binding.specs.Rows.{answered, idle_row, noted_by, taken_answer, taken_ended, taken_what, alone_row, is_full}
+use Rattle.spec_binding.specs.Rows.{idle_row, noted_by, taken_ended, taken_what, alone_row, is_full}
 use Rattle.spec_binding.proofs.Offered.{founding-keeps, lone-keeps, alone-moves-none, idle-keeps, idle-moves-none, restart-keeps, taken-keeps, alone-row-keeps, word-moves-none}
 use Rattle.spec_pair.specs.Talk.{note}
 use Rattle.waiting.specs.declared.waits.Ended.TheVariants.{AllPairs, One}

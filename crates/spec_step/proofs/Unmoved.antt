@@ -21,7 +21,7 @@ use Rattle.ipv4.specs.declared.flows.Flow.{Flow}
 use Rattle.link.specs.declared.datagrams.Datagram.{Datagram}
 use Rattle.link.specs.declared.faults.LinkFault.{LinkFault}
 use Rattle.link.specs.Grammar.{IsWellFormed, IsWellFormedRecord}
-use Rattle.link.specs.Link.{Link, after_take, closed_at, datagram_of, is_due_on_tick, left_by, records_taken, refusal, sent_on_answer, sent_on_tick}
+use Rattle.link.specs.Link.{Link, after_take, closed_at, is_due_on_tick, left_by, records_taken, refusal, sent_on_answer, sent_on_tick}
 use Rattle.link.specs.Reading.{reading}
 use Rattle.link.proofs.Offered.{all_taken as all_formed, reading_takes}
 use Rattle.spec_binding.specs.declared.changes.Transition.{Transition}
