@@ -14,7 +14,7 @@ use Rattle.spec_pair.specs.Talk.{Slot, Free, Pending, Live, Closing, Held, Alone
 use Rattle.spec_pair.specs.World.{Scene, MachineEvent, AreAllowed, founding, after_events}
 use Rattle.spec_pair.proofs.Batches.{fixed_leaves, batch_new, batch_mirrored}
 use Rattle.spec_pair.proofs.MoreRuns.{those_two, within_two}
-use Rattle.spec_pair.proofs.Runs.{at_will, Loaded, Paired, loading-allowed, paired-allowed, to_one}
+use Rattle.spec_pair.proofs.Runs.{at_first, at_will, Loaded, Paired, loading-allowed, paired-allowed, to_one}
 use Rattle.spec_pair.proofs.Worlds.{allowed_join}
 
 abbrev pub Single : Scene
@@ -190,11 +190,11 @@ only_held false e n h = cc
 reloading-allowed : AreAllowed two_ranges reloading Met
 unfolding same_key
 reloading-allowed = (
-  (refl, λ l h. absurd h, λ h. refl),
+  (refl, λ l h. absurd h, tt),
   (
     ((refl, lit< tt), λ l h. absurd h, tt),
     (
-      (at_will, λ l h. absurd h, tt),
+      (at_first, λ l h. absurd h, tt),
       (
         ((refl, lit< tt, kept_back, tt, fixed_leaves (in_run 20000 59999) range_of Zero, batch_new two_ranges to_one kept_table (parcel_p ∷ told_c ∷ []) kept_within kept_those kept_apart, batch_mirrored two_ranges to_one kept_table (parcel_p ∷ told_c ∷ []) kept_within kept_those kept_apart), λ l h. elim h [ inl e ↦ inl e | inr b ↦ absurd b ], tt),
         (
@@ -404,11 +404,11 @@ dying-allowed = (
   (
     (at_will, λ l h. absurd h, tt),
     (
-      (refl, λ l h. absurd h, λ h. refl),
+      (refl, λ l h. absurd h, tt),
       (
         ((refl, lit< tt), λ l h. absurd h, tt),
         (
-          (at_will, λ l h. absurd h, tt),
+          (at_first, λ l h. absurd h, tt),
           (
             ((refl, lit< tt, (λ x. (λ h. absurd h, λ h. absurd (cc))), tt, fixed_leaves (in_run 20000 59999) range_of One, tt, λ k. refl), λ l h. elim h [ inl e ↦ inl e | inr b ↦ absurd b ], tt),
             (

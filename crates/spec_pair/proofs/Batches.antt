@@ -100,7 +100,7 @@ cuts_out owned [] p = elim (owned p) as (λ b. b ≡ (b && true)) [ true ↦ ref
 cuts_out owned (o ∷ os) p = cuts_out (cut o.first o.last owned) os p ∙ cut_out (in_run o.first o.last p) (owned p) (in_runs p os)
 
 -- where the runs are the owned ports, what is left to the other is the rest of the ranges
-pub runs_leave : (in_ranges at_start owned : ℕ → Bool) (i : GatewayId) (os : List Run) → ((p : ℕ) → in_runs p os ≡ owned p) → LeaveRest (moving in_ranges at_start) i owned os
+pub runs_leave : (in_ranges : ℕ → Bool) (at_start : GatewayId → ℕ → Bool) (owned : ℕ → Bool) (i : GatewayId) (os : List Run) → ((p : ℕ) → in_runs p os ≡ owned p) → LeaveRest (moving in_ranges at_start) i owned os
 runs_leave in_ranges at_start owned i os those p = cuts_out in_ranges os p ∙ ap (λ b. in_ranges p && not b) (those p)
 
 apart_at : (i g : GatewayId) (b : Bool) → (b && same (other i) g) ≡ (b && not (b && same i g))

@@ -1,14 +1,14 @@
 -- The records that a gateway took of a session are in the letters that the other sent in it.
-use Rattle.std.proofs.Common.{◌≡◌, ℕ, zero, suc, ◌<◌, ◌≤◌, inl, inr, List, [], ◌∷◌, ◌++◌, Some, length, refl, subst, arith}
+use Rattle.std.proofs.Common.{◌≡◌, ℕ, Bool, true, false, zero, suc, ◌<◌, ◌≤◌, inl, inr, List, [], ◌∷◌, ◌++◌, Some, length, refl, subst, arith}
 use Rattle.std.proofs.Math.Logic.{∥∥₁_elim}
 use Rattle.std.proofs.Props.{props}
 use Rattle.nat_types.specs.declared.gateways.GatewayId.{GatewayId}
 use Rattle.nat_types.specs.declared.gateways.GatewayId.TheVariants.{Zero, One}
-use Rattle.spec_pair.specs.Acts.{Act, Do, Take, Hear, HandIn, Ignore, HearAnew, PeerOff, LoadBegin, LoadOwner, LoadPut, LoadDone, LoadSkip, WantPorts, GrantPorts, TakePorts, LosePorts, Send, LoneNew, LoneUse, LoneDrop, Crash, Boot, box_after, letters_by}
+use Rattle.spec_pair.specs.Acts.{Act, Do, Take, Hear, HandIn, Ignore, HearAnew, PeerOff, LoadBegin, LoadOwner, LoadPut, LoadDone, LoadSkip, WantPorts, GrantPorts, TakePorts, LosePorts, Send, LoneNew, LoneUse, LoneDrop, PeerEnds, Found, Crash, End, Boot, BootFounding, box_after, letters_by}
 use Rattle.spec_pair.specs.Box.{Box, Letter, In, StandsNext, nth}
 use Rattle.spec_pair.specs.Ownership.{Ranges}
 use Rattle.spec_pair.specs.Talk.{MachineRecord}
-use Rattle.spec_pair.specs.World.{AreAllowed, Can, EndsBy, IsWorld, MachineEvent, Scene, after_act, after_event, after_events, flip, founding, seen_by}
+use Rattle.spec_pair.specs.World.{AreAllowed, Can, EndsBy, IsWorld, MachineEvent, Scene, after_act, after_event, after_events, beginning, flip, seen_by}
 
 -- a gateway took no more records than the letters of its session have
 abbrev pub IsCounted : Box → List Letter → Type 0
@@ -44,6 +44,8 @@ module _ (r : Ranges) where
   act-counted i s (Ignore l k q) can h n ends = next-counted s.mine s.their_mail l k q n (can.1 l (inl refl)) can.0.3 ends
   act-counted i s (HearAnew l) can h n ends = omega arith
   act-counted i s (PeerOff number back) can h n ends = omega arith
+  act-counted i s (PeerEnds l back) can h n ends = omega arith
+  act-counted i s (Found l os part) can h n ends = omega arith
   act-counted i s (LoadBegin l k) can h n ends = next-counted s.mine s.their_mail l k _ n (can.1 l (inl refl)) can.0.1 ends
   act-counted i s (LoadOwner l k first last) can h n ends = next-counted s.mine s.their_mail l k _ n (can.1 l (inl refl)) can.0.4 ends
   act-counted i s (LoadPut l k p) can h n ends = next-counted s.mine s.their_mail l k _ n (can.1 l (inl refl)) can.0.4 ends
@@ -58,7 +60,9 @@ module _ (r : Ranges) where
   act-counted i s (LoneUse k e counts) can h n ends = h n ends
   act-counted i s (LoneDrop k e) can h n ends = h n ends
   act-counted i s Crash can h n ends = omega arith
+  act-counted i s (End first count) can h n ends = omega arith
   act-counted i s (Boot m) can h n ends = omega arith
+  act-counted i s (BootFounding m) can h n ends = omega arith
 
   -- both gateways took no more records than the letters of their sessions have
   abbrev Counts : Scene → Type 0
@@ -75,10 +79,14 @@ module _ (r : Ranges) where
   run-counts [] s allowed h = h
   run-counts (e ∷ es) s allowed h = run-counts es (after_event r s e) allowed.1 (event-counts s e allowed.0 h)
 
+  start-counts : (founded : Bool) → Counts (beginning r founded)
+  start-counts true = ((λ n ends. omega arith), (λ n ends. omega arith))
+  start-counts false = ((λ n ends. omega arith), (λ n ends. omega arith))
+
   seen-counts : (i : GatewayId) (s : Scene) → Counts s → IsCounted (seen_by i s).theirs (seen_by i s).my_mail
   seen-counts Zero s h = h.1
   seen-counts One s h = h.0
 
   pub took-what-was-sent : (s : Scene) (i : GatewayId) (n : ℕ) → IsWorld r s → EndsBy (seen_by i s).theirs (seen_by i s).my_mail n → (seen_by i s).theirs.taken ≤ n
   took-what-was-sent s i n w ends = ∥∥₁_elim w (hlevel (props)) (λ v.
-      seen-counts i s (subst Counts v.ends (run-counts v.events (founding r) v.allowed ((λ n ends. omega arith), (λ n ends. omega arith)))) n ends)
+      seen-counts i s (subst Counts v.ends (run-counts v.events (beginning r v.founded) v.allowed (start-counts v.founded))) n ends)

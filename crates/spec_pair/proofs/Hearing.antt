@@ -1,5 +1,5 @@
 -- A synced gateway hears a greater boot of its peer, or that a boot of it is off.
-use Rattle.std.proofs.Common.{◌≡◌, ℕ, suc, length, Bool, true, false, not, ◌&&◌, ◌||◌, ◌+◌, cond, List, [], ◌∷◌, ◌++◌, ◌<◌, ◌≤◌, IsTrue, Option, Some, None, refl, sym, ap, subst, ◌∙◌, inl, inr, append-nil, arith, le_refl}
+use Rattle.std.proofs.Common.{◌≡◌, ℕ, suc, length, Bool, true, false, not, ◌&&◌, ◌||◌, ◌+◌, cond, List, [], ◌∷◌, ◌++◌, ◌<◌, ◌≤◌, IsTrue, Option, Some, None, refl, sym, ap, ◌∙◌, inl, inr, append-nil, arith}
 use Rattle.std.proofs.lemmas.Bool.{both_ways, cases_Bool, and_from, and_right}
 use Rattle.nat_types.proofs.Offered.{same-self, same-eq, pair-eq, pair-self}
 use Rattle.nat_types.specs.Same.{same, other, same_pair}

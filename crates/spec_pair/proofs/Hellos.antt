@@ -1,6 +1,6 @@
--- Where a gateway hasn't heard the other's boot it may hear it; where both have heard, they are in
--- one session.
-use Rattle.std.proofs.Common.{◌≡◌, ℕ, ◌+◌, ◌<◌, ◌≤◌, Bool, true, false, nat_lt, inl, inr, List, [], ◌∷◌, refl, ap, arith}
+-- Where a gateway hasn't heard the other's boot it may hear it; where both have heard, they are in one session, and where
+-- neither is synced then, gateway 0 may found the pair.
+use Rattle.std.proofs.Common.{◌≡◌, ℕ, ◌+◌, ◌<◌, ◌≤◌, Bool, true, false, nat_lt, inl, inr, List, [], ◌∷◌, take, drop, refl, ap, arith}
 use Rattle.std.proofs.lemmas.Bool.{ltb-false}
 use Rattle.std.proofs.Math.Logic.{∥∥₁_elim}
 use Rattle.std.proofs.Props.{props}
@@ -9,14 +9,16 @@ use Rattle.nat_types.specs.declared.gateways.GatewayId.{GatewayId}
 use Rattle.nat_types.specs.declared.gateways.GatewayId.TheVariants.{Zero, One}
 use Rattle.nat_types.specs.declared.notes.Note.{Note}
 use Rattle.nat_types.specs.declared.pairs.Pair.{Pair}
-use Rattle.spec_pair.specs.Acts.{Send, Hear, HearAnew, box_after}
+use Rattle.spec_pair.specs.Acts.{Found, Send, Hear, HearAnew, box_after}
 use Rattle.spec_pair.specs.Box.{AreBack, AreLoadable, AreMirrored, Box, In, Letter, Parcel, empty, revived}
 use Rattle.spec_pair.specs.Live.{AreTogether, as_one, hello_of, hello_sent, unheard}
-use Rattle.spec_pair.specs.Ownership.{AreRising, LeaveRest, Ranges, Run, keyed, left_to}
+use Rattle.spec_pair.specs.Ownership.{AreRising, LeaveRest, Ranges, Run, keyed, left_to, own_ports}
 use Rattle.spec_pair.specs.World.{Can, IsWorld, Scene, after_act, flip, seen_by}
 use Rattle.spec_pair.proofs.Invariant.{Inv, Side}
 use Rattle.spec_pair.proofs.Mirror.{inv_flip}
+use Rattle.spec_pair.proofs.Promised.{is-free}
 use Rattle.spec_pair.proofs.Props.{inv_world}
+use Rattle.spec_pair.specs.Talk.{MachineRecord}
 
 not-less : (m n : ℕ) → n ≤ m → nat_lt m n ≡ false
 not-less m n h = grind (arith, h)
@@ -31,9 +33,14 @@ both-none true false h = absurd (omega (arith, h))
 both-none false true h = absurd (omega (arith, h))
 both-none false false h = (refl, refl)
 
+-- a list without a first record is empty
+first-none : (xs : List MachineRecord) → take 1 (drop 0 xs) ≡ [] → xs ≡ []
+first-none [] h = refl
+first-none (x ∷ xs) h = absurd (cc)
+
 module _ (r : Ranges) where
-  pub it_is_said : (i : GatewayId) (v : Scene) → v.theirs.up ≡ true → Can r (other i) (flip v) (Send 0 0)
-  it_is_said i v up = ((up, λ m h. omega arith), λ l x. absurd x, tt)
+  pub it_is_said : (s : Scene) (i : GatewayId) → IsWorld r s → (seen_by i s).theirs.up ≡ true → Can r (other i) (flip (seen_by i s)) (Send 0 1)
+  it_is_said s i w up = (((up, λ m h. let some : 1 ≤ m = is-free r s i m w h in omega (arith, some)), λ k. first-none (seen_by i s).theirs.sent k.1), λ l x. absurd x, tt)
 
   reads : (v : Scene) (l : Letter) → In l (hello_of v ∷ []) → In l (hello_sent v).their_mail
   reads v l (inl e) = inl e
@@ -91,3 +98,18 @@ module _ (r : Ranges) where
 
   pub are_together : (s : Scene) (i : GatewayId) → IsWorld r s → (seen_by i s).mine.up ≡ true → (seen_by i s).theirs.up ≡ true → unheard (seen_by i s) ≡ 0 → AreTogether (seen_by i s)
   are_together s i w up their_up none = ∥∥₁_elim (inv_world r s w) (hlevel (props)) (λ v. seen s i v up their_up none)
+
+  unpushed : (s : Scene) → Inv r Zero s → s.theirs.synced ≡ false → s.theirs.sent ≡ []
+  unpushed s v out = v.there.quiet out
+
+  pub it_founds : (s : Scene) (os : List Run) (part : Bool) → IsWorld r s → AreTogether s → s.mine.synced ≡ false → s.theirs.synced ≡ false → AreRising r.in_ranges 0 os → LeaveRest r Zero (own_ports r Zero) os → Can r Zero (hello_sent s) (Found (hello_of s) os part)
+  it_founds s os part w t off out rising rest =
+      let none : s.theirs.sent ≡ [] = ∥∥₁_elim (inv_world r s w) (hlevel (props)) (λ v. unpushed s v out) in
+      let low : s.mine.peer ≤ s.theirs.boot = (let known = t.known in omega arith) in
+      ((refl, t.up, off, (refl, ap (λ xs. take 1 (drop 0 xs)) none, refl), low, t.back, rising, rest), reads s, tt)
+
+  pub it_is_synced : (moment : ℕ) (s : Scene) (os : List Run) (part : Bool) → (after_act r Zero moment (hello_sent s) (Found (hello_of s) os part)).mine.synced ≡ true
+  it_is_synced moment s os part = refl
+
+  pub founded_together : (moment : ℕ) (s : Scene) (os : List Run) (part : Bool) → AreTogether s → AreTogether (after_act r Zero moment (hello_sent s) (Found (hello_of s) os part))
+  founded_together moment s os part t = record { up = t.up; their_up = t.their_up; known = refl; back = t.back; together = λ z. refl; their_together = t.their_together }

@@ -31,9 +31,11 @@ mod Batches
 mod Runs
 mod MoreRuns
 mod AloneRuns
+mod EraRuns
 mod Taking
 mod Forged
 mod Counted
+mod Promised
 mod Living
 mod Behind
 mod Nexting

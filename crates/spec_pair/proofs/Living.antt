@@ -5,7 +5,7 @@ use Rattle.nat_types.specs.Same.{other}
 use Rattle.nat_types.specs.declared.gateways.GatewayId.{GatewayId}
 use Rattle.nat_types.specs.declared.pairs.Endpoint.{Endpoint}
 use Rattle.nat_types.specs.declared.pairs.Key.{Key}
-use Rattle.spec_pair.specs.Acts.{Act, Do, Take, Hear, HandIn, Ignore, HearAnew, PeerOff, LoadBegin, LoadOwner, LoadPut, LoadDone, LoadSkip, WantPorts, GrantPorts, TakePorts, LosePorts, Send, LoneNew, LoneUse, LoneDrop, Crash, Boot, MayAct, box_after}
+use Rattle.spec_pair.specs.Acts.{Act, Do, Take, Hear, HandIn, Ignore, HearAnew, PeerOff, LoadBegin, LoadOwner, LoadPut, LoadDone, LoadSkip, WantPorts, GrantPorts, TakePorts, LosePorts, Send, LoneNew, LoneUse, LoneDrop, PeerEnds, Found, Crash, End, Boot, BootFounding, MayAct, box_after}
 use Rattle.spec_pair.specs.Box.{Box, In, Letter, StandsNext, nth}
 use Rattle.spec_pair.specs.Live.{IsNext, next_letter, next_sent, outstanding, taken_now, to_do, weight}
 use Rattle.spec_pair.specs.Ownership.{Ranges}
@@ -27,6 +27,10 @@ drop-nth (y ∷ ys) (suc n) x h = drop-nth ys n x h
 
 nth-part : {A : Type 0} (xs : List A) (n : ℕ) (x : A) → nth xs n ≡ Some x → nth (take 1 (drop n xs)) 0 ≡ Some x
 nth-part xs n x h = ap (λ ys. nth (take 1 ys) 0) (drop-nth xs n x h)
+
+-- a part of a list that has a record at its beginning isn't empty
+none-there : {X : Type 0} {A : Type 0} (xs : List A) (n : ℕ) (x : A) → nth xs n ≡ Some x → take 1 (drop n xs) ≡ [] → X
+none-there xs n x h none = let bad : None ≡ Some x = ap (λ ys. nth ys 0) (sym none) ∙ nth-part xs n x h in absurd (cc)
 
 pub weighs : (q : MachineRecord) → 0 < weight q
 weighs (Install k e) = omega arith
@@ -106,8 +110,12 @@ module _ (r : Ranges) (i : GatewayId) (a : Box) where
   act-less (LoneNew k e) q h may = absurd (cc)
   act-less (LoneUse k e counts) q h may = absurd (cc)
   act-less (LoneDrop k e) q h may = absurd (cc)
+  act-less (PeerEnds l back) q h may = absurd (cc)
+  act-less (Found l os part) q h may = absurd (cc)
   act-less Crash q h may = absurd (cc)
+  act-less (End first count) q h may = absurd (cc)
   act-less (Boot number) q h may = absurd (cc)
+  act-less (BootFounding number) q h may = absurd (cc)
 
   -- ---- the act of the record table takes the record
 
@@ -162,7 +170,7 @@ module _ (r : Ranges) (i : GatewayId) (a : Box) where
 
 module _ (r : Ranges) where
   pub it_is_sent : (i : GatewayId) (v : Scene) (q : MachineRecord) → IsNext v q → Can r (other i) (flip v) (Send v.mine.taken 1)
-  it_is_sent i v q h = ((h.their_up, h.free), λ l x. absurd x, tt)
+  it_is_sent i v q h = (((h.their_up, h.free), λ k. none-there v.theirs.sent v.mine.taken q h.next k.1), λ l x. absurd x, tt)
 
   stands : (v : Scene) (q : MachineRecord) → IsNext v q → StandsNext v.mine (next_letter v) 0 q
   stands v q h = record {
@@ -184,7 +192,7 @@ module _ (r : Ranges) where
 
       no_word : (x : Act) → taken_now x ≡ q ∷ [] → Outside (next_sent v) x
       no_word (PeerOff number back) h = absurd (cc)
-      no_word Crash h = absurd (cc)
+      no_word (BootFounding number) h = absurd (cc)
       no_word x h = tt
 
   pub less_to_do : (i : GatewayId) (moment : ℕ) (v : Scene) (f : Facts) (q : MachineRecord) → IsNext v q → AreFacts r v.mine q f → outstanding (after_act r i moment (next_sent v) (act_by_table r i v.mine (next_letter v) 0 f q)) < outstanding v

@@ -1,5 +1,5 @@
 -- A synced gateway's view of the other, seen from the other.
-use Rattle.std.proofs.Common.{◌≡◌, ℕ, Some, true, false, List, refl, sym, subst, ◌∙◌, inl, inr}
+use Rattle.std.proofs.Common.{◌≡◌, ℕ, Some, true, false, List, refl, sym, subst, ◌∙◌}
 use Rattle.nat_types.specs.Same.{other}
 use Rattle.nat_types.specs.declared.gateways.GatewayId.{GatewayId}
 use Rattle.nat_types.specs.declared.gateways.GatewayId.TheVariants.{Zero, One}

@@ -12,7 +12,7 @@ use Rattle.spec_pair.specs.Rows.{parcel_p, parcel_q, live_first, held_first, Lea
 use Rattle.spec_pair.specs.Talk.{Slot, Live, Free, held, Held, Pending}
 use Rattle.spec_pair.specs.World.{Scene, AreAllowed, founding, after_events}
 use Rattle.spec_pair.proofs.Batches.{fixed_leaves, batch_new, batch_mirrored}
-use Rattle.spec_pair.proofs.Runs.{at_will, promised_is, some_pair, those_one, within_one, apart_one, two_hosts, rest_of, six_low, off-allowed, paired-allowed, Paired}
+use Rattle.spec_pair.proofs.Runs.{at_first, at_will, with_records, promised_is, some_pair, those_one, within_one, apart_one, two_hosts, rest_of, six_low, off-allowed, paired-allowed, Paired}
 use Rattle.spec_pair.proofs.Set.{cases_key}
 use Rattle.spec_pair.proofs.Worlds.{allowed_join}
 
@@ -95,11 +95,11 @@ unfolding same_key
 promising-allowed = (
   ((refl, lit< tt), λ l h. absurd h, tt),
   (
-    (at_will, λ l h. absurd h, tt),
+    (at_first, λ l h. absurd h, tt),
     (
       ((refl, lit< tt, dropped_back, tt, fixed_leaves (in_run 20000 59999) range_of Zero, batch_new two_ranges to_one parted_table (parcel_p ∷ []) parted_within parted_those (apart_one to_one parcel_p), batch_mirrored two_ranges to_one parted_table (parcel_p ∷ []) parted_within parted_those (apart_one to_one parcel_p)), λ l h. elim h [ inl e ↦ inl e | inr b ↦ absurd b ], tt),
       (
-        ((refl, λ m h. let e : 2 ≡ m = promised_is 2 m h in omega arith), λ l h. absurd h, tt),
+        (((refl, λ m h. let e : 2 ≡ m = promised_is 2 m h in omega arith), with_records), λ l h. absurd h, tt),
         (
           ((refl, refl, lit< tt), λ l h. elim h [ inl e ↦ inl e | inr b ↦ absurd b ], tt),
           (
@@ -209,7 +209,7 @@ unfolding same_key
 returning-allowed = (
   ((refl, lit< tt), λ l h. absurd h, tt),
   (
-    (at_will, λ l h. absurd h, tt),
+    (at_first, λ l h. absurd h, tt),
     (
       ((refl, lit< tt, lone_back, tt, fixed_leaves (in_run 20000 59999) range_of Zero, batch_new two_ranges to_one both_table (parcel_p ∷ parcel_q ∷ []) both_within both_those (apart_two to_one), batch_mirrored two_ranges to_one both_table (parcel_p ∷ parcel_q ∷ []) both_within both_those (apart_two to_one)), λ l h. elim h [ inl e ↦ inl e | inr b ↦ absurd b ], tt),
       (
@@ -278,7 +278,7 @@ naming-allowed = (
     (
       ((refl, lit< tt), λ l h. absurd h, tt),
       (
-        (at_will, λ l h. absurd h, tt),
+        (at_first, λ l h. absurd h, tt),
         (
           ((refl, lit< tt, (λ x. ((λ h. absurd h), λ h. let bad : None ≡ Some x.endpoint = sym (none_live (same_key (udp 20000) x.key)) ∙ h in absurd (cc))), ((lit< tt, omega arith, six_low), tt), (λ p. rest_of (in_run 20000 20001 p) (in_run 40000 40003 p)), batch_new six_ports to_other one_table (parcel_p ∷ []) one_within one_those (apart_one to_other parcel_p), batch_mirrored six_ports to_other one_table (parcel_p ∷ []) one_within one_those (apart_one to_other parcel_p)), λ l h. elim h [ inl e ↦ inl e | inr b ↦ absurd b ], tt),
           (

@@ -6,16 +6,16 @@ use Rattle.std.proofs.lemmas.Bool.{cases_Bool, both_ways}
 use Rattle.nat_types.specs.declared.gateways.GatewayId.{GatewayId}
 use Rattle.nat_types.specs.declared.gateways.GatewayId.TheVariants.{Zero, One}
 use Rattle.nat_types.specs.declared.notes.NoteKind.{NoteKind}
-use Rattle.nat_types.specs.declared.notes.NoteKind.TheVariants.{Used, Released, Retaken, Alone, Synced, Crashed, Booted}
+use Rattle.nat_types.specs.declared.notes.NoteKind.TheVariants.{Used, Released, Retaken, Alone, Synced, Founded, Crashed, Booted}
 use Rattle.nat_types.specs.declared.notes.Note.{Note}
 use Rattle.nat_types.specs.declared.pairs.Key.{Key}
 use Rattle.nat_types.specs.declared.pairs.Pair.{Pair}
-use Rattle.spec_trace.specs.Past.{is_synced, is_open, is_private, OnePortAt, OnePort, OneEndpointAt, OneEndpoint, SilentAt, Silent, IsHeldApart, Kept, AtMostTwo, GoesOn}
-use Rattle.spec_pair.specs.Box.{Letter, In, StandsNext, nth}
+use Rattle.spec_trace.specs.Past.{is_synced, is_open, is_private, OnePortAt, OnePort, OneEndpointAt, OneEndpoint, SilentAt, Silent, FoundedRightlyAt, FoundedRightly, IsHeldApart, Kept, AtMostTwo, GoesOn}
+use Rattle.spec_pair.specs.Box.{Box, Letter, In, StandsNext, nth}
 use Rattle.spec_pair.proofs.Invariant.{Inv, View}
 use Rattle.spec_pair.specs.Ownership.{Ranges}
 use Rattle.spec_pair.specs.Talk.{Slot, held, MachineRecord}
-use Rattle.spec_pair.specs.World.{HasOwners, IsWorld, Scene, seen_by, flip, IsKept, tables_of, founding, TableHolds, TableTranslates, box_in}
+use Rattle.spec_pair.specs.World.{HasOwners, IsWorld, Scene, seen_by, flip, IsKept, tables_of, beginning, TableHolds, TableTranslates, box_in}
 use Rattle.spec_pair.proofs.Kept.{is_kept, has_owners, inv_run, inv_start}
 use Rattle.spec_pair.proofs.Loading.{Reading, reading}
 use Rattle.spec_pair.proofs.Mirror.{inv_flip}
@@ -32,6 +32,7 @@ module _ (r : Ranges) where
   port_at_prop (Retaken p) t = hlevel (props)
   port_at_prop (Alone p) t = hlevel (props)
   port_at_prop Synced t = hlevel (props)
+  port_at_prop Founded t = hlevel (props)
   port_at_prop Crashed t = hlevel (props)
   port_at_prop (Booted n) t = hlevel (props)
 
@@ -45,6 +46,7 @@ module _ (r : Ranges) where
   endpoint_at_prop (Retaken p) t = hlevel (props)
   endpoint_at_prop (Alone p) t = hlevel (props)
   endpoint_at_prop Synced t = hlevel (props)
+  endpoint_at_prop Founded t = hlevel (props)
   endpoint_at_prop Crashed t = hlevel (props)
   endpoint_at_prop (Booted n) t = hlevel (props)
 
@@ -58,12 +60,27 @@ module _ (r : Ranges) where
   silent_at_prop i (Retaken p) t = hlevel (props)
   silent_at_prop i (Alone p) t = hlevel (props)
   silent_at_prop i Synced t = hlevel (props)
+  silent_at_prop i Founded t = hlevel (props)
   silent_at_prop i Crashed t = hlevel (props)
   silent_at_prop i (Booted n) t = hlevel (props)
 
   silent_prop : (t : List Note) → IsProp (Silent t)
   silent_prop [] = hlevel (props)
   silent_prop (n ∷ t) = hlevel (silent_at_prop n.by n.what t, silent_prop t, props)
+
+  founded_at_prop : (w : NoteKind) (t : List Note) → IsProp (FoundedRightlyAt w t)
+  founded_at_prop (Used p) t = hlevel (props)
+  founded_at_prop (Released p) t = hlevel (props)
+  founded_at_prop (Retaken p) t = hlevel (props)
+  founded_at_prop (Alone p) t = hlevel (props)
+  founded_at_prop Synced t = hlevel (props)
+  founded_at_prop Founded t = hlevel (props)
+  founded_at_prop Crashed t = hlevel (props)
+  founded_at_prop (Booted n) t = hlevel (props)
+
+  founded_prop : (t : List Note) → IsProp (FoundedRightly t)
+  founded_prop [] = hlevel (props)
+  founded_prop (n ∷ t) = hlevel (founded_at_prop n.what t, founded_prop t, props)
 
   -- what is promised, with Kept said so that it is a proposition
   record IsMerely (t : List Note) (tables : GatewayId → Key → Slot) : Type 0 where
@@ -72,10 +89,11 @@ module _ (r : Ranges) where
     at_most_two : AtMostTwo (TableHolds tables) t
     kept : (p : Pair) → IsTrue (is_open p t) → (i : GatewayId) → IsTrue (is_synced i t) → (TableHolds tables i p → ⊥) → (IsHeldApart (TableHolds tables) p t → ⊥) → ⊥
     silent : Silent t
+    founded_rightly : FoundedRightly t
     goes_on : GoesOn (TableTranslates tables) t
 
   merely_prop : (s : Scene) → IsProp (IsMerely s.trace (tables_of s))
-  merely_prop s = hlevel (port_prop s.trace, endpoint_prop s.trace, silent_prop s.trace, props)
+  merely_prop s = hlevel (port_prop s.trace, endpoint_prop s.trace, silent_prop s.trace, founded_prop s.trace, props)
 
   merely : (s : Scene) → IsKept s.trace (tables_of s) → IsMerely s.trace (tables_of s)
   merely s k = record {
@@ -84,6 +102,7 @@ module _ (r : Ranges) where
     at_most_two = k.at_most_two;
     kept = λ p o i z none_here none_apart. elim (k.kept p o i z) [ inl h ↦ none_here h | inr h ↦ none_apart h ];
     silent = k.silent;
+    founded_rightly = k.founded_rightly;
     goes_on = k.goes_on;
   }
 
@@ -129,12 +148,13 @@ module _ (r : Ranges) where
       | inr none_here ↦ elim (apart_or_not (tables_of s) p s.trace) [ inl h ↦ inr h | inr none_apart ↦ absurd (m.kept p o i z none_here none_apart) ]
     ];
     silent = m.silent;
+    founded_rightly = m.founded_rightly;
     goes_on = m.goes_on;
   }
 
   -- the invariant holds of each world that can come about
   pub inv_world : (s : Scene) → IsWorld r s → ∥ Inv r Zero s ∥₁
-  inv_world s w = ∥∥₁_elim w (hlevel) (λ v. ∣ subst (λ (x : Scene). Inv r Zero x) v.ends (inv_run r v.events (founding r) (inv_start r) v.allowed) ∣₁)
+  inv_world s w = ∥∥₁_elim w (hlevel) (λ v. ∣ subst (λ (x : Scene). Inv r Zero x) v.ends (inv_run r v.events (beginning r v.founded) (inv_start r v.founded) v.allowed) ∣₁)
 
   pub promises : (s : Scene) → IsWorld r s → IsKept s.trace (tables_of s)
   promises s w = told_kept s (∥∥₁_elim (inv_world s w) (merely_prop s) (λ v. merely s (is_kept r s v)))
@@ -175,6 +195,9 @@ module _ (r : Ranges) where
 
     pub silent_in_order : TheTrace.Silent trace
     silent_in_order = subst (λ (t : List Note). Silent t) order (promises s w).silent
+
+    pub founded_in_order : TheTrace.FoundedRightly trace
+    founded_in_order = subst (λ (t : List Note). FoundedRightly t) order (promises s w).founded_rightly
 
     pub goes_on_in_order : TheTrace.GoesOn (TableTranslates (tables_of s)) trace
     goes_on_in_order = subst (λ (t : List Note). GoesOn (TableTranslates (tables_of s)) t) order (promises s w).goes_on

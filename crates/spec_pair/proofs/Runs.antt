@@ -12,15 +12,23 @@ use Rattle.spec_pair.specs.Batch.{AreThose, AreApart, LieWithin}
 use Rattle.spec_pair.specs.Box.{AreBack, Parcel, is_back, revived}
 use Rattle.spec_pair.specs.Ownership.{keyed, Ranges, has, in_run, left_to}
 use Rattle.spec_pair.specs.Rows.{parcel_p, live_first, held_first, pair_p, crossing, peer_off, using, wanting, asked_yes_notes, LeavesPorts, granting, loading_notes, granted, udp, revival_notes, asked_no_notes, pair_q, range_of, asked_no, loading, sharing, in_six, six_ports, slot_on, two_ranges, revival, losing_notes, host, peer_off_notes, LeadsTo, crossing_notes, losing, using_notes, asked_yes, doomed_notes, doomed}
-use Rattle.spec_pair.specs.Talk.{Slot, Live, Closing, Free, Doomed, held, Held, pair_of, Pending}
+use Rattle.spec_pair.specs.Talk.{MachineRecord, Slot, Live, Closing, Free, Doomed, held, Held, pair_of, Pending}
 use Rattle.spec_pair.proofs.Worlds.{allowed_join}
 use Rattle.spec_pair.specs.World.{MachineEvent, Scene, AreAllowed, founding, after_events}
 use Rattle.spec_pair.proofs.Batches.{fixed_leaves, batch_new, batch_mirrored}
 use Rattle.spec_pair.proofs.Set.{cases_key}
 
--- a gateway that is up, with nothing promised, may send any part of its records
-pub at_will : {n : ℕ} → (true ≡ true) × ((m : ℕ) → None ≡ Some m → n ≤ m)
-at_will = (refl, λ m h. absurd (cc))
+-- a letter with a record doesn't say that its sender lacks a table
+pub with_records : {first : ℕ} {ends : Bool} {q : MachineRecord} {qs sent : List MachineRecord} → (first ≡ 0) × (q ∷ qs ≡ []) × (ends ≡ false) → sent ≡ []
+with_records {first} {ends} {q} {qs} {sent} k = let bad : q ∷ qs ≡ [] = k.1 in absurd (cc)
+
+-- a gateway that is up, with nothing promised, may send any of its records
+pub at_will : {n first : ℕ} {ends : Bool} {q : MachineRecord} {qs sent : List MachineRecord} → ((true ≡ true) × ((m : ℕ) → None ≡ Some m → n ≤ m)) × ((first ≡ 0) × (q ∷ qs ≡ []) × (ends ≡ false) → sent ≡ [])
+at_will = ((refl, λ m h. absurd (cc)), with_records)
+
+-- it may say that it lacks a table, where it pushed nothing
+pub at_first : {n first : ℕ} {ends : Bool} {xs : List MachineRecord} → ((true ≡ true) × ((m : ℕ) → None ≡ Some m → n ≤ m)) × ((first ≡ 0) × (xs ≡ []) × (ends ≡ false) → xs ≡ [])
+at_first = ((refl, λ m h. absurd (cc)), λ k. k.1)
 
 pub promised_is : (n m : ℕ) → Some n ≡ Some m → n ≡ m
 promised_is n m h = cc
@@ -88,7 +96,7 @@ unfolding same_key
 loading-allowed = (
   ((refl, lit< tt), λ l h. absurd h, tt),
   (
-    (at_will, λ l h. absurd h, tt),
+    (at_first, λ l h. absurd h, tt),
     (
       ((refl, lit< tt, (λ x. (λ h. absurd h, λ h. absurd (cc))), tt, fixed_leaves (in_run 20000 59999) range_of Zero, tt, λ k. refl), λ l h. elim h [ inl e ↦ inl e | inr b ↦ absurd b ], tt),
       (
@@ -278,11 +286,11 @@ unfolding same_key
 revival-allowed = (
   ((refl, refl, refl, refl), λ l h. absurd h, tt),
   (
-    (refl, λ l h. absurd h, λ h. refl),
+    (refl, λ l h. absurd h, tt),
     (
       ((refl, lit< tt), λ l h. absurd h, tt),
       (
-        (at_will, λ l h. absurd h, tt),
+        (at_first, λ l h. absurd h, tt),
         (
           ((refl, lit< tt, closing_back, tt, fixed_leaves (in_run 20000 59999) range_of Zero, batch_new two_ranges to_one revived_table (parcel_p ∷ []) revived_within revived_those (apart_one to_one parcel_p), batch_mirrored two_ranges to_one revived_table (parcel_p ∷ []) revived_within revived_those (apart_one to_one parcel_p)), λ l h. elim h [ inl e ↦ inl e | inr b ↦ absurd b ], tt),
           (
@@ -365,11 +373,11 @@ doomed-allowed = (
         (
           ((refl, refl, refl, refl), λ l h. absurd h, tt),
           (
-            (refl, λ l h. absurd h, λ h. refl),
+            (refl, λ l h. absurd h, tt),
             (
               ((refl, lit< tt), λ l h. absurd h, tt),
               (
-                (at_will, λ l h. absurd h, tt),
+                (at_first, λ l h. absurd h, tt),
                 (
                   ((refl, lit< tt, doomed_back, tt, fixed_leaves (in_run 20000 59999) range_of One, batch_new two_ranges to_zero freed_table (parcel_p ∷ []) freed_within freed_those (apart_one to_zero parcel_p), batch_mirrored two_ranges to_zero freed_table (parcel_p ∷ []) freed_within freed_those (apart_one to_zero parcel_p)), λ l h. elim h [ inl e ↦ inl e | inr b ↦ absurd b ], tt),
                   (
@@ -430,7 +438,7 @@ unfolding same_key
 off-allowed = (
   ((refl, refl, (refl, refl, λ x h. new_host (same_key (udp 20000) x) h), refl), λ l h. absurd h, tt),
   (
-    (refl, λ l h. absurd h, λ h. refl),
+    (refl, λ l h. absurd h, tt),
     (
       ((refl, waiting_back), λ l h. absurd h, (refl, refl)),
       (
@@ -465,11 +473,11 @@ sharing-allowed : AreAllowed six_ports sharing (founding six_ports)
 sharing-allowed = (
   ((refl, lit< tt), λ l h. absurd h, tt),
   (
-    (at_will, λ l h. absurd h, tt),
+    (at_first, λ l h. absurd h, tt),
     (
       ((refl, lit< tt, (λ x. (λ h. absurd h, λ h. absurd (cc))), ((lit< tt, omega arith, six_low), tt), (λ p. rest_of (in_run 20000 20001 p) (in_run 40000 40003 p)), tt, λ k. refl), λ l h. elim h [ inl e ↦ inl e | inr b ↦ absurd b ], tt),
       (
-        ((refl, λ m h. let e : 2 ≡ m = promised_is 2 m h in omega arith), λ l h. absurd h, tt),
+        (((refl, λ m h. let e : 2 ≡ m = promised_is 2 m h in omega arith), with_records), λ l h. absurd h, tt),
         (
           (refl, λ l h. absurd h, tt),
           (
@@ -524,14 +532,14 @@ wanting-allowed = (
 abbrev pub Wanted : Scene
 Wanted = after_events six_ports wanting Shared
 
-wanted-allowed : (xs : List MachineEvent) → AreAllowed six_ports xs Wanted → AreAllowed six_ports (sharing ++ wanting ++ xs) (founding six_ports)
+pub wanted-allowed : (xs : List MachineEvent) → AreAllowed six_ports xs Wanted → AreAllowed six_ports (sharing ++ wanting ++ xs) (founding six_ports)
 wanted-allowed xs a = allowed_join six_ports sharing (wanting ++ xs) (founding six_ports) sharing-allowed (allowed_join six_ports wanting xs Shared wanting-allowed a)
 
 -- while a Grant is under way its two ports are owned by nobody
 pub wanting_leaves : LeavesPorts (sharing ++ wanting) loading_notes (20000 ∷ 20001 ∷ []) (40000 ∷ 40001 ∷ [])
 wanting_leaves = record { allowed = allowed_join six_ports sharing wanting (founding six_ports) sharing-allowed wanting-allowed; trace_is = refl; zero_is = refl; one_is = refl }
 
-granting-allowed : AreAllowed six_ports granting Wanted
+pub granting-allowed : AreAllowed six_ports granting Wanted
 unfolding same_key
 granting-allowed = (
   ((refl, refl, refl, (λ p. (λ h. h, λ h inside off idle. h)), record { up = refl; boot = refl; to = refl; number = refl; record_is = refl }), λ l h. elim h [ inl e ↦ inl e | inr b ↦ absurd b ], tt),
@@ -603,11 +611,11 @@ six_high p h g = or_right (in_run 20000 20001 p) (in_run 40000 40003 p) (in_run_
 
 losing-allowed : AreAllowed six_ports losing Wanted
 losing-allowed = (
-  (refl, λ l h. absurd h, λ h. refl),
+  (refl, λ l h. absurd h, tt),
   (
     ((refl, lit< tt), λ l h. absurd h, tt),
     (
-      (at_will, λ l h. absurd h, tt),
+      (at_first, λ l h. absurd h, tt),
       (
         ((refl, lit< tt, (λ x. (λ h. absurd h, λ h. absurd (cc))), ((lit< tt, omega arith, six_high), tt), left_lost, tt, λ k. refl), λ l h. elim h [ inl e ↦ inl e | inr b ↦ absurd b ], tt),
         (

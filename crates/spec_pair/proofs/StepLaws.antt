@@ -3,7 +3,7 @@
 use Rattle.std.proofs.Common.{append_assoc, append-nil, ◌≡◌, ℕ, List, [], ◌∷◌, ◌++◌, refl, sym, ap, subst, ◌∙◌}
 use Rattle.nat_types.specs.declared.gateways.GatewayId.{GatewayId}
 use Rattle.nat_types.specs.declared.notes.Note.{Note}
-use Rattle.spec_pair.specs.Acts.{Boot, Act, PeerOff, Crash, MayAct, box_after, letters_by, act_notes}
+use Rattle.spec_pair.specs.Acts.{Boot, Act, PeerOff, Crash, MayAct, box_after, letters_by, act_notes, End, BootFounding}
 use Rattle.spec_pair.specs.Box.{AreSame, Box, Letter, In}
 use Rattle.spec_pair.specs.Ownership.{Ranges}
 use Rattle.spec_pair.specs.Step.{IsGiven, ReadsOnly, Follows, boxes_after, notes_after, mail_after, IsStep, WasSent}
@@ -66,7 +66,9 @@ module _ (r : Ranges) where
   given_more : (ws ws2 : List ℕ) (x : Act) → ((n : ℕ) → In n ws → In n ws2) → IsGiven ws x → IsGiven ws2 x
   given_more ws ws2 (PeerOff number back) more given = more number given
   given_more ws ws2 Crash more given = given
+  given_more ws ws2 (End first count) more given = given
   given_more ws ws2 (Boot n) more given = given
+  given_more ws ws2 (BootFounding n) more given = given
   given_more ws ws2 x more given = tt
 
   follows_more : (i : GatewayId) (a : Box) (ls ls2 : List Letter) (ws ws2 : List ℕ) (xs : List Act) → WasSent ls ls2 → ((n : ℕ) → In n ws → In n ws2) → Follows r i a ls ws xs → Follows r i a ls2 ws2 xs

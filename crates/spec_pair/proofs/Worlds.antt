@@ -1,15 +1,15 @@
 -- A longer list of allowed events: longer by an event, or by the acts of a gateway's step.
-use Rattle.std.proofs.Common.{◌≡◌, ℕ, List, [], ◌∷◌, ◌++◌, refl, sym, ap, subst, ◌∙◌}
+use Rattle.std.proofs.Common.{◌≡◌, ℕ, Bool, List, [], ◌∷◌, ◌++◌, refl, sym, ap, subst, ◌∙◌}
 use Rattle.std.proofs.Math.Logic.{∥∥₁_elim}
 use Rattle.nat_types.specs.Same.{other}
 use Rattle.nat_types.specs.declared.gateways.GatewayId.{GatewayId}
 use Rattle.nat_types.specs.declared.gateways.GatewayId.TheVariants.{Zero, One}
 use Rattle.nat_types.specs.declared.notes.Note.{Note}
-use Rattle.spec_pair.specs.Acts.{Act, PeerOff, Crash, MayAct}
+use Rattle.spec_pair.specs.Acts.{Act, BootFounding, PeerOff, Crash, MayAct}
 use Rattle.spec_pair.specs.Box.{Box, Letter}
 use Rattle.spec_pair.specs.Ownership.{Ranges}
 use Rattle.spec_pair.specs.Step.{IsGiven, ReadsOnly, Follows, boxes_after, notes_after, mail_after, IsStep, WasSent, IsOff}
-use Rattle.spec_pair.specs.World.{Scene, MachineEvent, Outside, Can, IsWorld, after_act, flip, seen_by, founding, after_event, after_events, AreAllowed, box_in, mail_in, with_step}
+use Rattle.spec_pair.specs.World.{Scene, MachineEvent, Outside, Can, IsWorld, after_act, flip, seen_by, beginning, after_event, after_events, AreAllowed, box_in, mail_in, with_step}
 
 -- the events of a gateway that does these acts one after another
 abbrev pub events_of : GatewayId → ℕ → List Act → List MachineEvent
@@ -29,13 +29,14 @@ module _ (r : Ranges) where
   -- a scene to which allowed events lead from a world is a world
   longer : (es : List MachineEvent) (s s2 : Scene) → AreAllowed r es s → after_events r es s ≡ s2 → IsWorld r s → IsWorld r s2
   longer es s s2 can to w = ∥∥₁_elim w (hlevel) (λ v. ∣ record {
+    founded = v.founded;
     events = v.events ++ es;
-    allowed = allowed_join v.events es (founding r) v.allowed (subst (λ (x : Scene). AreAllowed r es x) (sym v.ends) can);
-    ends = run_join v.events es (founding r) ∙ ap (after_events r es) v.ends ∙ to;
+    allowed = allowed_join v.events es (beginning r v.founded) v.allowed (subst (λ (x : Scene). AreAllowed r es x) (sym v.ends) can);
+    ends = run_join v.events es (beginning r v.founded) ∙ ap (after_events r es) v.ends ∙ to;
   } ∣₁)
 
-  pub begins_so : IsWorld r (founding r)
-  begins_so = ∣ record { events = []; allowed = tt; ends = refl } ∣₁
+  pub begins_so : (founded : Bool) → IsWorld r (beginning r founded)
+  begins_so founded = ∣ record { founded = founded; events = []; allowed = tt; ends = refl } ∣₁
 
   pub goes_to : (s : Scene) (e : MachineEvent) → IsWorld r s → Can r e.by (seen_by e.by s) e.act → IsWorld r (after_event r s e)
   goes_to s e w can = longer (e ∷ []) s (after_event r s e) (can, tt) refl w
@@ -43,6 +44,7 @@ module _ (r : Ranges) where
   outside : (s : Scene) (ws : List ℕ) (x : Act) → IsOff ws s.theirs → IsGiven ws x → Outside s x
   outside s ws (PeerOff number back) off given = off number given
   outside s ws Crash off given = absurd given
+  outside s ws (BootFounding n) off given = absurd given
   outside s ws x off given = tt
 
   can : (i : GatewayId) (s : Scene) (ls : List Letter) (ws : List ℕ) (x : Act) → WasSent ls s.their_mail → IsOff ws s.theirs → MayAct r i s.mine x → ReadsOnly ls ws x → Can r i s x

@@ -10,3 +10,4 @@ pub mod Rows
 pub mod Mapped
 pub mod Live
 pub mod AloneRows
+pub mod EraRows

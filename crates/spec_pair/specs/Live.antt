@@ -1,6 +1,6 @@
 -- What is left to do for the records that were pushed, and which record a gateway may take next.
 use Rattle.std.specs.Prelude.{Bool, List, Some, [], drop, false, nat_lt, length, true, ℕ, ◌+◌, ◌≤◌, ◌∷◌, ◌≡◌}
-use Rattle.spec_pair.specs.Acts.{Act, Do, Take, Hear, HandIn, Ignore, HearAnew, PeerOff, LoadBegin, LoadOwner, LoadPut, LoadDone, LoadSkip, WantPorts, GrantPorts, TakePorts, LosePorts, Send, LoneNew, LoneUse, LoneDrop, Crash, Boot}
+use Rattle.spec_pair.specs.Acts.{Act, Do, Take, Hear, HandIn, Ignore, HearAnew, PeerOff, LoadBegin, LoadOwner, LoadPut, LoadDone, LoadSkip, WantPorts, GrantPorts, TakePorts, LosePorts, Send, LoneNew, LoneUse, LoneDrop, PeerEnds, Found, Crash, End, Boot, BootFounding}
 use Rattle.spec_pair.specs.Box.{Letter, letter, nth, record_of}
 use Rattle.spec_pair.specs.Talk.{MachineRecord, Install, Accept, Refuse, Ask, Yes, No, Begin, Put, Done, Want, Grant, Owner, Tell}
 use Rattle.spec_pair.specs.World.{Scene}
@@ -35,6 +35,8 @@ taken_now HandIn = []
 taken_now (Ignore l n q) = q ∷ []
 taken_now (HearAnew l) = []
 taken_now (PeerOff number back) = []
+taken_now (PeerEnds l back) = []
+taken_now (Found l os part) = []
 taken_now (LoadBegin l n) = Begin ∷ []
 taken_now (LoadOwner l n first last) = Owner first last ∷ []
 taken_now (LoadPut l n x) = record_of x ∷ []
@@ -49,7 +51,9 @@ taken_now (LoneNew k e) = []
 taken_now (LoneUse k e counts) = []
 taken_now (LoneDrop k e) = []
 taken_now Crash = []
+taken_now (End first count) = []
 taken_now (Boot number) = []
+taken_now (BootFounding number) = []
 
 -- The takings left to do, where both are in one session: those that the records bring about which each pushed and the
 -- other hasn't taken yet. A run without loss has to do these.
@@ -85,9 +89,10 @@ pub record AreTogether (v : Scene) : Type 0 where
   pub together : v.mine.synced ≡ true → v.mine.lone ≡ false
   pub their_together : v.theirs.synced ≡ true → v.theirs.lone ≡ false
 
--- a letter of the other without records, which tells its boot
+-- A letter of the other that tells its boot. It has the first record of the session, and where none was pushed it says
+-- that the other lacks a table.
 abbrev pub hello_of : Scene → Letter
-hello_of v = letter v.theirs 0 0
+hello_of v = letter v.theirs 0 1
 
 -- the scene after the other sent that letter
 abbrev pub hello_sent : Scene → Scene

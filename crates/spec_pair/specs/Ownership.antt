@@ -3,7 +3,6 @@
 use Rattle.std.specs.Prelude.{Bool, IsTrue, List, [], cond, false, nat_lt, not, true, ℕ, ◌&&◌, ◌<◌, ◌==◌, ◌||◌, ◌∷◌, ◌≡◌, ◌≤◌}
 use Rattle.nat_types.specs.Same.{same, other}
 use Rattle.nat_types.specs.declared.gateways.GatewayId.{GatewayId}
-use Rattle.nat_types.specs.declared.gateways.GatewayId.TheVariants.{Zero}
 use Rattle.nat_types.specs.declared.pairs.Key.{Key}
 
 -- The ports with which the two gateways are built. With ports that move, a gateway that loads is to own the ports that

@@ -13,7 +13,7 @@ use Rattle.spec_pair.specs.Acts.{Act, LoneNew, LoneDrop, LoadOwner, HandIn, Send
 use Rattle.spec_pair.specs.Box.{Letter, Parcel, empty}
 use Rattle.spec_pair.specs.Ownership.{Ranges, moving, in_run, Run, fixed}
 use Rattle.spec_pair.specs.Talk.{Live, Held, Owner, Agree, Begin, note, Stayed, set_at, Ask, Yield, MachineRecord, Accept, Propose, Reject, Grant, Done, Stay, Want, No, Left, Rejected, Use, Agreed, Yes, pair_of, Slot, Refuse, Install, Close, Put, Leave}
-use Rattle.spec_pair.specs.World.{MachineEvent, after_events, AreAllowed, founding}
+use Rattle.spec_pair.specs.World.{MachineEvent, Scene, after_events, AreAllowed, both, founding}
 
 -- fixed ranges: gateway 0 owns the ports 20000 to 39999, gateway 1 the ports 40000 to 59999
 abbrev pub range_of : ℕ → GatewayId
@@ -45,7 +45,13 @@ one_at m x = record { by = One; moment = m; act = x }
 
 -- a letter from the sender's boot to the receiver's, with the records from number `first` on
 abbrev pub letter_of : ℕ → ℕ → ℕ → List MachineRecord → Letter
-letter_of from to first records = record { boot = from; to = to; first = first; records = records }
+letter_of from to first records = record {
+  boot = from;
+  to = to;
+  first = first;
+  records = records;
+  ends = false;
+}
 
 -- a slot and the key where a table has it
 pub record Placed : Type 0 where
@@ -69,14 +75,18 @@ live_first = slot_on 20000 (Live (host 5000)) ∷ []
 abbrev pub held_first : List Placed
 held_first = slot_on 20000 (Held (host 5000)) ∷ []
 
--- The events are allowed, one after another from the founding, and lead to these notes, the oldest first, and to these
+-- The events are allowed, one after another from this scene, and lead to these notes, the oldest first, and to these
 -- tables of gateway 0 and gateway 1.
-pub record LeadsTo (r : Ranges) (events : List MachineEvent)
+pub record LeadsFrom (start : Scene) (r : Ranges) (events : List MachineEvent)
     (trace : List Note) (zero one : List Placed) : Type 0 where
-  pub allowed : AreAllowed r events (founding r)
-  pub trace_is : reverse (after_events r events (founding r)).trace ≡ trace
-  pub zero_is : (k : Key) → (after_events r events (founding r)).mine.table k ≡ with zero k
-  pub one_is : (k : Key) → (after_events r events (founding r)).theirs.table k ≡ with one k
+  pub allowed : AreAllowed r events start
+  pub trace_is : reverse (after_events r events start).trace ≡ trace
+  pub zero_is : (k : Key) → (after_events r events start).mine.table k ≡ with zero k
+  pub one_is : (k : Key) → (after_events r events start).theirs.table k ≡ with one k
+
+-- the events lead there from the founding
+abbrev pub LeadsTo : Ranges → List MachineEvent → List Note → List Placed → List Placed → Type 0
+LeadsTo r events trace zero one = LeadsFrom (founding r) r events trace zero one
 
 -- the first letter of gateway 1's boot 1, without records
 abbrev pub hello : Letter
@@ -393,7 +403,7 @@ returning_notes =
     ∷ note One 1 Synced
     ∷ []
 
--- whether a port is one of six, of which gateway 0 is founded with two
+-- whether a port is one of six, of which gateway 0 founds the pair with two, and gateway 1 with four
 abbrev pub in_six : ℕ → Bool
 in_six n = in_run 20000 20001 n || in_run 40000 40003 n
 
@@ -403,7 +413,7 @@ six = 20000 ∷ 20001 ∷ 40000 ∷ 40001 ∷ 40002 ∷ 40003 ∷ []
 
 -- the six ports, which move
 abbrev pub six_ports : Ranges
-six_ports = moving in_six (in_run 20000 20001)
+six_ports = moving in_six (both (in_run 20000 20001) (in_run 40000 40003))
 
 -- the run from one port to another
 abbrev pub run_of : ℕ → ℕ → Run

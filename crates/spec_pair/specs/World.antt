@@ -1,17 +1,16 @@
 -- The pair of gateways with its mail: every letter that was ever sent may come, any number of times and in any order. A
 -- scene is the state of both gateways and their mail. An execution is a list of allowed events from a beginning.
-use Rattle.std.specs.Prelude.{Bool, IsTrue, List, Some, [], false, length, true, ℕ, ◌&&◌, ◌++◌, ◌||◌, ◌∷◌, ◌≡◌, ◌+◌, ◌≤◌}
+use Rattle.std.specs.Prelude.{Bool, IsTrue, List, Some, [], false, length, true, ℕ, ◌++◌, ◌||◌, ◌∷◌, ◌≡◌, ◌+◌, ◌≤◌}
 use Rattle.nat_types.specs.declared.gateways.GatewayId.{GatewayId}
 use Rattle.nat_types.specs.declared.gateways.GatewayId.TheVariants.{Zero, One}
 use Rattle.nat_types.specs.declared.notes.Note.{Note}
-use Rattle.nat_types.specs.declared.notes.NoteKind.TheVariants.{Crashed}
 use Rattle.nat_types.specs.declared.pairs.Key.{Key}
 use Rattle.nat_types.specs.declared.pairs.Pair.{Pair}
-use Rattle.spec_trace.specs.Past.{OnePort, OneEndpoint, Silent, Kept, AtMostTwo, GoesOn, FoundedRightly}
+use Rattle.spec_trace.specs.Past.{OnePort, OneEndpoint, Silent, Kept, AtMostTwo, GoesOn, FoundedRightly, nobody_up}
 use Rattle.spec_pair.specs.Acts.{MayAct, Act, box_after, BootFounding, PeerOff, letters_by, read_by, act_notes}
 use Rattle.spec_pair.specs.Box.{never, Box, In, Letter, founder}
 use Rattle.spec_pair.specs.Ownership.{Ranges, own_ports}
-use Rattle.spec_pair.specs.Talk.{Slot, held, note, translated}
+use Rattle.spec_pair.specs.Talk.{Slot, held, translated}
 
 -- a scene, as one gateway sees it: its own box and the other's, all letters that each ever sent, and the notes of both,
 -- the newest first
@@ -68,7 +67,7 @@ nobody = record {
   theirs = never;
   my_mail = [];
   their_mail = [];
-  trace = note Zero 0 Crashed ∷ [];
+  trace = nobody_up ∷ [];
 }
 
 -- the two beginnings: with gateway 0 founded, or with nobody up

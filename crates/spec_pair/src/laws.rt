@@ -3,44 +3,47 @@
 ghost use Rattle.std.specs.Prelude.{◌≡◌, ◌≤◌, ◌<◌, ◌+◌, length, ℕ, Bool, false, ◌&&◌, ◌++◌, List, [], ◌∷◌, Some, IsTrue, filter, true, reverse};
 ghost use Rattle.nat_types.specs.Same.{other, same};
 ghost use Rattle.nat_types.specs.declared.gateways.GatewayId.{GatewayId};
+ghost use Rattle.nat_types.specs.declared.gateways.GatewayId.TheVariants.{Zero};
 ghost use Rattle.nat_types.specs.declared.notes.Note.{Note};
 ghost use Rattle.nat_types.specs.declared.pairs.Endpoint.{Endpoint};
 ghost use Rattle.nat_types.specs.declared.pairs.Key.{Key};
 ghost use Rattle.nat_types.specs.declared.pairs.Pair.{Pair};
-ghost use Rattle.spec_trace.specs.Past.{is_synced, was_alone};
+ghost use Rattle.spec_trace.specs.Past.{is_synced, nobody_up, was_alone};
 ghost use Rattle.spec_trace.specs.Plain as plain;
-ghost use Rattle.spec_trace.specs.Trace.{AtMostTwo, Fits, GoesOn, Kept, OneEndpoint, OnePort, Silent};
-ghost use Rattle.spec_pair.specs.Acts.{Act, AreGot, Hear, HearAnew, MayAct, Send, box_after, letters_by, act_notes};
+ghost use Rattle.spec_trace.specs.Trace.{AtMostTwo, Fits, FoundedRightly, GoesOn, Kept, OneEndpoint, OnePort, Silent};
+ghost use Rattle.spec_pair.specs.Acts.{Act, AreGot, Found, Hear, HearAnew, MayAct, Send, box_after, letters_by, act_notes};
 ghost use Rattle.spec_pair.specs.Batch.{AreApart, AreThose, LieWithin};
 ghost use Rattle.spec_pair.specs.Box.{AreBack, AreMirrored, AreLoadable, AreSame, revived, Box, In, Parcel, StandsNext, Letter, empty, nth};
 ghost use Rattle.spec_pair.specs.Live.{AreTogether, IsNext, hello_of, hello_sent, unheard, next_letter, next_sent, outstanding};
-ghost use Rattle.spec_pair.specs.Ownership.{AreRising, LeaveRest, Ranges, Run, keyed, left_to, fixed, in_runs, moving};
-ghost use Rattle.spec_pair.specs.Rows.{live_first, held_first, LeadsTo, LeavesPorts, lone, lone_notes, promising, promising_notes, naming, naming_notes, returning, returning_notes, six_ports, asked_no, asked_no_notes, asked_yes, asked_yes_notes, crossing, crossing_notes, doomed, doomed_notes, granting, host, loading, loading_notes, losing, losing_notes, peer_off, peer_off_notes, slot_on, revival, revival_notes, sharing, two_ranges, using, using_notes, wanting};
+ghost use Rattle.spec_pair.specs.Ownership.{AreRising, LeaveRest, Ranges, Run, keyed, left_to, fixed, in_runs, moving, own_ports};
+ghost use Rattle.spec_pair.specs.Rows.{live_first, held_first, LeadsFrom, LeadsTo, LeavesPorts, lone, lone_notes, promising, promising_notes, naming, naming_notes, returning, returning_notes, six_ports, asked_no, asked_no_notes, asked_yes, asked_yes_notes, crossing, crossing_notes, doomed, doomed_notes, granting, host, loading, loading_notes, losing, losing_notes, peer_off, peer_off_notes, slot_on, revival, revival_notes, sharing, two_ranges, using, using_notes, wanting};
 ghost use Rattle.spec_pair.specs.RecordTable.{AreFacts, DoesTake, Facts, act_by_table, becomes_owned, told};
 ghost use Rattle.spec_pair.specs.Step.{IsOff, IsStep, ReadsOnly, WasSent};
 ghost use Rattle.spec_pair.specs.AloneRows.{made_alone, made_alone_notes, meeting, meeting_notes, pair_b, pair_c, reloading, reloading_notes, tell_crosses, tell_crosses_notes, going_on, going_on_notes, taking_back, taking_back_notes, dying, dying_notes};
+ghost use Rattle.spec_pair.specs.EraRows.{by_word, by_word_notes, coming_up, coming_up_notes, ending, ending_notes, found_again, found_again_notes, held_anew, live_anew, ports_back, ports_back_notes, saving, saving_notes};
 ghost use Rattle.spec_pair.specs.Talk.{Adopt, Alone, Free, Held, Live, MachineRecord, Pending, Slot, Tell, pair_of};
-ghost use Rattle.spec_pair.specs.World.{AreAllowed, Can, EndsBy, MachineEvent, HasOwners, TableHolds, IsKept, IsWorld, Scene, TableTranslates, box_in, after_act, after_event, flip, mail_in, after_events, seen_by, founding, tables_of, with_step};
+ghost use Rattle.spec_pair.specs.World.{AreAllowed, Can, EndsBy, MachineEvent, HasOwners, TableHolds, IsKept, IsWorld, Scene, TableTranslates, box_in, after_act, after_event, flip, mail_in, after_events, seen_by, beginning, nobody, tables_of, with_step};
 
-/// The headline, for any loss, repetition and reordering of datagrams, for ever too, any crashes and boots that are
-/// allowed, and while both gateways make pairs by themselves too. No outside port of an open pair serves another
-/// endpoint; no endpoint gets another port, save where one of the two pairs was alone, and no gateway holds more than
-/// two pairs of it; every open pair is held by each synced gateway, or, while it is private to one of them, by that
-/// one; no unsynced gateway uses a pair, and each synced gateway translates with the pairs that are in use there. No
-/// port is owned by two synced gateways, and once both have taken all that was pushed each port of the ranges has an
-/// owner.
+/// The headline, from either beginning, for any loss, repetition and reordering of datagrams, for ever too, for crashes, ends
+/// and boots, of both gateways at once too, and while both gateways make pairs by themselves too. The pair is founded only
+/// where no gateway is synced, and begins an era; a pair is open where it was used in the present one. No outside port of
+/// an open pair serves another endpoint; no endpoint gets another port, save where one of the two pairs was alone, and no
+/// gateway holds more than two pairs of it; every open pair is held by each synced gateway, or, while it is private to one
+/// of them, by that one; no unsynced gateway uses a pair, and each synced gateway translates with the pairs that are in
+/// use there. No port is owned by two synced gateways, and once both have taken all that was pushed each port of the
+/// ranges has an owner.
 pub fn the_pair_keeps()
-    ensures kept { (r : Ranges) (events : List MachineEvent)
-        → AreAllowed r events (founding r) →
-        let s = after_events r events (founding r) in IsKept s.trace (tables_of s) }
-    ensures owners { (r : Ranges) (events : List MachineEvent)
-        → AreAllowed r events (founding r) →
-        HasOwners r (after_events r events (founding r)) }
+    ensures kept { (r : Ranges) (founded : Bool) (events : List MachineEvent)
+        → AreAllowed r events (beginning r founded) →
+        let s = after_events r events (beginning r founded) in IsKept s.trace (tables_of s) }
+    ensures owners { (r : Ranges) (founded : Bool) (events : List MachineEvent)
+        → AreAllowed r events (beginning r founded) →
+        HasOwners r (after_events r events (beginning r founded)) }
 {}
 
-/// The scene at the founding can come about.
+/// Each of the two beginnings can come about: with gateway 0 founded, and with nobody up.
 pub fn begins()
-    ensures { (r : Ranges) → IsWorld r (founding r) }
+    ensures { (r : Ranges) (founded : Bool) → IsWorld r (beginning r founded) }
 {}
 
 /// A scene to which one more allowed event leads, from a scene that can come about, can come about.
@@ -68,6 +71,8 @@ pub fn promises_in_order()
         s.trace ≡ reverse trace → Kept (TableHolds (tables_of s)) trace }
     ensures silent { (r : Ranges) (s : Scene) (trace : List Note) → IsWorld r s →
         s.trace ≡ reverse trace → Silent trace }
+    ensures founded_rightly { (r : Ranges) (s : Scene) (trace : List Note) → IsWorld r s →
+        s.trace ≡ reverse trace → FoundedRightly trace }
     ensures goes_on { (r : Ranges) (s : Scene) (trace : List Note) → IsWorld r s →
         s.trace ≡ reverse trace → GoesOn (TableTranslates (tables_of s)) trace }
     ensures synced { (r : Ranges) (s : Scene) (trace : List Note) (i : GatewayId)
@@ -130,7 +135,7 @@ pub fn rests()
         IsStep r i moment a b ls ws t t mail mail }
 {}
 
-/// One act that a gateway may do, other than a crash or a boot, is a step.
+/// One act that a gateway may do, other than a crash, an end or a boot, is a step.
 pub fn one_act()
     ensures { (r : Ranges) (i : GatewayId) (moment : ℕ) (a b : Box) (x : Act) (ls : List Letter)
         (ws : List ℕ) (t : List Note) (mail : List Letter) → MayAct r i a x → ReadsOnly ls ws x →
@@ -206,13 +211,13 @@ pub fn never_stuck()
         (act_by_table r i v.mine (next_letter v) 0 f q)) < outstanding v }
 {}
 
-/// Of two gateways that are up, where one hasn't heard the other's boot, the other may send a letter that tells it
-/// (`said`), and the one may hear it: unsynced (`anew`), or synced with the pairs and runs of its batch (`heard`). Then
-/// one gateway fewer hasn't heard (`fewer_anew`, `fewer_heard`). Where both have heard, they are in one session, and
-/// neither is lone (`together`).
+/// A gateway that is up may always send a letter that tells its boot (`said`). Where the other hasn't heard that boot, the
+/// other may hear it: unsynced (`anew`), or synced with the pairs and runs of its batch (`heard`). Then one gateway fewer
+/// hasn't heard (`fewer_anew`, `fewer_heard`). Where both are up and have heard, they are in one session, and neither is
+/// lone (`together`).
 pub fn hears_next()
-    ensures said { (r : Ranges) (i : GatewayId) (v : Scene) → v.theirs.up ≡ true →
-        Can r (other i) (flip v) (Send 0 0) }
+    ensures said { (r : Ranges) (s : Scene) (i : GatewayId) → IsWorld r s →
+        let v = seen_by i s in v.theirs.up ≡ true → Can r (other i) (flip v) (Send 0 1) }
     ensures anew { (r : Ranges) (i : GatewayId) (v : Scene) → v.mine.up ≡ true →
         v.mine.synced ≡ false → v.mine.peer < v.theirs.boot →
         Can r i (hello_sent v) (HearAnew (hello_of v)) }
@@ -235,12 +240,27 @@ pub fn hears_next()
         AreTogether v }
 {}
 
+/// Where neither of two gateways in one session is synced, gateway 0 may found the pair by the letter that the other may
+/// send (`founded`); then it is synced (`synced`), and they are in one session still (`together`).
+pub fn founds_next()
+    ensures founded { (r : Ranges) (s : Scene) (os : List Run) (part : Bool) → IsWorld r s →
+        AreTogether s → s.mine.synced ≡ false → s.theirs.synced ≡ false →
+        AreRising r.in_ranges 0 os → LeaveRest r Zero (own_ports r Zero) os →
+        Can r Zero (hello_sent s) (Found (hello_of s) os part) }
+    ensures synced { (r : Ranges) (moment : ℕ) (s : Scene) (os : List Run) (part : Bool) →
+        (after_act r Zero moment (hello_sent s) (Found (hello_of s) os part)).mine.synced ≡ true }
+    ensures together { (r : Ranges) (moment : ℕ) (s : Scene) (os : List Run) (part : Bool) →
+        AreTogether s →
+        AreTogether (after_act r Zero moment (hello_sent s) (Found (hello_of s) os part)) }
+{}
+
 /// In one session neither gateway took more than the other pushed (`counts`). Where one took less, and the next record
 /// isn't held back as promised, a record stands next (`next`), and `never_stuck` says what may be done with it. Where
-/// nothing is left to do both are synced (`done`).
+/// nothing is left to do, both are synced or neither is (`done`).
 pub fn some_is_next()
     ensures done { (r : Ranges) (s : Scene) (i : GatewayId) → IsWorld r s →
-        let v = seen_by i s in AreTogether v → outstanding v ≡ 0 → v.mine.synced ≡ true }
+        let v = seen_by i s in AreTogether v → outstanding v ≡ 0 →
+        v.mine.synced ≡ v.theirs.synced }
     ensures counts { (r : Ranges) (s : Scene) (i : GatewayId) → IsWorld r s →
         let v = seen_by i s in AreTogether v → v.theirs.taken ≤ length v.mine.sent }
     ensures next { (r : Ranges) (s : Scene) (i : GatewayId) → IsWorld r s →
@@ -270,8 +290,9 @@ pub fn batch_loads()
 
 /// Where ports move and the runs are the owned ports, the runs leave the rest of the ranges to the other gateway.
 pub fn runs_leave()
-    ensures { (in_ranges at_start owned : ℕ → Bool) (i : GatewayId) (os : List Run) →
-        ((p : ℕ) → in_runs p os ≡ owned p) → LeaveRest (moving in_ranges at_start) i owned os }
+    ensures { (in_ranges : ℕ → Bool) (at_start : GatewayId → ℕ → Bool) (owned : ℕ → Bool)
+        (i : GatewayId) (os : List Run) → ((p : ℕ) → in_runs p os ≡ owned p) →
+        LeaveRest (moving in_ranges at_start) i owned os }
 {}
 
 /// With fixed ranges no run is named, and the other gateway has its own range.
@@ -333,6 +354,25 @@ pub fn alone_rows_lead()
     ensures untold { LeadsTo two_ranges (loading ++ made_alone ++ dying)
         (loading_notes ++ made_alone_notes ++ dying_notes)
         (slot_on 20000 (Pending false (host 5001)) ∷ []) (slot_on 20000 (Held (host 5001)) ∷ []) }
+{}
+
+/// Whole runs over eras. With nobody up both gateways boot, and gateway 0 founds the pair by what it hears (`first`). Both
+/// crash while a pair is in use, and are founded again: the port serves another host (`again`). The last synced gateway
+/// crashes, and the other is loaded by the batch that it left (`saved`). A gateway ends, and the other makes pairs at
+/// once (`ended`). A boot of gateway 1 founds the pair (`by_word`). Ports that moved are back in the next era (`ports_back`).
+pub fn era_rows_lead()
+    ensures first { LeadsFrom nobody two_ranges coming_up (nobody_up ∷ coming_up_notes) [] [] }
+    ensures again { LeadsTo two_ranges (loading ++ using ++ found_again)
+        (loading_notes ++ using_notes ++ found_again_notes) live_anew held_anew }
+    ensures saved { LeadsTo two_ranges saving saving_notes [] held_first }
+    ensures ended { LeadsTo two_ranges (loading ++ using ++ ending)
+        (loading_notes ++ using_notes ++ ending_notes)
+        (slot_on 20001 (Live (host 5001)) ∷ live_first) [] }
+    ensures by_word { LeadsFrom nobody two_ranges by_word (nobody_up ∷ by_word_notes) []
+        (slot_on 40000 (Live (host 5000)) ∷ []) }
+    ensures ports_back { LeavesPorts (sharing ++ wanting ++ granting ++ ports_back)
+        (loading_notes ++ ports_back_notes) (20000 ∷ 20001 ∷ [])
+        (40000 ∷ 40001 ∷ 40002 ∷ 40003 ∷ []) }
 {}
 
 /// Whole runs with six ports that move. While a Grant is on its way its ports are nobody's; then they are the asker's.

@@ -5,10 +5,10 @@ use Rattle.nat_types.specs.declared.gateways.GatewayId.{GatewayId}
 use Rattle.nat_types.specs.declared.gateways.GatewayId.TheVariants.{Zero, One}
 use Rattle.nat_types.specs.declared.pairs.Pair.{Pair}
 use Rattle.nat_types.specs.declared.notes.NoteKind.{NoteKind}
-use Rattle.nat_types.specs.declared.notes.NoteKind.TheVariants.{Used, Released, Retaken, Alone, Synced, Crashed, Booted}
+use Rattle.nat_types.specs.declared.notes.NoteKind.TheVariants.{Used, Released, Retaken, Alone, Synced, Founded, Crashed, Booted}
 use Rattle.nat_types.specs.declared.notes.Note.{Note}
 use Rattle.nat_types.specs.Same.{same, other, same_pair}
-use Rattle.spec_trace.specs.Past.{is_synced, released_after, has_released, goes_after, goes_on, is_in_use, is_private, is_only_at, is_agreed, open_after, is_open, is_alone_word, was_alone, OnePortAt, OnePort, OneEndpointAt, OneEndpoint, rest_of, UsesAt, UsedInLife, IsIdle, IdleAt, Idle}
+use Rattle.spec_trace.specs.Past.{is_synced, released_after, has_released, goes_after, goes_on, is_in_use, is_private, is_only_at, is_agreed, open_after, is_open, is_alone_word, was_alone, OnePortAt, OnePort, OneEndpointAt, OneEndpoint, begins_era, rest_of, UsesAt, UsedInLife, UsedInEra, IsIdle, IdleAt, Idle}
 use Rattle.spec_trace.specs.OneBox.{Map, Move, Allot, Use, Drop, Lose, IsNewTo, MayMove, map_after, Leads, moves_at, release_after, last_release, AreTimely, IsRun, IsOneToOne}
 use Rattle.nat_types.proofs.Offered.{same-eq, same-true, pair-self, pair-eq, pair-parts, pair-true, pair-false}
 
@@ -75,12 +75,17 @@ released_leads i p t false m e h = λ q. h q ∙ drop_false (same_pair q p) (is_
 lost_leads : (i : GatewayId) (t : List Note) (m : Map) → ((q : Pair) → m q ≡ cond (is_only_at i q t) false (is_open q t)) → Leads (alone_in t) (opens t) (moves_at (opens t) i Crashed t) m
 lost_leads i t m h = (λ q l. (and_parts (is_open q t) (is_only_at i q t) l).0, λ q. h q ∙ lose_true (is_only_at i q t) (is_open q t))
 
+none_left : (o : Bool) → false ≡ o && not o
+none_left true = refl
+none_left false = refl
+
 leads_at : (i : GatewayId) (w : NoteKind) (t : List Note) (m : Map) → OnePortAt w t → OneEndpointAt w t → ((q : Pair) → m q ≡ open_after q w (is_agreed i q t) (is_only_at i q t) (is_open q t)) → Leads (alone_in t) (opens t) (moves_at (opens t) i w t) m
 leads_at i (Used p) t m f g h = used_leads i p t (is_open p t) m f g refl h
 leads_at i (Released p) t m f g h = released_leads i p t (is_agreed i p t && is_open p t) m refl h
 leads_at i (Retaken p) t m f g h = h
 leads_at i (Alone p) t m f g h = h
 leads_at i Synced t m f g h = h
+leads_at i Founded t m f g h = (λ q o. o, λ q. h q ∙ none_left (is_open q t))
 leads_at i Crashed t m f g h = lost_leads i t m h
 leads_at i (Booted n) t m f g h = h
 
@@ -98,6 +103,7 @@ released_word i p j (Released q) = same i j && same_pair p q
 released_word i p j (Retaken q) = same i j && same_pair p q
 released_word i p j (Alone q) = same i j && same_pair p q
 released_word i p j Synced = false
+released_word i p j Founded = false
 released_word i p j Crashed = false
 released_word i p j (Booted n) = false
 
@@ -107,73 +113,93 @@ is_other Zero One e = refl
 is_other One Zero e = refl
 is_other One One e = absurd (cc)
 
-released_rested : (j : GatewayId) (p : Pair) (u : ℕ) (i : GatewayId) (at : ℕ) (m : Bool) (w : NoteKind) (t : List Note) (b : Bool) → IdleAt i at w t → (has_released j p t ≡ true → UsedInLife j p u t → (r : ℕ) × (last_release j p t ≡ Some r) × (u + rest_of p.key.protocol ≤ r)) → released_word j p i w ≡ b → released_after j p i w (has_released j p t) ≡ true → UsesAt j p u i at m w (UsedInLife j p u t) → (r : ℕ) × (release_after j p i at w (last_release j p t) ≡ Some r) × (u + rest_of p.key.protocol ≤ r)
-released_rested j p u i at m (Used q) t true d was e h uses = absurd (let x : false ≡ true = sym (ap (λ b. cond b false (has_released j p t)) e) ∙ h in cc)
-released_rested j p u i at m (Used q) t false d was e h uses =
+uses_more : (j : GatewayId) (p : Pair) (u : ℕ) (i : GatewayId) (at : ℕ) (m : Bool) (w : NoteKind) (A B : Type 0) → (A → B) → UsesAt j p u i at m w A → UsesAt j p u i at m w B
+uses_more j p u i at m (Used q) A B f (inl h) = inl h
+uses_more j p u i at m (Used q) A B f (inr h) = inr (f h)
+uses_more j p u i at m (Released q) A B f h = f h
+uses_more j p u i at m (Retaken q) A B f h = f h
+uses_more j p u i at m (Alone q) A B f h = f h
+uses_more j p u i at m Synced A B f h = f h
+uses_more j p u i at m Founded A B f h = f h
+uses_more j p u i at m Crashed A B f h = f h
+uses_more j p u i at m (Booted n) A B f h = (h.0, f h.1)
+
+-- a use in a gateway's present life and era is one in its present life
+pub in_life : (j : GatewayId) (p : Pair) (u : ℕ) (t : List Note) → UsedInEra j p u t → UsedInLife j p u t
+in_life j p u [] h = absurd h
+in_life j p u (n ∷ t) h = uses_more j p u n.by n.at n.counts n.what (UsedInEra j p u t) (UsedInLife j p u t) (in_life j p u t) h.1
+
+released_rested : (j : GatewayId) (p : Pair) (u : ℕ) (i : GatewayId) (at : ℕ) (m : Bool) (w : NoteKind) (t : List Note) (b : Bool) → IdleAt i at w t → begins_era w ≡ false → (has_released j p t ≡ true → UsedInEra j p u t → (r : ℕ) × (last_release j p t ≡ Some r) × (u + rest_of p.key.protocol ≤ r)) → released_word j p i w ≡ b → released_after j p i w (has_released j p t) ≡ true → UsesAt j p u i at m w (UsedInEra j p u t) → (r : ℕ) × (release_after j p i at w (last_release j p t) ≡ Some r) × (u + rest_of p.key.protocol ≤ r)
+released_rested j p u i at m (Used q) t true d era was e h uses = absurd (let x : false ≡ true = sym (ap (λ b. cond b false (has_released j p t)) e) ∙ h in cc)
+released_rested j p u i at m (Used q) t false d era was e h uses =
     let before : has_released j p t ≡ true = sym (ap (λ b. cond b false (has_released j p t)) e) ∙ h in
     elim uses [ inl here ↦ absurd (both_ways (same j i && same_pair p q) e (is_both j i p q here.0 here.1)) | inr old ↦ was before old ]
-released_rested j p u i at m (Released q) t true d was e h uses =
+released_rested j p u i at m (Released q) t true d era was e h uses =
     let two : (j ≡ i) × (p ≡ q) = both_same j i p q e in
-    let moved : UsedInLife i q u t = subst (λ (x : GatewayId). UsedInLife x q u t) two.0 (subst (λ (x : Pair). UsedInLife j x u t) two.1 uses) in
+    let moved : UsedInLife i q u t = subst (λ (x : GatewayId). UsedInLife x q u t) two.0 (subst (λ (x : Pair). UsedInLife j x u t) two.1 (in_life j p u t uses)) in
     (at, ap (λ b. cond b (Some at) (last_release j p t)) e, subst (λ (x : Pair). u + rest_of x.key.protocol ≤ at) (sym two.1) (d u moved))
-released_rested j p u i at m (Released q) t false d was e h uses =
+released_rested j p u i at m (Released q) t false d era was e h uses =
     let before : has_released j p t ≡ true = sym (ap (λ b. cond b true (has_released j p t)) e) ∙ h in
     let old = was before uses in
     (old.0, ap (λ b. cond b (Some at) (last_release j p t)) e ∙ old.1, old.2)
-released_rested j p u i at m (Retaken q) t true d was e h uses = absurd (let x : false ≡ true = sym (ap (λ b. cond b false (has_released j p t)) e) ∙ h in cc)
-released_rested j p u i at m (Alone q) t true d was e h uses = absurd (let x : false ≡ true = sym (ap (λ b. cond b false (has_released j p t)) e) ∙ h in cc)
-released_rested j p u i at m (Retaken q) t false d was e h uses = was (sym (ap (λ b. cond b false (has_released j p t)) e) ∙ h) uses
-released_rested j p u i at m (Alone q) t false d was e h uses = was (sym (ap (λ b. cond b false (has_released j p t)) e) ∙ h) uses
-released_rested j p u i at m Synced t b d was e h uses = was h uses
-released_rested j p u i at m Crashed t b d was e h uses = was h uses
-released_rested j p u i at m (Booted n) t b d was e h uses = was h uses.1
+released_rested j p u i at m (Retaken q) t true d era was e h uses = absurd (let x : false ≡ true = sym (ap (λ b. cond b false (has_released j p t)) e) ∙ h in cc)
+released_rested j p u i at m (Alone q) t true d era was e h uses = absurd (let x : false ≡ true = sym (ap (λ b. cond b false (has_released j p t)) e) ∙ h in cc)
+released_rested j p u i at m (Retaken q) t false d era was e h uses = was (sym (ap (λ b. cond b false (has_released j p t)) e) ∙ h) uses
+released_rested j p u i at m (Alone q) t false d era was e h uses = was (sym (ap (λ b. cond b false (has_released j p t)) e) ∙ h) uses
+released_rested j p u i at m Synced t b d era was e h uses = was h uses
+released_rested j p u i at m Founded t b d era was e h uses = absurd (cc)
+released_rested j p u i at m Crashed t b d era was e h uses = was h uses
+released_rested j p u i at m (Booted n) t b d era was e h uses = was h uses.1
 
--- where a gateway has let the pair go, each use in its life is at least the pair's rest before its last release
-rested : (j : GatewayId) (p : Pair) (u : ℕ) (t : List Note) → Idle t → has_released j p t ≡ true → UsedInLife j p u t → (r : ℕ) × (last_release j p t ≡ Some r) × (u + rest_of p.key.protocol ≤ r)
+-- where a gateway has let the pair go, each use in its life and era is at least the pair's rest before its last release
+rested : (j : GatewayId) (p : Pair) (u : ℕ) (t : List Note) → Idle t → has_released j p t ≡ true → UsedInEra j p u t → (r : ℕ) × (last_release j p t ≡ Some r) × (u + rest_of p.key.protocol ≤ r)
 rested j p u [] d h uses = absurd uses
-rested j p u (n ∷ t) d h uses = released_rested j p u n.by n.at n.counts n.what t (released_word j p n.by n.what) d.0 (λ b c. rested j p u t d.1 b c) refl h uses
+rested j p u (n ∷ t) d h uses = released_rested j p u n.by n.at n.counts n.what t (released_word j p n.by n.what) d.0 uses.0 (λ b c. rested j p u t d.1 b c) refl h uses.1
 
--- whether a note of gateway i is one of gateway j on the pair, or begins a life of gateway j
+-- whether a note of gateway i is one of gateway j on the pair, or begins a life of gateway j or an era
 abbrev word_here : GatewayId → Pair → GatewayId → NoteKind → Bool
 word_here j p i (Used q) = same j i && same_pair p q
 word_here j p i (Released q) = same j i && same_pair p q
 word_here j p i (Retaken q) = same j i && same_pair p q
 word_here j p i (Alone q) = same j i && same_pair p q
 word_here j p i Synced = false
+word_here j p i Founded = true
 word_here j p i Crashed = false
 word_here j p i (Booted n) = same j i
 
-unused_rested : (j : GatewayId) (p : Pair) (u : ℕ) (i : GatewayId) (at : ℕ) (m : Bool) (w : NoteKind) (t : List Note) (b : Bool) → IdleAt i at w t → (goes_on j p t ≡ false → UsedInLife j p u t → (r : ℕ) × (last_release j p t ≡ Some r) × (u + rest_of p.key.protocol ≤ r)) → word_here j p i w ≡ b → goes_after j p i w (goes_on j p t) ≡ false → UsesAt j p u i at m w (UsedInLife j p u t) → (r : ℕ) × (release_after j p i at w (last_release j p t) ≡ Some r) × (u + rest_of p.key.protocol ≤ r)
-unused_rested j p u i at m (Used q) t true d was e h uses = absurd (let x : true ≡ false = sym (ap (λ b. cond b true (goes_on j p t)) e) ∙ h in cc)
-unused_rested j p u i at m (Used q) t false d was e h uses =
+unused_rested : (j : GatewayId) (p : Pair) (u : ℕ) (i : GatewayId) (at : ℕ) (m : Bool) (w : NoteKind) (t : List Note) (b : Bool) → IdleAt i at w t → begins_era w ≡ false → (goes_on j p t ≡ false → UsedInEra j p u t → (r : ℕ) × (last_release j p t ≡ Some r) × (u + rest_of p.key.protocol ≤ r)) → word_here j p i w ≡ b → goes_after j p i w (goes_on j p t) ≡ false → UsesAt j p u i at m w (UsedInEra j p u t) → (r : ℕ) × (release_after j p i at w (last_release j p t) ≡ Some r) × (u + rest_of p.key.protocol ≤ r)
+unused_rested j p u i at m (Used q) t true d era was e h uses = absurd (let x : true ≡ false = sym (ap (λ b. cond b true (goes_on j p t)) e) ∙ h in cc)
+unused_rested j p u i at m (Used q) t false d era was e h uses =
     let before : goes_on j p t ≡ false = sym (ap (λ b. cond b true (goes_on j p t)) e) ∙ h in
     elim uses [ inl here ↦ absurd (both_ways (same j i && same_pair p q) e (is_both j i p q here.0 here.1)) | inr old ↦ was before old ]
-unused_rested j p u i at m (Released q) t true d was e h uses =
+unused_rested j p u i at m (Released q) t true d era was e h uses =
     let two : (j ≡ i) × (p ≡ q) = both_same j i p q e in
-    let moved : UsedInLife i q u t = subst (λ (x : GatewayId). UsedInLife x q u t) two.0 (subst (λ (x : Pair). UsedInLife j x u t) two.1 uses) in
+    let moved : UsedInLife i q u t = subst (λ (x : GatewayId). UsedInLife x q u t) two.0 (subst (λ (x : Pair). UsedInLife j x u t) two.1 (in_life j p u t uses)) in
     (at, ap (λ b. cond b (Some at) (last_release j p t)) e, subst (λ (x : Pair). u + rest_of x.key.protocol ≤ at) (sym two.1) (d u moved))
-unused_rested j p u i at m (Released q) t false d was e h uses =
+unused_rested j p u i at m (Released q) t false d era was e h uses =
     let before : goes_on j p t ≡ false = sym (ap (λ b. cond b false (goes_on j p t)) e) ∙ h in
     let old = was before uses in
     (old.0, ap (λ b. cond b (Some at) (last_release j p t)) e ∙ old.1, old.2)
-unused_rested j p u i at m (Retaken q) t true d was e h uses = absurd (let x : true ≡ false = sym (ap (λ b. cond b true (goes_on j p t)) e) ∙ h in cc)
-unused_rested j p u i at m (Retaken q) t false d was e h uses = was (sym (ap (λ b. cond b true (goes_on j p t)) e) ∙ h) uses
-unused_rested j p u i at m (Alone q) t true d was e h uses = absurd (let x : true ≡ false = sym (ap (λ b. cond b true (goes_on j p t)) e) ∙ h in cc)
-unused_rested j p u i at m (Alone q) t false d was e h uses = was (sym (ap (λ b. cond b true (goes_on j p t)) e) ∙ h) uses
-unused_rested j p u i at m Synced t b d was e h uses = was h uses
-unused_rested j p u i at m Crashed t b d was e h uses = was h uses
-unused_rested j p u i at m (Booted n) t true d was e h uses = absurd (uses.0 (same-eq j i e))
-unused_rested j p u i at m (Booted n) t false d was e h uses = was (sym (ap (λ b. cond b false (goes_on j p t)) e) ∙ h) uses.1
+unused_rested j p u i at m (Retaken q) t true d era was e h uses = absurd (let x : true ≡ false = sym (ap (λ b. cond b true (goes_on j p t)) e) ∙ h in cc)
+unused_rested j p u i at m (Retaken q) t false d era was e h uses = was (sym (ap (λ b. cond b true (goes_on j p t)) e) ∙ h) uses
+unused_rested j p u i at m (Alone q) t true d era was e h uses = absurd (let x : true ≡ false = sym (ap (λ b. cond b true (goes_on j p t)) e) ∙ h in cc)
+unused_rested j p u i at m (Alone q) t false d era was e h uses = was (sym (ap (λ b. cond b true (goes_on j p t)) e) ∙ h) uses
+unused_rested j p u i at m Synced t b d era was e h uses = was h uses
+unused_rested j p u i at m Founded t b d era was e h uses = absurd (cc)
+unused_rested j p u i at m Crashed t b d era was e h uses = was h uses
+unused_rested j p u i at m (Booted n) t true d era was e h uses = absurd (uses.0 (same-eq j i e))
+unused_rested j p u i at m (Booted n) t false d era was e h uses = was (sym (ap (λ b. cond b false (goes_on j p t)) e) ∙ h) uses.1
 
--- where a pair doesn't go on at a gateway, each use in its life is at least the pair's rest before its last release
-rested_unused : (j : GatewayId) (p : Pair) (u : ℕ) (t : List Note) → Idle t → goes_on j p t ≡ false → UsedInLife j p u t → (r : ℕ) × (last_release j p t ≡ Some r) × (u + rest_of p.key.protocol ≤ r)
+-- where a pair doesn't go on at a gateway, each use in its life and era is at least the pair's rest before its last
+-- release
+rested_unused : (j : GatewayId) (p : Pair) (u : ℕ) (t : List Note) → Idle t → goes_on j p t ≡ false → UsedInEra j p u t → (r : ℕ) × (last_release j p t ≡ Some r) × (u + rest_of p.key.protocol ≤ r)
 rested_unused j p u [] d h uses = absurd uses
-rested_unused j p u (n ∷ t) d h uses = unused_rested j p u n.by n.at n.counts n.what t (word_here j p n.by n.what) d.0 (λ b c. rested_unused j p u t d.1 b c) refl h uses
+rested_unused j p u (n ∷ t) d h uses = unused_rested j p u n.by n.at n.counts n.what t (word_here j p n.by n.what) d.0 uses.0 (λ b c. rested_unused j p u t d.1 b c) refl h uses.1
 
 -- where a release is agreed, the pair has rested at each synced gateway
-drop_rested : (i : GatewayId) (at : ℕ) (p : Pair) (t : List Note) (j : GatewayId) (b : Bool) → IsIdle i p at t → Idle t → is_agreed i p t ≡ true → is_synced j t ≡ true → same j i ≡ b → (u : ℕ) → UsedInLife j p u t → (r : ℕ) × (cond (same j i && same_pair p p) (Some at) (last_release j p t) ≡ Some r) × (u + rest_of p.key.protocol ≤ r)
+drop_rested : (i : GatewayId) (at : ℕ) (p : Pair) (t : List Note) (j : GatewayId) (b : Bool) → IsIdle i p at t → Idle t → is_agreed i p t ≡ true → is_synced j t ≡ true → same j i ≡ b → (u : ℕ) → UsedInEra j p u t → (r : ℕ) × (cond (same j i && same_pair p p) (Some at) (last_release j p t) ≡ Some r) × (u + rest_of p.key.protocol ≤ r)
 drop_rested i at p t j true idle d agreed synced e u uses =
-    (at, ap (λ b. cond b (Some at) (last_release j p t)) (is_both j i p p (same-eq j i e) refl), idle u (subst (λ (x : GatewayId). UsedInLife x p u t) (same-eq j i e) uses))
+    (at, ap (λ b. cond b (Some at) (last_release j p t)) (is_both j i p p (same-eq j i e) refl), idle u (subst (λ (x : GatewayId). UsedInLife x p u t) (same-eq j i e) (in_life j p u t uses)))
 drop_rested i at p t j false idle d agreed synced e u uses =
     let it : j ≡ other i = is_other i j e in
     let its_synced : is_synced (other i) t ≡ true = ap (λ (x : GatewayId). is_synced x t) (sym it) ∙ synced in
@@ -190,7 +216,7 @@ drop_rested i at p t j false idle d agreed synced e u uses =
     (old.0, ap (λ b. cond (b && same_pair p p) (Some at) (last_release j p t)) e ∙ old.1, old.2)
 
 released_timely : (i : GatewayId) (at : ℕ) (m : Bool) (p : Pair) (t : List Note) (b : Bool) → IsIdle i p at t → Idle t → (is_agreed i p t && is_open p t) ≡ b → AreTimely (cond b (Drop p ∷ []) []) (record { by = i; at = at; what = Released p; counts = m } ∷ t)
-released_timely i at m p t true idle d e = (λ j synced u uses. drop_rested i at p t j (same j i) idle d (and_parts (is_agreed i p t) (is_open p t) e).0 synced refl u uses, tt)
+released_timely i at m p t true idle d e = (λ j synced u uses. drop_rested i at p t j (same j i) idle d (and_parts (is_agreed i p t) (is_open p t) e).0 synced refl u uses.1, tt)
 released_timely i at m p t false idle d e = tt
 
 used_timely : (p : Pair) (b : Bool) (t : List Note) → AreTimely (cond b (Use p ∷ []) (Allot p ∷ Use p ∷ [])) t
@@ -203,6 +229,7 @@ timely_at i at m (Released p) t here d = released_timely i at m p t (is_agreed i
 timely_at i at m (Retaken p) t here d = tt
 timely_at i at m (Alone p) t here d = tt
 timely_at i at m Synced t here d = tt
+timely_at i at m Founded t here d = tt
 timely_at i at m Crashed t here d = tt
 timely_at i at m (Booted n) t here d = tt
 
@@ -228,6 +255,7 @@ open_at alone i (Released p) l t m was h q = released_open alone i p l t (is_agr
 open_at alone i (Retaken p) l t m was h q = h q ∙ was q
 open_at alone i (Alone p) l t m was h q = h q ∙ was q
 open_at alone i Synced l t m was h q = h q ∙ was q
+open_at alone i Founded l t m was h q = h.1 q ∙ sym (none_left (l q))
 open_at alone i Crashed l t m was h q = h.1 q ∙ ap (λ b. b && not (b && is_only_at i q t)) (was q) ∙ sym (lose_true (is_only_at i q t) (is_open q t))
 open_at alone i (Booted n) l t m was h q = h q ∙ was q
 
@@ -293,6 +321,7 @@ fits_at i (Released p) l t m was one h = (tt, tt)
 fits_at i (Retaken p) l t m was one h = (tt, tt)
 fits_at i (Alone p) l t m was one h = (tt, tt)
 fits_at i Synced l t m was one h = (tt, tt)
+fits_at i Founded l t m was one h = (tt, tt)
 fits_at i Crashed l t m was one h = (tt, tt)
 fits_at i (Booted n) l t m was one h = (tt, tt)
 

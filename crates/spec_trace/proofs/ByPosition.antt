@@ -1,15 +1,23 @@
 -- The laws by position, for traces with the oldest note first.
-use Rattle.std.proofs.Common.{Bool, List, IsTrue, ◌↔◌, reverse, subst}
+use Rattle.std.proofs.Common.{Bool, false, List, [], ◌∷◌, ◌++◌, IsTrue, ◌↔◌, reverse, sym, subst}
 use Rattle.std.proofs.lemmas.List.{reverse-reverse}
 use Rattle.nat_types.specs.declared.gateways.GatewayId.{GatewayId}
 use Rattle.nat_types.specs.declared.pairs.Pair.{Pair}
 use Rattle.nat_types.specs.declared.notes.Note.{Note}
-use Rattle.spec_trace.specs.Trace.{IsSynced, HasLetGo, IsInUse, IsPrivate, IsOnlyAt, IsAgreed, IsOpen, WasAlone, GoesOnWith, Fits, OnePort, OneEndpoint, Silent, Kept, AtMostTwo, GoesOn, Idle}
-use Rattle.spec_trace.specs.Position.{SyncedSays, LetGoSays, InUseSays, PrivateSays, OnlyAtSays, AgreedSays, OpenSays, WasAloneSays, GoesOnSays, TranslatesSays, FitsSays, OnePortSays, OneEndpointSays, SilentSays, KeptSays, AtMostTwoSays, IdleSays}
-use Rattle.spec_trace.proofs.Sentences.{synced_so, released_so, used_so, private_so, only_so, agreed_so, open_so, alone_so, goes_so, fits_so, one_port_so, one_endpoint_so, silent_so, kept_so, idle_so}
+use Rattle.spec_trace.specs.Past.{nobody_up, is_synced}
+use Rattle.spec_trace.specs.Trace.{of_world, IsSynced, HasLetGo, IsInUse, IsPrivate, IsOnlyAt, IsAgreed, IsOpen, WasAlone, GoesOnWith, Fits, OnePort, OneEndpoint, Silent, FoundedRightly, Kept, AtMostTwo, GoesOn, Idle}
+use Rattle.spec_trace.specs.Position.{SyncedByNote, SyncedSays, LetGoSays, InUseSays, PrivateSays, OnlyAtSays, AgreedSays, OpenSays, WasAloneSays, GoesOnSays, TranslatesSays, FitsSays, OnePortSays, OneEndpointSays, SilentSays, FoundedRightlySays, KeptSays, AtMostTwoSays, IdleSays}
+use Rattle.spec_trace.proofs.Places.{reverse_more}
+use Rattle.spec_trace.proofs.Sentences.{noted_so, synced_so, released_so, used_so, private_so, only_so, agreed_so, open_so, alone_so, goes_so, fits_so, one_port_so, one_endpoint_so, silent_so, founded_so, kept_so, idle_so}
 
 pub synced_law : (i : GatewayId) (t : List Note) → IsSynced i t ↔ SyncedSays i t
 synced_law i t = subst (λ (x : List Note). IsSynced i t ↔ SyncedSays i x) (reverse-reverse t) (synced_so i (reverse t))
+
+-- in a world that began with nobody up
+pub noted_law : (i : GatewayId) (t : List Note) → IsSynced i (of_world false t) ↔ SyncedByNote i t
+noted_law i t =
+    let said : IsTrue (is_synced i (reverse t ++ nobody_up ∷ [])) ↔ SyncedByNote i t = subst (λ (x : List Note). IsTrue (is_synced i (reverse t ++ nobody_up ∷ [])) ↔ SyncedByNote i x) (reverse-reverse t) (noted_so i (reverse t)) in
+    subst (λ (x : List Note). IsTrue (is_synced i x) ↔ SyncedByNote i t) (sym (reverse_more nobody_up t)) said
 
 pub release_law : (i : GatewayId) (p : Pair) (t : List Note) → HasLetGo i p t ↔ LetGoSays i p t
 release_law i p t = subst (λ (x : List Note). HasLetGo i p t ↔ LetGoSays i p x) (reverse-reverse t) (released_so i p (reverse t))
@@ -46,6 +54,9 @@ one_endpoint_law t = subst (λ (x : List Note). OneEndpoint t ↔ OneEndpointSay
 
 pub silent_law : (t : List Note) → Silent t ↔ SilentSays t
 silent_law t = subst (λ (x : List Note). Silent t ↔ SilentSays x) (reverse-reverse t) (silent_so (reverse t))
+
+pub founded_law : (t : List Note) → FoundedRightly t ↔ FoundedRightlySays t
+founded_law t = subst (λ (x : List Note). FoundedRightly t ↔ FoundedRightlySays x) (reverse-reverse t) (founded_so (reverse t))
 
 pub kept_law : (holds : GatewayId → Pair → Bool) (t : List Note) → Kept (λ i p. IsTrue (holds i p)) t ↔ KeptSays (λ i p. IsTrue (holds i p)) t
 kept_law holds t = subst (λ (x : List Note). Kept (λ i p. IsTrue (holds i p)) t ↔ KeptSays (λ i p. IsTrue (holds i p)) x) (reverse-reverse t) (kept_so (λ i p. IsTrue (holds i p)) (reverse t))

@@ -5,7 +5,7 @@ use Rattle.nat_types.specs.declared.gateways.GatewayId.{GatewayId}
 use Rattle.nat_types.specs.declared.pairs.Pair.{Pair}
 use Rattle.nat_types.specs.declared.notes.Note.{Note}
 use Rattle.spec_trace.specs.Past as past
-use Rattle.spec_trace.specs.Trace.{Fits, OnePort, OneEndpoint, Silent, Idle}
+use Rattle.spec_trace.specs.Trace.{Fits, OnePort, OneEndpoint, Silent, FoundedRightly, Idle}
 
 pub reverse-push : (t : List Note) (n : Note) → reverse (t ++ n ∷ []) ≡ n ∷ reverse t
 reverse-push t n = reverse-append t (n ∷ [])
@@ -42,3 +42,6 @@ OnePort-push t n = (λ h. subst past.OnePort (reverse-push t n) h, λ h. subst p
 
 pub OneEndpoint-push : (t : List Note) (n : Note) → OneEndpoint (t ++ n ∷ []) ↔ past.OneEndpointAt n.what (reverse t) × OneEndpoint t
 OneEndpoint-push t n = (λ h. subst past.OneEndpoint (reverse-push t n) h, λ h. subst past.OneEndpoint (sym (reverse-push t n)) h)
+
+pub FoundedRightly-push : (t : List Note) (n : Note) → FoundedRightly (t ++ n ∷ []) ↔ past.FoundedRightlyAt n.what (reverse t) × FoundedRightly t
+FoundedRightly-push t n = (λ h. subst past.FoundedRightly (reverse-push t n) h, λ h. subst past.FoundedRightly (sym (reverse-push t n)) h)

@@ -1,7 +1,9 @@
 mod Places
+mod Worlds
 mod Box
 mod Sentences
 mod ByPosition
+mod Eras
 mod Lists
 mod Notes
 mod Exact

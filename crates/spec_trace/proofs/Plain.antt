@@ -5,7 +5,7 @@ use Rattle.nat_types.specs.declared.gateways.GatewayId.{GatewayId}
 use Rattle.nat_types.specs.declared.pairs.Key.{Key}
 use Rattle.nat_types.specs.declared.pairs.Pair.{Pair}
 use Rattle.nat_types.specs.declared.notes.NoteKind.{NoteKind}
-use Rattle.nat_types.specs.declared.notes.NoteKind.TheVariants.{Used, Released, Retaken, Alone, Synced, Crashed, Booted}
+use Rattle.nat_types.specs.declared.notes.NoteKind.TheVariants.{Used, Released, Retaken, Alone, Synced, Founded, Crashed, Booted}
 use Rattle.nat_types.specs.declared.notes.Note.{Note}
 use Rattle.nat_types.specs.Same.{same, other, same_key, same_pair}
 use Rattle.nat_types.proofs.Offered.{key-eq, key-true}
@@ -22,6 +22,7 @@ private_word i p j (Released q) h = off (same i j && same_pair p q)
 private_word i p j (Retaken q) h = off (same i j && same_pair p q)
 private_word i p j (Alone q) h = absurd h
 private_word i p j Synced h = refl
+private_word i p j Founded h = refl
 private_word i p j Crashed h = refl
 private_word i p j (Booted n) h = off (same i j)
 
@@ -35,6 +36,7 @@ alone_word p (Released q) h = refl
 alone_word p (Retaken q) h = refl
 alone_word p (Alone q) h = absurd h
 alone_word p Synced h = refl
+alone_word p Founded h = refl
 alone_word p Crashed h = refl
 alone_word p (Booted n) h = refl
 
@@ -84,6 +86,7 @@ fits_word (Released p) t h = (λ f. tt, λ f. (tt, tt))
 fits_word (Retaken p) t h = (λ f. tt, λ f. (tt, tt))
 fits_word (Alone p) t h = (λ f. tt, λ f. (tt, tt))
 fits_word Synced t h = (λ f. tt, λ f. (tt, tt))
+fits_word Founded t h = (λ f. tt, λ f. (tt, tt))
 fits_word Crashed t h = (λ f. tt, λ f. (tt, tt))
 fits_word (Booted n) t h = (λ f. tt, λ f. (tt, tt))
 
@@ -100,6 +103,7 @@ goes_word i p j (Released q) did h = refl
 goes_word i p j (Retaken q) did h = refl
 goes_word i p j (Alone q) did h = absurd h
 goes_word i p j Synced did h = refl
+goes_word i p j Founded did h = refl
 goes_word i p j Crashed did h = refl
 goes_word i p j (Booted n) did h = refl
 

@@ -1,15 +1,15 @@
 -- Examples by which the definitions are checked: each list has the newest note first.
-use Rattle.std.proofs.Common.{◌≡◌, ℕ, ◌+◌, ◌≤◌, true, false, cond, [], ◌∷◌, Some, refl, subst, inl, inr, arith}
+use Rattle.std.proofs.Common.{◌≡◌, ℕ, ◌+◌, ◌≤◌, Bool, true, false, cond, List, [], ◌∷◌, Some, refl, subst, inl, inr, arith}
 use Rattle.nat_types.specs.declared.gateways.GatewayId.{GatewayId}
 use Rattle.nat_types.specs.declared.gateways.GatewayId.TheVariants.{Zero, One}
 use Rattle.addresses.specs.declared.transport.Protocol.TheVariants.{Icmp, Tcp, Udp}
 use Rattle.nat_types.specs.declared.pairs.Pair.{Pair}
 use Rattle.nat_types.specs.declared.notes.NoteKind.{NoteKind}
-use Rattle.nat_types.specs.declared.notes.NoteKind.TheVariants.{Used, Released, Retaken, Alone, Synced, Crashed, Booted}
+use Rattle.nat_types.specs.declared.notes.NoteKind.TheVariants.{Used, Released, Retaken, Alone, Synced, Founded, Crashed, Booted}
 use Rattle.nat_types.specs.declared.notes.Note.{Note}
 use Rattle.nat_types.specs.Same.{same_key, same_endpoint, same_pair}
-use Rattle.spec_trace.specs.Past.{is_open, is_private, goes_on, Idle}
-use Rattle.spec_trace.specs.OneBox.{Map, Allot, Use, Drop, moves_at, AreTimely, IsRun}
+use Rattle.spec_trace.specs.Past.{begun, is_synced, is_open, is_private, goes_on, FoundedRightly, Idle}
+use Rattle.spec_trace.specs.OneBox.{Map, Allot, Use, Drop, Lose, moves_at, AreTimely, IsRun}
 use Rattle.spec_trace.proofs.Box.{run_open}
 
 abbrev pair_p : Pair
@@ -84,6 +84,42 @@ row_private : is_private Zero pair_p (note Zero 3 (Retaken pair_p) ∷ note Zero
 unfolding same_pair same_key same_endpoint
 row_private = refl
 
+-- a pair that was used before a founding isn't open behind it, until it is used again, and neither goes on nor is private
+row_old_era : is_open pair_p (note One 2 Founded ∷ note Zero 1 (Used pair_p) ∷ []) ≡ false
+row_old_era = refl
+
+row_new_era : is_open pair_p (note Zero 3 (Used pair_p) ∷ note Zero 2 Founded ∷ note Zero 1 (Used pair_p) ∷ []) ≡ true
+unfolding same_pair same_key same_endpoint
+row_new_era = refl
+
+row_era_goes_on : goes_on One pair_p (note Zero 2 Founded ∷ note One 1 (Retaken pair_p) ∷ []) ≡ false
+row_era_goes_on = refl
+
+row_era_private : is_private One pair_p (note Zero 2 Founded ∷ note One 1 (Alone pair_p) ∷ []) ≡ false
+row_era_private = refl
+
+-- a gateway that founds the pair is synced, and no other
+row_founder : is_synced One (note One 1 Founded ∷ note One 1 (Booted 1) ∷ []) ≡ true
+row_founder = refl
+
+row_not_founder : is_synced Zero (note One 1 Founded ∷ note One 1 (Booted 1) ∷ note Zero 0 Crashed ∷ []) ≡ false
+row_not_founder = refl
+
+-- gateway 1 founds as it boots: rightly where nobody was up, and wrongly in a world that began with gateway 0
+abbrev boots_founding : List Note
+boots_founding = note One 1 Founded ∷ note One 1 (Booted 1) ∷ []
+
+row_founded_first : FoundedRightly (begun false boots_founding)
+row_founded_first = (elim [ Zero ↦ refl | One ↦ refl ], (tt, (tt, tt)))
+
+row_founded_beside : FoundedRightly (begun true boots_founding) → ⊥
+row_founded_beside h = let off : true ≡ false = h.0 Zero in cc
+
+-- nobody founds beside a synced gateway, however the world began
+row_founded_over : (founded : Bool) → FoundedRightly (begun founded (note Zero 2 Founded ∷ note One 1 Synced ∷ note Zero 0 (Booted 1) ∷ [])) → ⊥
+row_founded_over true h = let off : true ≡ false = h.0 One in cc
+row_founded_over false h = let off : true ≡ false = h.0 One in cc
+
 -- a pair is idle its rest after its last use, and isn't one centisecond earlier
 row_idle : Idle (note Zero 30000 (Released pair_p) ∷ note Zero 0 (Used pair_p) ∷ [])
 row_idle = (λ u h. elim h [ inl a ↦ let e : u ≡ 0 = a.2 in omega arith | inr b ↦ absurd b ], (tt, tt))
@@ -150,6 +186,9 @@ row_allots = refl
 row_drops : moves_at (λ q. true) Zero (Released pair_p) (note Zero 1 (Used pair_p) ∷ []) ≡ Drop pair_p ∷ []
 row_drops = refl
 
+row_loses_all : moves_at (λ q. true) Zero Founded (note Zero 1 (Used pair_p) ∷ []) ≡ Lose (λ q. true) ∷ []
+row_loses_all = refl
+
 -- one box doesn't drop a pair before its rest has passed
 some_moment : (a b : ℕ) → Some a ≡ Some b → a ≡ b
 some_moment a b h = cc
@@ -161,7 +200,7 @@ row_no_early_drop m run =
     let had : was pair_p ≡ true = run_open was (note Zero 0 (Used pair_p) ∷ []) run.1 pair_p in
     let timely : AreTimely (cond (was pair_p) (Drop pair_p ∷ []) []) (note Zero 29999 (Released pair_p) ∷ note Zero 0 (Used pair_p) ∷ []) = run.3 in
     let dropped : AreTimely (Drop pair_p ∷ []) (note Zero 29999 (Released pair_p) ∷ note Zero 0 (Used pair_p) ∷ []) = subst (λ b. AreTimely (cond b (Drop pair_p ∷ []) []) (note Zero 29999 (Released pair_p) ∷ note Zero 0 (Used pair_p) ∷ [])) had timely in
-    let rested = dropped.0 Zero refl 0 (inl (refl, refl, refl, refl)) in
+    let rested = dropped.0 Zero refl 0 (refl, (refl, inl (refl, refl, refl, refl))) in
     let at : 29999 ≡ rested.0 = some_moment 29999 rested.0 rested.1 in
     let le : 0 + 30000 ≤ rested.0 = rested.2 in
     omega arith

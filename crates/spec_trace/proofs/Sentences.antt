@@ -2,30 +2,32 @@
 use Rattle.std.proofs.Common.{◌≡◌, ℕ, ◌+◌, ◌<◌, ◌≤◌, ◌⊎◌, inl, inr, Bool, true, false, not, ◌&&◌, ◌||◌, cond, List, [], ◌∷◌, ◌++◌, length, Option, Some, None, IsTrue, ◌↔◌, reverse, refl, sym, ap, subst, ◌∙◌, arith}
 use Rattle.std.proofs.lemmas.Bool.{both_ways, and_parts, and_from, or_cases, or_left, or_right, not-true, not_from_false, false_from_ne_true}
 use Rattle.nat_types.specs.declared.gateways.GatewayId.{GatewayId}
-use Rattle.nat_types.specs.declared.gateways.GatewayId.TheVariants.{Zero}
+use Rattle.nat_types.specs.declared.gateways.GatewayId.TheVariants.{Zero, One}
 use Rattle.nat_types.specs.declared.pairs.Pair.{Pair}
 use Rattle.nat_types.specs.declared.notes.NoteKind.{NoteKind}
-use Rattle.nat_types.specs.declared.notes.NoteKind.TheVariants.{Used, Released, Retaken, Alone, Synced, Crashed, Booted}
+use Rattle.nat_types.specs.declared.notes.NoteKind.TheVariants.{Used, Released, Retaken, Alone, Synced, Founded, Crashed, Booted}
 use Rattle.nat_types.specs.declared.notes.Note.{Note}
 use Rattle.nat_types.specs.Same.{same, other, same_pair}
-use Rattle.spec_trace.specs.Past.{synced_after, is_synced, released_after, has_released, is_in_use, private_after, is_private, is_only_at, is_agreed, open_after, is_open, is_alone_word, was_alone, goes_after, goes_on, DoFit, FitsAt, Fits, OnePortAt, OnePort, OneEndpointAt, OneEndpoint, SilentAt, Silent, IsHeldApart, rest_of, UsesAt, UsedInLife, IdleAt, Idle}
-use Rattle.spec_trace.specs.Position.{is_state_word, is_state, SyncedSays, is_pair_word, is_on_pair, LetGoSays, InUseSays, is_private_word, is_of_privacy, PrivateSays, OnlyAtSays, AgreedSays, Deletes, Loses, OpenSays, WasAloneSays, Each, FitsHere, FitsSays, OnePortHere, OnePortSays, OneEndpointHere, OneEndpointSays, SilentHere, SilentSays, KeptSays, is_boot_word, is_of_life, GoesOnSays, UseSays, IdleHere, IdleSays}
+use Rattle.spec_trace.specs.Past.{nobody_up, begins_era, synced_after, is_synced, released_after, has_released, is_in_use, private_after, is_private, is_only_at, is_agreed, open_after, is_open, is_alone_word, was_alone, goes_after, goes_on, DoFit, FitsAt, Fits, OnePortAt, OnePort, OneEndpointAt, OneEndpoint, SilentAt, Silent, FoundedRightlyAt, FoundedRightly, IsHeldApart, rest_of, UsesAt, UsedInLife, IdleAt, Idle}
+use Rattle.spec_trace.specs.Position.{is_state_word, is_state, SyncedByNote, SyncedSays, is_pair_word, is_on_pair, LetGoSays, InUseSays, is_private_word, is_of_privacy, PrivateSays, OnlyAtSays, AgreedSays, Closes, OpenSays, WasAloneSays, Each, FitsHere, FitsSays, OnePortHere, OnePortSays, OneEndpointHere, OneEndpointSays, SilentHere, SilentSays, FoundedHere, FoundedRightlySays, KeptSays, is_boot_word, is_of_life, GoesOnSays, UseSays, IdleHere, IdleSays}
 use Rattle.nat_types.proofs.Offered.{same-eq, same-true, pair-eq, pair-true}
 use Rattle.spec_trace.proofs.Places.{at_within, at_old, at_last, at_cases, take_old, take_here, last_of, Says, says, last_unique, none_unique, reverse_more}
 
--- whether a note is Synced
+-- whether a note is Synced or Founded
 abbrev is_synced_word : NoteKind → Bool
 is_synced_word (Used p) = false
 is_synced_word (Released p) = false
 is_synced_word (Retaken p) = false
 is_synced_word (Alone p) = false
 is_synced_word Synced = true
+is_synced_word Founded = true
 is_synced_word Crashed = false
 is_synced_word (Booted n) = false
 
-abbrev synced_of : GatewayId → Option Note → Bool
-synced_of i None = same i Zero
-synced_of i (Some n) = is_synced_word n.what
+-- whether a gateway is synced by its last state note; without one it is where `d` says so
+abbrev synced_of : Bool → Option Note → Bool
+synced_of d None = d
+synced_of d (Some n) = is_synced_word n.what
 
 and_no : (b : Bool) → (b && false) ≡ false
 and_no true = refl
@@ -38,42 +40,62 @@ and_yes false = refl
 quiet : {A : Type 0} (b : Bool) (x y : A) → y ≡ cond (b && false) x y
 quiet b x y = ap (λ c. cond c x y) (sym (and_no b))
 
-synced_step : (i j : GatewayId) (at : ℕ) (m : Bool) (w : NoteKind) (b : Bool) (o : Option Note) → same i j ≡ b → synced_after i j w (synced_of i o) ≡ synced_of i (cond (same i j && is_state_word w) (Some (record { by = j; at = at; what = w; counts = m })) o)
-synced_step i j at m (Used p) b o e = ap (synced_of i) (quiet (same i j) (Some (record { by = j; at = at; what = Used p; counts = m })) o)
-synced_step i j at m (Released p) b o e = ap (synced_of i) (quiet (same i j) (Some (record { by = j; at = at; what = Released p; counts = m })) o)
-synced_step i j at m (Retaken p) b o e = ap (synced_of i) (quiet (same i j) (Some (record { by = j; at = at; what = Retaken p; counts = m })) o)
-synced_step i j at m (Alone p) b o e = ap (synced_of i) (quiet (same i j) (Some (record { by = j; at = at; what = Alone p; counts = m })) o)
-synced_step i j at m Synced true o e = rw e refl
-synced_step i j at m Synced false o e = rw e refl
-synced_step i j at m Crashed true o e = rw e refl
-synced_step i j at m Crashed false o e = rw e refl
-synced_step i j at m (Booted n) true o e = rw e refl
-synced_step i j at m (Booted n) false o e = rw e refl
+synced_step : (d : Bool) (i j : GatewayId) (at : ℕ) (m : Bool) (w : NoteKind) (b : Bool) (o : Option Note) → same i j ≡ b → synced_after i j w (synced_of d o) ≡ synced_of d (cond (same i j && is_state_word w) (Some (record { by = j; at = at; what = w; counts = m })) o)
+synced_step d i j at m (Used p) b o e = ap (synced_of d) (quiet (same i j) (Some (record { by = j; at = at; what = Used p; counts = m })) o)
+synced_step d i j at m (Released p) b o e = ap (synced_of d) (quiet (same i j) (Some (record { by = j; at = at; what = Released p; counts = m })) o)
+synced_step d i j at m (Retaken p) b o e = ap (synced_of d) (quiet (same i j) (Some (record { by = j; at = at; what = Retaken p; counts = m })) o)
+synced_step d i j at m (Alone p) b o e = ap (synced_of d) (quiet (same i j) (Some (record { by = j; at = at; what = Alone p; counts = m })) o)
+synced_step d i j at m Synced true o e = rw e refl
+synced_step d i j at m Synced false o e = rw e refl
+synced_step d i j at m Founded true o e = rw e refl
+synced_step d i j at m Founded false o e = rw e refl
+synced_step d i j at m Crashed true o e = rw e refl
+synced_step d i j at m Crashed false o e = rw e refl
+synced_step d i j at m (Booted n) true o e = rw e refl
+synced_step d i j at m (Booted n) false o e = rw e refl
 
-synced_last : (i : GatewayId) (t : List Note) → is_synced i t ≡ synced_of i (last_of (is_state i) t)
+synced_last : (i : GatewayId) (t : List Note) → is_synced i t ≡ synced_of (same i Zero) (last_of (is_state i) t)
 synced_last i [] = refl
-synced_last i (n ∷ t) = ap (synced_after i n.by n.what) (synced_last i t) ∙ synced_step i n.by n.at n.counts n.what (same i n.by) (last_of (is_state i) t) refl
+synced_last i (n ∷ t) = ap (synced_after i n.by n.what) (synced_last i t) ∙ synced_step (same i Zero) i n.by n.at n.counts n.what (same i n.by) (last_of (is_state i) t) refl
 
-synced_word : (w : NoteKind) → is_synced_word w ≡ true → w ≡ Synced
+-- where nobody is up as the world begins
+noted_last : (i : GatewayId) (t : List Note) → is_synced i (t ++ nobody_up ∷ []) ≡ synced_of false (last_of (is_state i) t)
+noted_last Zero [] = refl
+noted_last One [] = refl
+noted_last i (n ∷ t) = ap (synced_after i n.by n.what) (noted_last i t) ∙ synced_step false i n.by n.at n.counts n.what (same i n.by) (last_of (is_state i) t) refl
+
+synced_word : (w : NoteKind) → is_synced_word w ≡ true → (w ≡ Synced) ⊎ (w ≡ Founded)
 synced_word (Used p) e = absurd (cc)
 synced_word (Released p) e = absurd (cc)
 synced_word (Retaken p) e = absurd (cc)
 synced_word (Alone p) e = absurd (cc)
-synced_word Synced e = refl
+synced_word Synced e = inl refl
+synced_word Founded e = inr refl
 synced_word Crashed e = absurd (cc)
 synced_word (Booted n) e = absurd (cc)
 
-synced_to : (i : GatewayId) (t : List Note) (o : Option Note) → Says (is_state i) t o → synced_of i o ≡ true → SyncedSays i t
+word_synced : (w : NoteKind) → (w ≡ Synced) ⊎ (w ≡ Founded) → is_synced_word w ≡ true
+word_synced w (inl e) = ap is_synced_word e
+word_synced w (inr e) = ap is_synced_word e
+
+noted_to : (i : GatewayId) (t : List Note) (o : Option Note) → Says (is_state i) t o → synced_of false o ≡ true → SyncedByNote i t
+noted_to i t None s e = absurd (cc)
+noted_to i t (Some n) s e = (n, s, synced_word n.what e)
+
+noted_from : (d : Bool) (i : GatewayId) (t : List Note) → SyncedByNote i (reverse t) → synced_of d (last_of (is_state i) t) ≡ true
+noted_from d i t h = ap (synced_of d) (last_unique (is_state i) t h.0 h.1) ∙ word_synced h.0.what h.2
+
+pub noted_so : (i : GatewayId) (t : List Note) → IsTrue (is_synced i (t ++ nobody_up ∷ [])) ↔ SyncedByNote i (reverse t)
+noted_so i t = (λ h. noted_to i (reverse t) (last_of (is_state i) t) (says (is_state i) t) (sym (noted_last i t) ∙ h), λ h. noted_last i t ∙ noted_from false i t h)
+
+synced_to : (i : GatewayId) (t : List Note) (o : Option Note) → Says (is_state i) t o → synced_of (same i Zero) o ≡ true → SyncedSays i t
 synced_to i t None s e = inr (s, same-eq i Zero e)
 synced_to i t (Some n) s e = inl (n, s, synced_word n.what e)
 
 pub synced_so : (i : GatewayId) (t : List Note) → IsTrue (is_synced i t) ↔ SyncedSays i (reverse t)
 synced_so i t = (
   λ h. synced_to i (reverse t) (last_of (is_state i) t) (says (is_state i) t) (sym (synced_last i t) ∙ h),
-  λ h. synced_last i t ∙ elim h [
-    | inl a ↦ ap (synced_of i) (last_unique (is_state i) t a.0 a.1) ∙ ap is_synced_word a.2
-    | inr b ↦ ap (synced_of i) (none_unique (is_state i) t b.0) ∙ same-true i Zero b.1
-  ],
+  λ h. synced_last i t ∙ elim h [ inl a ↦ noted_from (same i Zero) i t a | inr b ↦ ap (synced_of (same i Zero)) (none_unique (is_state i) t b.0) ∙ same-true i Zero b.1 ],
 )
 
 -- whether a note is Released
@@ -83,6 +105,7 @@ is_released (Released p) = true
 is_released (Retaken p) = false
 is_released (Alone p) = false
 is_released Synced = false
+is_released Founded = false
 is_released Crashed = false
 is_released (Booted n) = false
 
@@ -100,6 +123,7 @@ released_step i p j at m (Alone q) true o e = rw e refl
 released_step i p j at m (Retaken q) false o e = rw e refl
 released_step i p j at m (Alone q) false o e = rw e refl
 released_step i p j at m Synced b o e = ap released_of (quiet (same i j) (Some (record { by = j; at = at; what = Synced; counts = m })) o)
+released_step i p j at m Founded b o e = ap released_of (quiet (same i j) (Some (record { by = j; at = at; what = Founded; counts = m })) o)
 released_step i p j at m Crashed b o e = ap released_of (quiet (same i j) (Some (record { by = j; at = at; what = Crashed; counts = m })) o)
 released_step i p j at m (Booted n) b o e = ap released_of (quiet (same i j) (Some (record { by = j; at = at; what = Booted n; counts = m })) o)
 
@@ -113,6 +137,7 @@ released_word p (Released q) s e = ap (λ (x : Pair). Released x) (sym (pair-eq 
 released_word p (Retaken q) s e = absurd (cc)
 released_word p (Alone q) s e = absurd (cc)
 released_word p Synced s e = absurd (cc)
+released_word p Founded s e = absurd (cc)
 released_word p Crashed s e = absurd (cc)
 released_word p (Booted n) s e = absurd (cc)
 
@@ -133,6 +158,7 @@ is_on_word (Released p) = false
 is_on_word (Retaken p) = true
 is_on_word (Alone p) = true
 is_on_word Synced = false
+is_on_word Founded = false
 is_on_word Crashed = false
 is_on_word (Booted n) = false
 
@@ -140,14 +166,11 @@ abbrev goes_of : Option Note → Bool
 goes_of None = false
 goes_of (Some n) = is_on_word n.what
 
-abbrev of_life_word : Pair → NoteKind → Bool
-of_life_word p w = is_pair_word p w || is_boot_word w
-
 or_no : (b : Bool) → (b || false) ≡ b
 or_no true = refl
 or_no false = refl
 
-goes_step : (i : GatewayId) (p : Pair) (j : GatewayId) (at : ℕ) (m : Bool) (w : NoteKind) (b : Bool) (o : Option Note) → (same i j && (is_pair_word p w || is_boot_word w)) ≡ b → goes_after i p j w (goes_of o) ≡ goes_of (cond b (Some (record { by = j; at = at; what = w; counts = m })) o)
+goes_step : (i : GatewayId) (p : Pair) (j : GatewayId) (at : ℕ) (m : Bool) (w : NoteKind) (b : Bool) (o : Option Note) → (begins_era w || (same i j && (is_pair_word p w || is_boot_word w))) ≡ b → goes_after i p j w (goes_of o) ≡ goes_of (cond b (Some (record { by = j; at = at; what = w; counts = m })) o)
 goes_step i p j at m (Used q) true o e = ap (λ c. cond c true (goes_of o)) (ap (λ x. same i j && x) (sym (or_no (same_pair p q))) ∙ e)
 goes_step i p j at m (Used q) false o e = ap (λ c. cond c true (goes_of o)) (ap (λ x. same i j && x) (sym (or_no (same_pair p q))) ∙ e)
 goes_step i p j at m (Released q) true o e = ap (λ c. cond c false (goes_of o)) (ap (λ x. same i j && x) (sym (or_no (same_pair p q))) ∙ e)
@@ -158,6 +181,8 @@ goes_step i p j at m (Retaken q) false o e = ap (λ c. cond c true (goes_of o)) 
 goes_step i p j at m (Alone q) false o e = ap (λ c. cond c true (goes_of o)) (ap (λ x. same i j && x) (sym (or_no (same_pair p q))) ∙ e)
 goes_step i p j at m Synced true o e = absurd (both_ways (same i j && false) (and_no (same i j)) e)
 goes_step i p j at m Synced false o e = refl
+goes_step i p j at m Founded true o e = refl
+goes_step i p j at m Founded false o e = absurd (cc)
 goes_step i p j at m Crashed true o e = absurd (both_ways (same i j && false) (and_no (same i j)) e)
 goes_step i p j at m Crashed false o e = refl
 goes_step i p j at m (Booted n) true o e = ap (λ c. cond c false (goes_of o)) (sym (and_yes (same i j)) ∙ e)
@@ -165,20 +190,21 @@ goes_step i p j at m (Booted n) false o e = ap (λ c. cond c false (goes_of o)) 
 
 goes_last : (i : GatewayId) (p : Pair) (t : List Note) → goes_on i p t ≡ goes_of (last_of (is_of_life i p) t)
 goes_last i p [] = refl
-goes_last i p (n ∷ t) = ap (goes_after i p n.by n.what) (goes_last i p t) ∙ goes_step i p n.by n.at n.counts n.what (same i n.by && (is_pair_word p n.what || is_boot_word n.what)) (last_of (is_of_life i p) t) refl
+goes_last i p (n ∷ t) = ap (goes_after i p n.by n.what) (goes_last i p t) ∙ goes_step i p n.by n.at n.counts n.what (is_of_life i p n) (last_of (is_of_life i p) t) refl
 
-on_word : (p : Pair) (w : NoteKind) → (is_pair_word p w || is_boot_word w) ≡ true → is_on_word w ≡ true → (w ≡ Used p) ⊎ ((w ≡ Retaken p) ⊎ (w ≡ Alone p))
-on_word p (Used q) s e = inl (ap (λ (x : Pair). Used x) (sym (pair-eq p q (sym (or_no (same_pair p q)) ∙ s))))
-on_word p (Released q) s e = absurd (cc)
-on_word p (Retaken q) s e = inr (inl (ap (λ (x : Pair). Retaken x) (sym (pair-eq p q (sym (or_no (same_pair p q)) ∙ s)))))
-on_word p (Alone q) s e = inr (inr (ap (λ (x : Pair). Alone x) (sym (pair-eq p q (sym (or_no (same_pair p q)) ∙ s)))))
-on_word p Synced s e = absurd (cc)
-on_word p Crashed s e = absurd (cc)
-on_word p (Booted n) s e = absurd (cc)
+on_word : (i : GatewayId) (p : Pair) (j : GatewayId) (w : NoteKind) → (begins_era w || (same i j && (is_pair_word p w || is_boot_word w))) ≡ true → is_on_word w ≡ true → (w ≡ Used p) ⊎ ((w ≡ Retaken p) ⊎ (w ≡ Alone p))
+on_word i p j (Used q) s e = inl (ap (λ (x : Pair). Used x) (sym (pair-eq p q (sym (or_no (same_pair p q)) ∙ (and_parts (same i j) (same_pair p q || false) s).1))))
+on_word i p j (Released q) s e = absurd (cc)
+on_word i p j (Retaken q) s e = inr (inl (ap (λ (x : Pair). Retaken x) (sym (pair-eq p q (sym (or_no (same_pair p q)) ∙ (and_parts (same i j) (same_pair p q || false) s).1)))))
+on_word i p j (Alone q) s e = inr (inr (ap (λ (x : Pair). Alone x) (sym (pair-eq p q (sym (or_no (same_pair p q)) ∙ (and_parts (same i j) (same_pair p q || false) s).1)))))
+on_word i p j Synced s e = absurd (cc)
+on_word i p j Founded s e = absurd (cc)
+on_word i p j Crashed s e = absurd (cc)
+on_word i p j (Booted n) s e = absurd (cc)
 
 goes_to : (i : GatewayId) (p : Pair) (t : List Note) (o : Option Note) → Says (is_of_life i p) t o → goes_of o ≡ true → GoesOnSays i p t
 goes_to i p t None s e = absurd (cc)
-goes_to i p t (Some n) s e = (n, s, on_word p n.what (and_parts (same i n.by) (is_pair_word p n.what || is_boot_word n.what) s.2).1 e)
+goes_to i p t (Some n) s e = (n, s, on_word i p n.by n.what s.2 e)
 
 pub goes_so : (i : GatewayId) (p : Pair) (t : List Note) → IsTrue (goes_on i p t) ↔ GoesOnSays i p (reverse t)
 goes_so i p t = (
@@ -199,6 +225,7 @@ is_alone (Released p) = false
 is_alone (Retaken p) = false
 is_alone (Alone p) = true
 is_alone Synced = false
+is_alone Founded = false
 is_alone Crashed = false
 is_alone (Booted n) = false
 
@@ -206,7 +233,7 @@ abbrev private_of : Option Note → Bool
 private_of None = false
 private_of (Some n) = is_alone n.what
 
-private_step : (i : GatewayId) (p : Pair) (j : GatewayId) (at : ℕ) (m : Bool) (w : NoteKind) (b : Bool) (o : Option Note) → (same i j && (is_private_word p w || is_boot_word w)) ≡ b → private_after i p j w (private_of o) ≡ private_of (cond b (Some (record { by = j; at = at; what = w; counts = m })) o)
+private_step : (i : GatewayId) (p : Pair) (j : GatewayId) (at : ℕ) (m : Bool) (w : NoteKind) (b : Bool) (o : Option Note) → (begins_era w || (same i j && (is_private_word p w || is_boot_word w))) ≡ b → private_after i p j w (private_of o) ≡ private_of (cond b (Some (record { by = j; at = at; what = w; counts = m })) o)
 private_step i p j at m (Used q) true o e = absurd (both_ways (same i j && false) (and_no (same i j)) e)
 private_step i p j at m (Used q) false o e = refl
 private_step i p j at m (Released q) true o e = ap (λ c. cond c false (private_of o)) (ap (λ x. same i j && x) (sym (or_no (same_pair p q))) ∙ e)
@@ -217,6 +244,8 @@ private_step i p j at m (Alone q) true o e = ap (λ c. cond c true (private_of o
 private_step i p j at m (Alone q) false o e = ap (λ c. cond c true (private_of o)) (ap (λ x. same i j && x) (sym (or_no (same_pair p q))) ∙ e)
 private_step i p j at m Synced true o e = absurd (both_ways (same i j && false) (and_no (same i j)) e)
 private_step i p j at m Synced false o e = refl
+private_step i p j at m Founded true o e = refl
+private_step i p j at m Founded false o e = absurd (cc)
 private_step i p j at m Crashed true o e = absurd (both_ways (same i j && false) (and_no (same i j)) e)
 private_step i p j at m Crashed false o e = refl
 private_step i p j at m (Booted n) true o e = ap (λ c. cond c false (private_of o)) (sym (and_yes (same i j)) ∙ e)
@@ -224,20 +253,21 @@ private_step i p j at m (Booted n) false o e = ap (λ c. cond c false (private_o
 
 private_last : (i : GatewayId) (p : Pair) (t : List Note) → is_private i p t ≡ private_of (last_of (is_of_privacy i p) t)
 private_last i p [] = refl
-private_last i p (n ∷ t) = ap (private_after i p n.by n.what) (private_last i p t) ∙ private_step i p n.by n.at n.counts n.what (same i n.by && (is_private_word p n.what || is_boot_word n.what)) (last_of (is_of_privacy i p) t) refl
+private_last i p (n ∷ t) = ap (private_after i p n.by n.what) (private_last i p t) ∙ private_step i p n.by n.at n.counts n.what (is_of_privacy i p n) (last_of (is_of_privacy i p) t) refl
 
-private_word : (p : Pair) (w : NoteKind) → (is_private_word p w || is_boot_word w) ≡ true → is_alone w ≡ true → w ≡ Alone p
-private_word p (Used q) s e = absurd (cc)
-private_word p (Released q) s e = absurd (cc)
-private_word p (Retaken q) s e = absurd (cc)
-private_word p (Alone q) s e = ap (λ (x : Pair). Alone x) (sym (pair-eq p q (sym (or_no (same_pair p q)) ∙ s)))
-private_word p Synced s e = absurd (cc)
-private_word p Crashed s e = absurd (cc)
-private_word p (Booted n) s e = absurd (cc)
+private_word : (i : GatewayId) (p : Pair) (j : GatewayId) (w : NoteKind) → (begins_era w || (same i j && (is_private_word p w || is_boot_word w))) ≡ true → is_alone w ≡ true → w ≡ Alone p
+private_word i p j (Used q) s e = absurd (cc)
+private_word i p j (Released q) s e = absurd (cc)
+private_word i p j (Retaken q) s e = absurd (cc)
+private_word i p j (Alone q) s e = ap (λ (x : Pair). Alone x) (sym (pair-eq p q (sym (or_no (same_pair p q)) ∙ (and_parts (same i j) (same_pair p q || false) s).1)))
+private_word i p j Synced s e = absurd (cc)
+private_word i p j Founded s e = absurd (cc)
+private_word i p j Crashed s e = absurd (cc)
+private_word i p j (Booted n) s e = absurd (cc)
 
 private_to : (i : GatewayId) (p : Pair) (t : List Note) (o : Option Note) → Says (is_of_privacy i p) t o → private_of o ≡ true → PrivateSays i p t
 private_to i p t None s e = absurd (cc)
-private_to i p t (Some n) s e = (n, s, private_word p n.what (and_parts (same i n.by) (is_private_word p n.what || is_boot_word n.what) s.2).1 e)
+private_to i p t (Some n) s e = (n, s, private_word i p n.by n.what s.2 e)
 
 pub private_so : (i : GatewayId) (p : Pair) (t : List Note) → IsTrue (is_private i p t) ↔ PrivateSays i p (reverse t)
 private_so i p t = (
@@ -275,6 +305,7 @@ alone_word p (Released q) e = absurd (cc)
 alone_word p (Retaken q) e = absurd (cc)
 alone_word p (Alone q) e = ap (λ (x : Pair). Alone x) (sym (pair-eq p q e))
 alone_word p Synced e = absurd (cc)
+alone_word p Founded e = absurd (cc)
 alone_word p Crashed e = absurd (cc)
 alone_word p (Booted n) e = absurd (cc)
 
@@ -295,10 +326,6 @@ alone_so p (n ∷ t) = (
       ],
 )
 
--- a note after which the pair isn't open: it is an agreed deletion, or loses the pair
-abbrev Ends : Pair → Note → List Note → Type 0
-Ends p n xs = Deletes p n xs ⊎ Loses p n xs
-
 -- a pair is open after a use of it
 open_new : (p : Pair) (xs : List Note) (n : Note) → n.what ≡ Used p → OpenSays p (xs ++ n ∷ [])
 open_new p xs n e = (
@@ -312,23 +339,23 @@ open_new p xs n e = (
   ],
 )
 
-open_old : (p : Pair) (xs : List Note) (n : Note) → OpenSays p xs → (Ends p n xs → ⊥) → OpenSays p (xs ++ n ∷ [])
+open_old : (p : Pair) (xs : List Note) (n : Note) → OpenSays p xs → (Closes p n xs → ⊥) → OpenSays p (xs ++ n ∷ [])
 open_old p xs n o never = (
   o.0,
   o.1,
   at_old xs (n ∷ []) o.0 o.1 o.2,
   o.3,
   λ j m lt at d. elim (at_cases xs n j m at) [
-    | inl old ↦ o.4 j m lt old (subst (λ (x : List Note). Ends p m x) (take_old xs n j m old) d)
-    | inr new ↦ never (subst (λ (x : Note). Ends p x xs) (sym new.1) (subst (λ (x : List Note). Ends p m x) (take_here xs n j new.0) d))
+    | inl old ↦ o.4 j m lt old (subst (λ (x : List Note). Closes p m x) (take_old xs n j m old) d)
+    | inr new ↦ never (subst (λ (x : Note). Closes p x xs) (sym new.1) (subst (λ (x : List Note). Closes p m x) (take_here xs n j new.0) d))
   ],
 )
 
-open_less : (p : Pair) (xs : List Note) (n : Note) → OpenSays p (xs ++ n ∷ []) → (n.what ≡ Used p) ⊎ (OpenSays p xs × (Ends p n xs → ⊥))
+open_less : (p : Pair) (xs : List Note) (n : Note) → OpenSays p (xs ++ n ∷ []) → (n.what ≡ Used p) ⊎ (OpenSays p xs × (Closes p n xs → ⊥))
 open_less p xs n o = elim (at_cases xs n o.0 o.1 o.2) [
   | inl old ↦ inr (
-    (o.0, o.1, old, o.3, λ j m lt at d. o.4 j m lt (at_old xs (n ∷ []) j m at) (subst (λ (x : List Note). Ends p m x) (sym (take_old xs n j m at)) d)),
-    λ d. o.4 (length xs) n (at_within xs o.0 o.1 old) (at_last xs n) (subst (λ (x : List Note). Ends p n x) (sym (take_here xs n (length xs) refl)) d),
+    (o.0, o.1, old, o.3, λ j m lt at d. o.4 j m lt (at_old xs (n ∷ []) j m at) (subst (λ (x : List Note). Closes p m x) (sym (take_old xs n j m at)) d)),
+    λ d. o.4 (length xs) n (at_within xs o.0 o.1 old) (at_last xs n) (subst (λ (x : List Note). Closes p n x) (sym (take_here xs n (length xs) refl)) d),
   )
   | inr new ↦ inl (ap (λ (x : Note). x.what) new.1 ∙ o.3)
 ]
@@ -346,37 +373,39 @@ used_same p q e = cc
 released_same : (p q : Pair) → Released q ≡ Released p → p ≡ q
 released_same p q e = cc
 
--- whether a note alone decides if the pair is open: it uses the pair, is an agreed deletion of it, or loses it
+-- whether a note alone decides if the pair is open: it uses the pair, is an agreed deletion of it, loses it, or is Founded
 abbrev is_about : Pair → GatewayId → NoteKind → List Note → Bool
 is_about p i (Used q) t = same_pair p q
 is_about p i (Released q) t = same_pair p q && is_agreed i p t
 is_about p i (Retaken q) t = false
 is_about p i (Alone q) t = false
 is_about p i Synced t = false
+is_about p i Founded t = true
 is_about p i Crashed t = is_only_at i p t
 is_about p i (Booted n) t = false
 
-no_end : (p : Pair) (w : NoteKind) (A B : Type 0) → (w ≡ Released p → A → ⊥) → (w ≡ Crashed → B → ⊥) → ((w ≡ Released p) × A) ⊎ ((w ≡ Crashed) × B) → ⊥
-no_end p w A B a b (inl h) = a h.0 h.1
-no_end p w A B a b (inr h) = b h.0 h.1
+no_end : (p : Pair) (w : NoteKind) (A B : Type 0) → (w ≡ Released p → A → ⊥) → (w ≡ Crashed → B → ⊥) → (w ≡ Founded → ⊥) → (((w ≡ Released p) × A) ⊎ ((w ≡ Crashed) × B)) ⊎ (w ≡ Founded) → ⊥
+no_end p w A B a b c (inl h) = elim h [ inl d ↦ a d.0 d.1 | inr d ↦ b d.0 d.1 ]
+no_end p w A B a b c (inr h) = c h
 
 open_to : (p : Pair) (i : GatewayId) (at : ℕ) (m : Bool) (w : NoteKind) (t : List Note) (b : Bool) → (IsTrue (is_open p t) → OpenSays p (reverse t)) → is_about p i w t ≡ b → open_after p w (is_agreed i p t) (is_only_at i p t) (is_open p t) ≡ true → OpenSays p (reverse t ++ record { by = i; at = at; what = w; counts = m } ∷ [])
 open_to p i at m (Used q) t true was e h = open_new p (reverse t) (record { by = i; at = at; what = Used q; counts = m }) (ap (λ (x : Pair). Used x) (sym (pair-eq p q e)))
-open_to p i at m (Used q) t false was e h = open_old p (reverse t) (record { by = i; at = at; what = Used q; counts = m }) (was (sym (ap (λ b. cond b true (is_open p t)) e) ∙ h)) (no_end p (Used q) _ _ (λ d a. cc) (λ d a. cc))
+open_to p i at m (Used q) t false was e h = open_old p (reverse t) (record { by = i; at = at; what = Used q; counts = m }) (was (sym (ap (λ b. cond b true (is_open p t)) e) ∙ h)) (no_end p (Used q) _ _ (λ d a. cc) (λ d a. cc) (λ d. cc))
 open_to p i at m (Released q) t true was e h = absurd (let x : false ≡ true = sym (ap (λ b. cond b false (is_open p t)) e) ∙ h in cc)
-open_to p i at m (Released q) t false was e h = open_old p (reverse t) (record { by = i; at = at; what = Released q; counts = m }) (was (sym (ap (λ b. cond b false (is_open p t)) e) ∙ h)) (no_end p (Released q) _ _ (λ d a. both_ways (same_pair p q && is_agreed i p t) e (and_from (same_pair p q) (is_agreed i p t) (pair-true p q (released_same p q d)) ((agreed_so i p t).1 a))) (λ d a. cc))
-open_to p i at m (Retaken q) t b was e h = open_old p (reverse t) (record { by = i; at = at; what = Retaken q; counts = m }) (was h) (no_end p (Retaken q) _ _ (λ d a. cc) (λ d a. cc))
-open_to p i at m (Alone q) t b was e h = open_old p (reverse t) (record { by = i; at = at; what = Alone q; counts = m }) (was h) (no_end p (Alone q) _ _ (λ d a. cc) (λ d a. cc))
-open_to p i at m Synced t b was e h = open_old p (reverse t) (record { by = i; at = at; what = Synced; counts = m }) (was h) (no_end p Synced _ _ (λ d a. cc) (λ d a. cc))
+open_to p i at m (Released q) t false was e h = open_old p (reverse t) (record { by = i; at = at; what = Released q; counts = m }) (was (sym (ap (λ b. cond b false (is_open p t)) e) ∙ h)) (no_end p (Released q) _ _ (λ d a. both_ways (same_pair p q && is_agreed i p t) e (and_from (same_pair p q) (is_agreed i p t) (pair-true p q (released_same p q d)) ((agreed_so i p t).1 a))) (λ d a. cc) (λ d. cc))
+open_to p i at m (Retaken q) t b was e h = open_old p (reverse t) (record { by = i; at = at; what = Retaken q; counts = m }) (was h) (no_end p (Retaken q) _ _ (λ d a. cc) (λ d a. cc) (λ d. cc))
+open_to p i at m (Alone q) t b was e h = open_old p (reverse t) (record { by = i; at = at; what = Alone q; counts = m }) (was h) (no_end p (Alone q) _ _ (λ d a. cc) (λ d a. cc) (λ d. cc))
+open_to p i at m Synced t b was e h = open_old p (reverse t) (record { by = i; at = at; what = Synced; counts = m }) (was h) (no_end p Synced _ _ (λ d a. cc) (λ d a. cc) (λ d. cc))
+open_to p i at m Founded t b was e h = absurd (cc)
 open_to p i at m Crashed t true was e h = absurd (let x : false ≡ true = sym (ap (λ b. cond b false (is_open p t)) e) ∙ h in cc)
-open_to p i at m Crashed t false was e h = open_old p (reverse t) (record { by = i; at = at; what = Crashed; counts = m }) (was (sym (ap (λ b. cond b false (is_open p t)) e) ∙ h)) (no_end p Crashed _ _ (λ d a. cc) (λ d a. both_ways (is_only_at i p t) e ((only_so i p t).1 a)))
-open_to p i at m (Booted n) t b was e h = open_old p (reverse t) (record { by = i; at = at; what = Booted n; counts = m }) (was h) (no_end p (Booted n) _ _ (λ d a. cc) (λ d a. cc))
+open_to p i at m Crashed t false was e h = open_old p (reverse t) (record { by = i; at = at; what = Crashed; counts = m }) (was (sym (ap (λ b. cond b false (is_open p t)) e) ∙ h)) (no_end p Crashed _ _ (λ d a. cc) (λ d a. both_ways (is_only_at i p t) e ((only_so i p t).1 a)) (λ d. cc))
+open_to p i at m (Booted n) t b was e h = open_old p (reverse t) (record { by = i; at = at; what = Booted n; counts = m }) (was h) (no_end p (Booted n) _ _ (λ d a. cc) (λ d a. cc) (λ d. cc))
 
-open_from : (p : Pair) (i : GatewayId) (w : NoteKind) (t : List Note) (b : Bool) → (OpenSays p (reverse t) → IsTrue (is_open p t)) → is_about p i w t ≡ b → (w ≡ Used p) ⊎ (OpenSays p (reverse t) × (((w ≡ Released p) × AgreedSays i p (reverse t)) ⊎ ((w ≡ Crashed) × OnlyAtSays i p (reverse t)) → ⊥)) → open_after p w (is_agreed i p t) (is_only_at i p t) (is_open p t) ≡ true
+open_from : (p : Pair) (i : GatewayId) (w : NoteKind) (t : List Note) (b : Bool) → (OpenSays p (reverse t) → IsTrue (is_open p t)) → is_about p i w t ≡ b → (w ≡ Used p) ⊎ (OpenSays p (reverse t) × ((((w ≡ Released p) × AgreedSays i p (reverse t)) ⊎ ((w ≡ Crashed) × OnlyAtSays i p (reverse t))) ⊎ (w ≡ Founded) → ⊥)) → open_after p w (is_agreed i p t) (is_only_at i p t) (is_open p t) ≡ true
 open_from p i (Used q) t b was e (inl h) = ap (λ c. cond c true (is_open p t)) (pair-true p q (used_same p q h))
 open_from p i (Used q) t b was e (inr h) = cond_true (same_pair p q) (is_open p t) (was h.0)
 open_from p i (Released q) t b was e (inl h) = absurd (cc)
-open_from p i (Released q) t true was e (inr h) = let parts = and_parts (same_pair p q) (is_agreed i p t) e in absurd (h.1 (inl (ap (λ (x : Pair). Released x) (sym (pair-eq p q parts.0)), (agreed_so i p t).0 parts.1)))
+open_from p i (Released q) t true was e (inr h) = let parts = and_parts (same_pair p q) (is_agreed i p t) e in absurd (h.1 (inl (inl (ap (λ (x : Pair). Released x) (sym (pair-eq p q parts.0)), (agreed_so i p t).0 parts.1))))
 open_from p i (Released q) t false was e (inr h) = ap (λ c. cond c false (is_open p t)) e ∙ was h.0
 open_from p i (Retaken q) t b was e (inl h) = absurd (cc)
 open_from p i (Retaken q) t b was e (inr h) = was h.0
@@ -385,7 +414,9 @@ open_from p i (Alone q) t b was e (inr h) = was h.0
 open_from p i Synced t b was e (inl h) = absurd (cc)
 open_from p i Synced t b was e (inr h) = was h.0
 open_from p i Crashed t b was e (inl h) = absurd (cc)
-open_from p i Crashed t true was e (inr h) = absurd (h.1 (inr (refl, (only_so i p t).0 e)))
+open_from p i Founded t b was e (inl h) = absurd (cc)
+open_from p i Founded t b was e (inr h) = absurd (h.1 (inr refl))
+open_from p i Crashed t true was e (inr h) = absurd (h.1 (inl (inr (refl, (only_so i p t).0 e))))
 open_from p i Crashed t false was e (inr h) = ap (λ c. cond c false (is_open p t)) e ∙ was h.0
 open_from p i (Booted n) t b was e (inl h) = absurd (cc)
 open_from p i (Booted n) t b was e (inr h) = was h.0
@@ -418,6 +449,7 @@ fits_here i at m (Released r) t = (λ f p q e o. absurd (cc), λ f. tt)
 fits_here i at m (Retaken r) t = (λ f p q e o. absurd (cc), λ f. tt)
 fits_here i at m (Alone r) t = (λ f p q e o. absurd (cc), λ f. tt)
 fits_here i at m Synced t = (λ f p q e o. absurd (cc), λ f. tt)
+fits_here i at m Founded t = (λ f p q e o. absurd (cc), λ f. tt)
 fits_here i at m Crashed t = (λ f p q e o. absurd (cc), λ f. tt)
 fits_here i at m (Booted n) t = (λ f p q e o. absurd (cc), λ f. tt)
 
@@ -434,6 +466,7 @@ one_port_here i at m (Released r) t = (λ f p q e o. absurd (cc), λ f. tt)
 one_port_here i at m (Retaken r) t = (λ f p q e o. absurd (cc), λ f. tt)
 one_port_here i at m (Alone r) t = (λ f p q e o. absurd (cc), λ f. tt)
 one_port_here i at m Synced t = (λ f p q e o. absurd (cc), λ f. tt)
+one_port_here i at m Founded t = (λ f p q e o. absurd (cc), λ f. tt)
 one_port_here i at m Crashed t = (λ f p q e o. absurd (cc), λ f. tt)
 one_port_here i at m (Booted n) t = (λ f p q e o. absurd (cc), λ f. tt)
 
@@ -462,6 +495,7 @@ one_endpoint_here i at m (Released r) t = (λ f p q e o. absurd (cc), λ f. tt)
 one_endpoint_here i at m (Retaken r) t = (λ f p q e o. absurd (cc), λ f. tt)
 one_endpoint_here i at m (Alone r) t = (λ f p q e o. absurd (cc), λ f. tt)
 one_endpoint_here i at m Synced t = (λ f p q e o. absurd (cc), λ f. tt)
+one_endpoint_here i at m Founded t = (λ f p q e o. absurd (cc), λ f. tt)
 one_endpoint_here i at m Crashed t = (λ f p q e o. absurd (cc), λ f. tt)
 one_endpoint_here i at m (Booted n) t = (λ f p q e o. absurd (cc), λ f. tt)
 
@@ -478,6 +512,7 @@ silent_here i at m (Released r) t = (λ f p e. absurd (cc), λ f. tt)
 silent_here i at m (Retaken r) t = (λ f p e. absurd (cc), λ f. tt)
 silent_here i at m (Alone r) t = (λ f p e. absurd (cc), λ f. tt)
 silent_here i at m Synced t = (λ f p e. absurd (cc), λ f. tt)
+silent_here i at m Founded t = (λ f p e. absurd (cc), λ f. tt)
 silent_here i at m Crashed t = (λ f p e. absurd (cc), λ f. tt)
 silent_here i at m (Booted n) t = (λ f p e. absurd (cc), λ f. tt)
 
@@ -486,6 +521,23 @@ silent_so [] = (λ f. none_each SilentHere, λ f. tt)
 silent_so (n ∷ t) = (
   λ f. subst (Each SilentHere) (sym (reverse_more n t)) (each_more SilentHere (reverse t) n ((silent_so t).0 f.1) ((silent_here n.by n.at n.counts n.what t).0 f.0)),
   λ f. let parts : SilentHere n (reverse t) × Each SilentHere (reverse t) = each_less SilentHere (reverse t) n (subst (Each SilentHere) (reverse_more n t) f) in ((silent_here n.by n.at n.counts n.what t).1 parts.0, (silent_so t).1 parts.1),
+)
+
+founded_here : (i : GatewayId) (at : ℕ) (m : Bool) (w : NoteKind) (t : List Note) → FoundedRightlyAt w t ↔ FoundedHere (record { by = i; at = at; what = w; counts = m }) (reverse t)
+founded_here i at m (Used r) t = (λ f e. absurd (cc), λ f. tt)
+founded_here i at m (Released r) t = (λ f e. absurd (cc), λ f. tt)
+founded_here i at m (Retaken r) t = (λ f e. absurd (cc), λ f. tt)
+founded_here i at m (Alone r) t = (λ f e. absurd (cc), λ f. tt)
+founded_here i at m Synced t = (λ f e. absurd (cc), λ f. tt)
+founded_here i at m Founded t = (λ f e g s. both_ways (is_synced g t) (f g) ((synced_so g t).1 s), λ f g. false_from_ne_true (is_synced g t) (λ e. f refl g ((synced_so g t).0 e)))
+founded_here i at m Crashed t = (λ f e. absurd (cc), λ f. tt)
+founded_here i at m (Booted n) t = (λ f e. absurd (cc), λ f. tt)
+
+pub founded_so : (t : List Note) → FoundedRightly t ↔ FoundedRightlySays (reverse t)
+founded_so [] = (λ f. none_each FoundedHere, λ f. tt)
+founded_so (n ∷ t) = (
+  λ f. subst (Each FoundedHere) (sym (reverse_more n t)) (each_more FoundedHere (reverse t) n ((founded_so t).0 f.1) ((founded_here n.by n.at n.counts n.what t).0 f.0)),
+  λ f. let parts : FoundedHere n (reverse t) × Each FoundedHere (reverse t) = each_less FoundedHere (reverse t) n (subst (Each FoundedHere) (reverse_more n t) f) in ((founded_here n.by n.at n.counts n.what t).1 parts.0, (founded_so t).1 parts.1),
 )
 
 pub kept_so : (Holds : GatewayId → Pair → Type 0) (t : List Note) → ((p : Pair) → IsTrue (is_open p t) → (i : GatewayId) → IsTrue (is_synced i t) → Holds i p ⊎ IsHeldApart Holds p t) ↔ KeptSays Holds (reverse t)
@@ -544,6 +596,7 @@ use_to i p u j at m (Released q) t was h = use_old i p u (reverse t) (record { b
 use_to i p u j at m (Retaken q) t was h = use_old i p u (reverse t) (record { by = j; at = at; what = Retaken q; counts = m }) (was h) (λ b g w. absurd (cc))
 use_to i p u j at m (Alone q) t was h = use_old i p u (reverse t) (record { by = j; at = at; what = Alone q; counts = m }) (was h) (λ b g w. absurd (cc))
 use_to i p u j at m Synced t was h = use_old i p u (reverse t) (record { by = j; at = at; what = Synced; counts = m }) (was h) (λ b g w. absurd (cc))
+use_to i p u j at m Founded t was h = use_old i p u (reverse t) (record { by = j; at = at; what = Founded; counts = m }) (was h) (λ b g w. absurd (cc))
 use_to i p u j at m Crashed t was h = use_old i p u (reverse t) (record { by = j; at = at; what = Crashed; counts = m }) (was h) (λ b g w. absurd (cc))
 use_to i p u j at m (Booted n) t was h = use_old i p u (reverse t) (record { by = j; at = at; what = Booted n; counts = m }) (was h.1) (λ b g w. h.0 (sym g))
 
@@ -558,6 +611,8 @@ use_from i p u j at m (Retaken q) t was (inr h) = was h.0
 use_from i p u j at m (Alone q) t was (inr h) = was h.0
 use_from i p u j at m Synced t was (inl h) = absurd (let x : Synced ≡ Used p = h.1 in cc)
 use_from i p u j at m Synced t was (inr h) = was h.0
+use_from i p u j at m Founded t was (inl h) = absurd (let x : Founded ≡ Used p = h.1 in cc)
+use_from i p u j at m Founded t was (inr h) = was h.0
 use_from i p u j at m Crashed t was (inl h) = absurd (let x : Crashed ≡ Used p = h.1 in cc)
 use_from i p u j at m Crashed t was (inr h) = was h.0
 use_from i p u j at m (Booted n) t was (inl h) = absurd (let x : Booted n ≡ Used p = h.1 in cc)
@@ -579,6 +634,7 @@ idle_here i at m (Released r) t = (
 idle_here i at m (Retaken r) t = (λ f p u e o. absurd (cc), λ f. tt)
 idle_here i at m (Alone r) t = (λ f p u e o. absurd (cc), λ f. tt)
 idle_here i at m Synced t = (λ f p u e o. absurd (cc), λ f. tt)
+idle_here i at m Founded t = (λ f p u e o. absurd (cc), λ f. tt)
 idle_here i at m Crashed t = (λ f p u e o. absurd (cc), λ f. tt)
 idle_here i at m (Booted n) t = (λ f p u e o. absurd (cc), λ f. tt)
 

@@ -9,7 +9,7 @@ use Rattle.nat_types.specs.declared.notes.NoteKind.{NoteKind}
 use Rattle.nat_types.specs.declared.notes.NoteKind.TheVariants.{Used, Released, Retaken, Alone, Synced, Founded, Crashed, Booted}
 use Rattle.nat_types.specs.declared.notes.Note.{Note}
 use Rattle.nat_types.specs.Same.{same, same_pair}
-use Rattle.spec_trace.specs.Past.{is_synced, is_agreed, is_only_at, is_open, was_alone, UsedInLife, rest_of}
+use Rattle.spec_trace.specs.Past.{is_synced, is_agreed, is_only_at, is_open, was_alone, UsedInEra, rest_of}
 
 -- a map, as the test of which pairs it has
 abbrev pub Map : Type 0
@@ -81,11 +81,11 @@ last_release gateway pair [] = None
 last_release gateway pair (note ∷ notes) =
     release_after gateway pair note.by note.at note.what (last_release gateway pair notes)
 
--- each use of the pair that counts, by the gateway in its present life, is at least the pair's rest before the
+-- each use of the pair that counts, by the gateway in its present life and era, is at least the pair's rest before the
 -- gateway's last release of it
 abbrev pub HasRested : GatewayId → Pair → List Note → Type 0
 HasRested gateway pair notes =
-    (use_at : ℕ) → UsedInLife gateway pair use_at notes →
+    (use_at : ℕ) → UsedInEra gateway pair use_at notes →
     (released_at : ℕ) × (last_release gateway pair notes ≡ Some released_at)
     × (use_at + rest_of pair.key.protocol ≤ released_at)
 

@@ -4,7 +4,7 @@
 -- booted. A life of a gateway lasts from a boot, or from the beginning, to the next boot. A Founded note, of either
 -- gateway, begins an era. Each note has a mark that says whether a use counts; the words on rest alone look at it, those
 -- from UsesAt on.
-use Rattle.std.specs.Prelude.{◌≡◌, ℕ, ◌+◌, ◌≤◌, Bool, true, false, not, ◌&&◌, ◌||◌, cond, List, [], ◌∷◌, IsTrue, ◌↔◌, ◌⊎◌}
+use Rattle.std.specs.Prelude.{◌≡◌, ℕ, ◌+◌, ◌≤◌, Bool, true, false, not, ◌&&◌, ◌||◌, cond, List, [], ◌∷◌, ◌++◌, IsTrue, ◌↔◌, ◌⊎◌}
 use Rattle.nat_types.specs.declared.gateways.GatewayId.{GatewayId}
 use Rattle.nat_types.specs.declared.gateways.GatewayId.TheVariants.{Zero}
 use Rattle.addresses.specs.declared.transport.Protocol.{Protocol}
@@ -14,6 +14,28 @@ use Rattle.nat_types.specs.declared.notes.NoteKind.{NoteKind}
 use Rattle.nat_types.specs.declared.notes.NoteKind.TheVariants.{Used, Released, Retaken, Alone, Synced, Founded, Crashed, Booted}
 use Rattle.nat_types.specs.declared.notes.Note.{Note}
 use Rattle.nat_types.specs.Same.{same, other, same_pair}
+
+-- the note by which we say that a world began with nobody up
+abbrev pub nobody_up : Note
+nobody_up = record { by = Zero; at = 0; what = Crashed; counts = true }
+
+-- The notes of a world behind its beginning. A world begins with gateway 0 founded, or with nobody up. With no note
+-- gateway 0 is synced; so, where nobody is up, we say that a crash of gateway 0 stands before the first note. Then
+-- neither gateway is synced until a note says so. No word sees that crash but Synced, and those that ask it.
+abbrev pub begun : Bool → List Note → List Note
+begun true notes = notes
+begun false notes = notes ++ nobody_up ∷ []
+
+-- whether a note is Founded: it begins an era
+abbrev pub begins_era : NoteKind → Bool
+begins_era (Used pair) = false
+begins_era (Released pair) = false
+begins_era (Retaken pair) = false
+begins_era (Alone pair) = false
+begins_era Synced = false
+begins_era Founded = true
+begins_era Crashed = false
+begins_era (Booted number) = false
 
 -- whether a gateway is synced after a note of the gateway `by`, where `was` says whether it was before
 abbrev pub synced_after : GatewayId → GatewayId → NoteKind → Bool → Bool
@@ -292,6 +314,14 @@ UsedInLife gateway pair use_at (note ∷ notes) =
     UsesAt gateway pair use_at note.by note.at note.counts note.what
     (UsedInLife gateway pair use_at notes)
 
+-- the gateway used the pair at time `use_at`, in its present life and era, and the use counts
+abbrev pub UsedInEra : GatewayId → Pair → ℕ → List Note → Type 0
+UsedInEra gateway pair use_at [] = ⊥
+UsedInEra gateway pair use_at (note ∷ notes) =
+    (begins_era note.what ≡ false)
+    × UsesAt gateway pair use_at note.by note.at note.counts note.what
+    (UsedInEra gateway pair use_at notes)
+
 -- each use of the pair that counts, by the gateway in its present life, is at least the pair's rest before `now`
 abbrev pub IsIdle : GatewayId → Pair → ℕ → List Note → Type 0
 IsIdle gateway pair now notes =
@@ -312,3 +342,35 @@ IdleAt by at (Booted number) notes = Unit {0}
 abbrev pub Idle : List Note → Type 0
 Idle [] = Unit {0}
 Idle (note ∷ notes) = IdleAt note.by note.at note.what notes × Idle notes
+
+-- whether a gateway is down after a note of the gateway `by`, where `was` says whether it was before
+abbrev pub down_after : GatewayId → GatewayId → NoteKind → Bool → Bool
+down_after gateway by (Used pair) was = was
+down_after gateway by (Released pair) was = was
+down_after gateway by (Retaken pair) was = was
+down_after gateway by (Alone pair) was = was
+down_after gateway by Synced was = was
+down_after gateway by Founded was = was
+down_after gateway by Crashed was = cond (same gateway by) true was
+down_after gateway by (Booted number) was = cond (same gateway by) false was
+
+-- Down: the last note of the gateway among Crashed and Booted is Crashed.
+abbrev pub is_down : GatewayId → List Note → Bool
+is_down gateway [] = false
+is_down gateway (note ∷ notes) = down_after gateway note.by note.what (is_down gateway notes)
+
+-- a note that isn't Booted is of a gateway that isn't down after the notes before
+abbrev pub IsAliveAt : GatewayId → NoteKind → List Note → Type 0
+IsAliveAt by (Used pair) notes = is_down by notes ≡ false
+IsAliveAt by (Released pair) notes = is_down by notes ≡ false
+IsAliveAt by (Retaken pair) notes = is_down by notes ≡ false
+IsAliveAt by (Alone pair) notes = is_down by notes ≡ false
+IsAliveAt by Synced notes = is_down by notes ≡ false
+IsAliveAt by Founded notes = is_down by notes ≡ false
+IsAliveAt by Crashed notes = is_down by notes ≡ false
+IsAliveAt by (Booted number) notes = Unit {0}
+
+-- Alive: behind a crash of a gateway its next note is Booted.
+abbrev pub IsAlive : List Note → Type 0
+IsAlive [] = Unit {0}
+IsAlive (note ∷ notes) = IsAliveAt note.by note.what notes × IsAlive notes

@@ -5,10 +5,10 @@ use Rattle.nat_types.specs.declared.gateways.GatewayId.{GatewayId}
 use Rattle.nat_types.specs.declared.gateways.GatewayId.TheVariants.{Zero}
 use Rattle.nat_types.specs.declared.pairs.Pair.{Pair}
 use Rattle.nat_types.specs.declared.notes.NoteKind.{NoteKind}
-use Rattle.nat_types.specs.declared.notes.NoteKind.TheVariants.{Used, Released, Retaken, Alone, Synced, Crashed, Booted}
+use Rattle.nat_types.specs.declared.notes.NoteKind.TheVariants.{Used, Released, Retaken, Alone, Synced, Founded, Crashed, Booted}
 use Rattle.nat_types.specs.declared.notes.Note.{Note}
 use Rattle.nat_types.specs.Same.{same, other, same_pair}
-use Rattle.spec_trace.specs.Past.{DoFit, rest_of}
+use Rattle.spec_trace.specs.Past.{begins_era, DoFit, rest_of}
 
 -- the note at a position
 abbrev pub note_at : List Note → ℕ → Option Note
@@ -26,25 +26,32 @@ LastIs test trace note =
 abbrev pub NoneIs : (Note → Bool) → List Note → Type 0
 NoneIs test trace = (j : ℕ) (note : Note) → note_at trace j ≡ Some note → test note ≡ false
 
--- whether a note is Synced, Crashed or Booted
+-- whether a note is Synced, Founded, Crashed or Booted
 abbrev pub is_state_word : NoteKind → Bool
 is_state_word (Used pair) = false
 is_state_word (Released pair) = false
 is_state_word (Retaken pair) = false
 is_state_word (Alone pair) = false
 is_state_word Synced = true
+is_state_word Founded = true
 is_state_word Crashed = true
 is_state_word (Booted number) = true
 
--- whether a note is the gateway's, and one of Synced, Crashed and Booted
+-- whether a note is the gateway's, and one of Synced, Founded, Crashed and Booted
 abbrev pub is_state : GatewayId → Note → Bool
 is_state gateway note = same gateway note.by && is_state_word note.what
 
--- Synced: the last note of the gateway among Synced, Crashed and Booted is Synced, or it has none and is gateway 0.
+-- the last note of the gateway among Synced, Founded, Crashed and Booted is Synced or Founded
+abbrev pub SyncedByNote : GatewayId → List Note → Type 0
+SyncedByNote gateway trace =
+    (note : Note) × LastIs (is_state gateway) trace note
+    × ((note.what ≡ Synced) ⊎ (note.what ≡ Founded))
+
+-- Synced: the last note of the gateway among Synced, Founded, Crashed and Booted is Synced or Founded, or it has none
+-- and is gateway 0.
 abbrev pub SyncedSays : GatewayId → List Note → Type 0
 SyncedSays gateway trace =
-    ((note : Note) × LastIs (is_state gateway) trace note × (note.what ≡ Synced))
-    ⊎ (NoneIs (is_state gateway) trace × (gateway ≡ Zero))
+    SyncedByNote gateway trace ⊎ (NoneIs (is_state gateway) trace × (gateway ≡ Zero))
 
 -- whether a note is Used, Released, Retaken or Alone, of the pair
 abbrev pub is_pair_word : Pair → NoteKind → Bool
@@ -53,6 +60,7 @@ is_pair_word pair (Released noted) = same_pair pair noted
 is_pair_word pair (Retaken noted) = same_pair pair noted
 is_pair_word pair (Alone noted) = same_pair pair noted
 is_pair_word pair Synced = false
+is_pair_word pair Founded = false
 is_pair_word pair Crashed = false
 is_pair_word pair (Booted number) = false
 
@@ -72,15 +80,18 @@ is_boot_word (Released pair) = false
 is_boot_word (Retaken pair) = false
 is_boot_word (Alone pair) = false
 is_boot_word Synced = false
+is_boot_word Founded = false
 is_boot_word Crashed = false
 is_boot_word (Booted number) = true
 
--- whether a note is the gateway's, and Used, Released, Retaken or Alone of the pair, or Booted
+-- whether a note is Founded, of either gateway; or is the gateway's, and Used, Released, Retaken or Alone of the pair, or
+-- Booted
 abbrev pub is_of_life : GatewayId → Pair → Note → Bool
 is_of_life gateway pair note =
-    same gateway note.by && (is_pair_word pair note.what || is_boot_word note.what)
+    begins_era note.what
+    || (same gateway note.by && (is_pair_word pair note.what || is_boot_word note.what))
 
--- the last note of the gateway on the pair isn't Released, and no life of the gateway began since
+-- the last note of the gateway on the pair isn't Released, and since then no life of the gateway and no era began
 abbrev pub GoesOnSays : GatewayId → Pair → List Note → Type 0
 GoesOnSays gateway pair trace =
     (note : Note) × LastIs (is_of_life gateway pair) trace note
@@ -97,16 +108,19 @@ is_private_word pair (Released noted) = same_pair pair noted
 is_private_word pair (Retaken noted) = same_pair pair noted
 is_private_word pair (Alone noted) = same_pair pair noted
 is_private_word pair Synced = false
+is_private_word pair Founded = false
 is_private_word pair Crashed = false
 is_private_word pair (Booted number) = false
 
--- whether a note is the gateway's, and Released, Retaken or Alone of the pair, or Booted
+-- whether a note is Founded, of either gateway; or is the gateway's, and Released, Retaken or Alone of the pair, or
+-- Booted
 abbrev pub is_of_privacy : GatewayId → Pair → Note → Bool
 is_of_privacy gateway pair note =
-    same gateway note.by && (is_private_word pair note.what || is_boot_word note.what)
+    begins_era note.what
+    || (same gateway note.by && (is_private_word pair note.what || is_boot_word note.what))
 
--- Private: among the gateway's notes Alone, Retaken and Released of the pair the last is Alone, and no life of the
--- gateway began since.
+-- Private: among the gateway's notes Alone, Retaken and Released of the pair the last is Alone, and since then no life
+-- of the gateway and no era began.
 abbrev pub PrivateSays : GatewayId → Pair → List Note → Type 0
 PrivateSays gateway pair trace =
     (note : Note) × LastIs (is_of_privacy gateway pair) trace note × (note.what ≡ Alone pair)
@@ -131,12 +145,17 @@ Deletes pair note before = (note.what ≡ Released pair) × AgreedSays note.by p
 abbrev pub Loses : Pair → Note → List Note → Type 0
 Loses pair note before = (note.what ≡ Crashed) × OnlyAtSays note.by pair before
 
--- Open: there is a Used note of the pair, and no note after it is an agreed deletion of the pair or loses it.
+-- the pair isn't open behind the note: the note is an agreed deletion of the pair, loses it, or is Founded
+abbrev pub Closes : Pair → Note → List Note → Type 0
+Closes pair note before = (Deletes pair note before ⊎ Loses pair note before) ⊎ (note.what ≡ Founded)
+
+-- Open: there is a Used note of the pair, and no note after it is an agreed deletion of the pair, loses it, or is
+-- Founded.
 abbrev pub OpenSays : Pair → List Note → Type 0
 OpenSays pair trace =
     (k : ℕ) × (note : Note) × (note_at trace k ≡ Some note) × (note.what ≡ Used pair)
     × ((j : ℕ) (later : Note) → k < j → note_at trace j ≡ Some later →
-    Deletes pair later (take j trace) ⊎ Loses pair later (take j trace) → ⊥)
+    Closes pair later (take j trace) → ⊥)
 
 -- Was alone: there is an Alone note of the pair.
 abbrev pub WasAloneSays : Pair → List Note → Type 0
@@ -183,6 +202,23 @@ SilentHere note before = (pair : Pair) → note.what ≡ Used pair → SyncedSay
 -- Silent, by position: SilentHere holds at each note.
 abbrev pub SilentSays : List Note → Type 0
 SilentSays trace = Each SilentHere trace
+
+-- where the note is Founded, no gateway is synced just before
+abbrev pub FoundedHere : Note → List Note → Type 0
+FoundedHere note before =
+    note.what ≡ Founded → (gateway : GatewayId) → SyncedSays gateway before → ⊥
+
+-- Founded rightly, by position: FoundedHere holds at each note.
+abbrev pub FoundedRightlySays : List Note → Type 0
+FoundedRightlySays trace = Each FoundedHere trace
+
+-- One era: no note is Founded.
+abbrev pub IsOneEra : List Note → Type 0
+IsOneEra trace = NoneIs (λ note. begins_era note.what) trace
+
+-- at each moment some gateway is synced: after the first k notes, whatever k is
+abbrev pub IsNeverUnsynced : List Note → Type 0
+IsNeverUnsynced trace = (k : ℕ) → (gateway : GatewayId) × SyncedSays gateway (take k trace)
 
 -- a synced gateway to which the pair is private holds it
 abbrev pub HeldApartSays : (GatewayId → Pair → Type 0) → Pair → List Note → Type 0

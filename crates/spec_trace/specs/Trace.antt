@@ -1,9 +1,15 @@
 -- The words on a trace with the oldest note first, which is the order in which a trace grows.
-use Rattle.std.specs.Prelude.{List, IsTrue, reverse}
+use Rattle.std.specs.Prelude.{Bool, true, false, List, ◌∷◌, IsTrue, reverse}
 use Rattle.nat_types.specs.declared.gateways.GatewayId.{GatewayId}
 use Rattle.nat_types.specs.declared.pairs.Pair.{Pair}
 use Rattle.nat_types.specs.declared.notes.Note.{Note}
 use Rattle.spec_trace.specs.Past as past
+
+-- The trace of a world behind its beginning: with gateway 0 founded it is the trace itself. With nobody up a crash of
+-- gateway 0 stands before it, since with no note at all gateway 0 is synced.
+abbrev pub of_world : Bool → List Note → List Note
+of_world true trace = trace
+of_world false trace = past.nobody_up ∷ trace
 
 -- the gateway is synced after the trace
 abbrev pub IsSynced : GatewayId → List Note → Type 0
@@ -37,7 +43,7 @@ IsAgreed gateway pair trace = IsTrue (past.is_agreed gateway pair (reverse trace
 abbrev pub IsOpen : Pair → List Note → Type 0
 IsOpen pair trace = IsTrue (past.is_open pair (reverse trace))
 
--- the pair goes on at the gateway: its last note on the pair in its present life is there and isn't Released
+-- the pair goes on at the gateway: its last note on the pair in its present life and era is there and isn't Released
 abbrev pub GoesOnWith : GatewayId → Pair → List Note → Type 0
 GoesOnWith gateway pair trace = IsTrue (past.goes_on gateway pair (reverse trace))
 
@@ -56,6 +62,10 @@ OneEndpoint trace = past.OneEndpoint (reverse trace)
 -- Silent: no gateway uses a pair while it isn't synced
 abbrev pub Silent : List Note → Type 0
 Silent trace = past.Silent (reverse trace)
+
+-- Founded rightly: no gateway founds the pair while one is synced
+abbrev pub FoundedRightly : List Note → Type 0
+FoundedRightly trace = past.FoundedRightly (reverse trace)
 
 -- Kept: each open pair is held by each synced gateway, or by a synced one to which it is private
 abbrev pub Kept : (GatewayId → Pair → Type 0) → List Note → Type 0

@@ -1,12 +1,13 @@
 //! The checker of traces. The checker goes through the notes once, and keeps the list of open pairs
-//! and which gateways are synced.
-ghost use Rattle.std.specs.Prelude.{◌≡◌, ◌+◌, not, List, ◌∷◌, filter, reverse, ◌&&◌, IsTrue, ◌↔◌, OnOk, OnErr, IfErr, All, Contains};
+//! and which gateways are synced. In all functions `founded` says how the world of the notes began:
+//! with gateway 0 founded, or with nobody up.
+ghost use Rattle.std.specs.Prelude.{◌≡◌, ◌+◌, not, List, ◌∷◌, filter, reverse, ◌&&◌, ◌||◌, IsTrue, ◌↔◌, OnOk, OnErr, IfErr, All, Contains};
 ghost use Rattle.nat_types.specs.Same.{other, same, same_pair};
 ghost use Rattle.nat_types.specs.declared.gateways.GatewayId.TheVariants.{Zero, One};
 ghost use Rattle.spec_trace.specs.Past as past;
-ghost use Rattle.spec_trace.specs.Trace.{Silent, Kept};
+ghost use Rattle.spec_trace.specs.Trace.{of_world, Silent, FoundedRightly, Kept};
 ghost use Rattle.memory.specs.Memory.{WasRefused};
-ghost use Rattle.spec_trace.specs.Audit.{ListsHold, DoSuit, IsHeld, FitsUnlessAlone, FaultSays, AreOpen, IsFound, Judged, by_gateway};
+ghost use Rattle.spec_trace.specs.Audit.{ListsHold, DoSuit, IsHeld, FitsUnlessAlone, FaultSays, AreOpen, IsFound, IsWellAt, Judged, by_gateway};
 ghost use Rattle.spec_trace.specs.declared.checker.AuditFault.TheVariants as faults;
 
 use memory::push;
@@ -28,6 +29,9 @@ pub enum AuditFault {
     /// The gateway that uses a pair at this note isn't synced.
     #[error("note {0} is a use by a gateway that is not synced")]
     NotSilent(usize),
+    /// A gateway is synced just before this note, which founds the pair.
+    #[error("note {0} founds the pair while a gateway is synced")]
+    NotFoundedRightly(usize),
 }
 
 impl From<AllocError> for AuditFault {
@@ -74,7 +78,7 @@ fn synced_after(synced: bool, gateway: GatewayId, note: Note) -> bool
         return synced;
     }
     match note.what {
-        NoteKind::Synced => true,
+        NoteKind::Synced | NoteKind::Founded => true,
         NoteKind::Crashed | NoteKind::Booted(_) => false,
         _ => synced,
     }
@@ -105,10 +109,10 @@ fn has_released(trace: &[Note], gateway: GatewayId, pair: Pair) -> bool
 }
 
 /// Whether a gateway is synced after these notes.
-fn is_synced(trace: &[Note], gateway: GatewayId) -> bool
-    ensures { result ≡ past.is_synced gateway (reverse trace.now) }
+fn is_synced(founded: bool, trace: &[Note], gateway: GatewayId) -> bool
+    ensures { result ≡ past.is_synced gateway (past.begun founded (reverse trace.now)) }
 {
-    let mut synced = is_same(gateway, GatewayId::Zero);
+    let mut synced = founded && is_same(gateway, GatewayId::Zero);
     for note in trace {
         synced = synced_after(synced, gateway, *note);
     }
@@ -124,6 +128,7 @@ fn goes_after(on: bool, gateway: GatewayId, pair: Pair, note: &Note) -> bool
             on || is_on(gateway, pair, note.by, noted)
         }
         NoteKind::Released(noted) => on && !is_on(gateway, pair, note.by, noted),
+        NoteKind::Founded => false,
         NoteKind::Booted(_) => on && !is_same(gateway, note.by),
         _ => on,
     }
@@ -149,6 +154,7 @@ fn private_after(private: bool, gateway: GatewayId, pair: Pair, note: &Note) -> 
         NoteKind::Released(noted) | NoteKind::Retaken(noted) => {
             private && !is_on(gateway, pair, note.by, noted)
         }
+        NoteKind::Founded => false,
         NoteKind::Booted(_) => private && !is_same(gateway, note.by),
         _ => private,
     }
@@ -164,12 +170,19 @@ fn is_private(trace: &[Note], gateway: GatewayId, pair: Pair) -> bool
     private
 }
 
-/// Whether a pair is private to a gateway and not in use at the other, after these notes.
-fn is_only_at(trace: &[Note], gateway: GatewayId, pair: Pair) -> bool
-    ensures { result ≡ past.is_only_at gateway pair (reverse trace.now) }
+#[tactic(auto, using(crate::proofs::Worlds::goes_begun))]
+fn is_in_use(founded: bool, trace: &[Note], gateway: GatewayId, pair: Pair) -> bool
+    ensures { result ≡ past.is_in_use gateway pair (past.begun founded (reverse trace.now)) }
 {
-    let other = gateway.other();
-    is_private(trace, gateway, pair) && !(is_synced(trace, other) && goes_on(trace, other, pair))
+    is_synced(founded, trace, gateway) && goes_on(trace, gateway, pair)
+}
+
+/// Whether a pair is private to a gateway and not in use at the other, after these notes.
+#[tactic(auto, using(crate::proofs::Worlds::private_begun))]
+fn is_only_at(founded: bool, trace: &[Note], gateway: GatewayId, pair: Pair) -> bool
+    ensures { result ≡ past.is_only_at gateway pair (past.begun founded (reverse trace.now)) }
+{
+    is_private(trace, gateway, pair) && !is_in_use(founded, trace, gateway.other(), pair)
 }
 
 fn is_alone_note(pair: Pair, note: &Note) -> bool
@@ -214,22 +227,36 @@ fn fits_all(opens: &[Pair], before: &[Note], used: Pair) -> bool
     opens.iter().all(|open| do_fit(before, used, *open))
 }
 
+/// Whether a gateway is synced and holds a pair that is private to it.
+fn is_apart(trace: &[Note], synced: bool, held: bool, gateway: GatewayId, pair: Pair) -> bool
+    ensures { result ≡ (synced && (held && past.is_private gateway pair (reverse trace.now))) }
+{
+    synced && held && is_private(trace, gateway, pair)
+}
+
+/// Whether each synced gateway holds a pair. `synced` says which are synced, and `at_zero` and `at_one`
+/// which hold it.
+fn is_shared(synced: (bool, bool), at_zero: bool, at_one: bool) -> bool
+    ensures { result ≡ ((not synced.0 || at_zero) && (not synced.1 || at_one)) }
+{
+    (!synced.0 || at_zero) && (!synced.1 || at_one)
+}
+
 /// Whether an open pair is held by each synced gateway, or by a synced one to which it is private.
-/// `zero` and `one` are the tables of gateway 0 and gateway 1.
+/// `synced` says whether gateway 0 and gateway 1 are synced; `zero` and `one` are their tables.
 fn is_kept(trace: &[Note], synced: (bool, bool), zero: &[Pair], one: &[Pair], pair: Pair) -> bool
-    requires zero { synced.0 ≡ past.is_synced Zero (reverse trace.now) }
-    requires one { synced.1 ≡ past.is_synced One (reverse trace.now) }
-    ensures { IsTrue result ↔ IsHeld zero.now one.now (reverse trace.now) pair }
+    ensures { IsTrue result
+        ↔ IsHeld synced.0 synced.1 zero.now one.now (reverse trace.now) pair }
 {
     let at_zero = has(zero, pair);
     let at_one = has(one, pair);
-    if synced.0 && at_zero && is_private(trace, GatewayId::Zero, pair) {
+    if is_apart(trace, synced.0, at_zero, GatewayId::Zero, pair) {
         return true;
     }
-    if synced.1 && at_one && is_private(trace, GatewayId::One, pair) {
+    if is_apart(trace, synced.1, at_one, GatewayId::One, pair) {
         return true;
     }
-    (!synced.0 || at_zero) && (!synced.1 || at_one)
+    is_shared(synced, at_zero, at_one)
 }
 
 /// Whether each open pair is kept.
@@ -240,9 +267,8 @@ fn are_kept(
     zero: &[Pair],
     one: &[Pair],
 ) -> bool
-    requires zero { synced.0 ≡ past.is_synced Zero (reverse trace.now) }
-    requires one { synced.1 ≡ past.is_synced One (reverse trace.now) }
-    ensures { IsTrue result ↔ All (IsHeld zero.now one.now (reverse trace.now)) opens.now }
+    ensures { IsTrue result
+        ↔ All (IsHeld synced.0 synced.1 zero.now one.now (reverse trace.now)) opens.now }
 {
     opens
         .iter()
@@ -257,11 +283,12 @@ fn remove(opens: &mut Vec<Pair>, pair: Pair)
 
 /// Takes from the open pairs those that are lost with the box of a gateway that crashes after these
 /// notes.
-fn lose(opens: &mut Vec<Pair>, before: &[Note], gateway: GatewayId)
+fn lose(opens: &mut Vec<Pair>, founded: bool, before: &[Note], gateway: GatewayId)
     ensures { opens.new.items
-        ≡ filter (λ q. not (past.is_only_at gateway q (reverse before.now))) opens.old.items }
+        ≡ filter (λ q. not (past.is_only_at gateway q (past.begun founded (reverse before.now))))
+        opens.old.items }
 {
-    opens.retain(|open| !is_only_at(before, gateway, *open));
+    opens.retain(|open| !is_only_at(founded, before, gateway, *open));
 }
 
 fn of_gateway(gateway: GatewayId, zero: bool, one: bool) -> bool
@@ -277,17 +304,18 @@ fn of_gateway(gateway: GatewayId, zero: bool, one: bool) -> bool
 /// whether its gateway is synced there.
 fn judge(
     opens: &[Pair],
+    founded: bool,
     before: &[Note],
     synced: bool,
     note: &Note,
     position: usize,
 ) -> Result<(), AuditFault>
-    requires pairs { AreOpen opens.now (reverse before.now) }
-    requires synced { synced ≡ past.is_synced note.now.by (reverse before.now) }
-    ensures ok { OnOk result (past.OnePortAt note.now.what (reverse before.now)
-        × past.OneEndpointAt note.now.what (reverse before.now)
-        × past.SilentAt note.now.by note.now.what (reverse before.now)) }
-    ensures err { IfErr result (λ f. Judged (reverse before.now) note.now position f) }
+    requires pairs { AreOpen opens.now (past.begun founded (reverse before.now)) }
+    requires synced { synced
+        ≡ past.is_synced note.now.by (past.begun founded (reverse before.now)) }
+    ensures ok { OnOk result (IsWellAt (past.begun founded (reverse before.now)) note.now) }
+    ensures err { IfErr result
+        (λ f. Judged (past.begun founded (reverse before.now)) note.now position f) }
     ensures found { IfErr result IsFound }
 {
     match note.what {
@@ -300,30 +328,43 @@ fn judge(
             }
             Ok(())
         }
+        NoteKind::Founded => {
+            if synced || is_synced(founded, before, note.by.other()) {
+                return Err(AuditFault::NotFoundedRightly(position));
+            }
+            Ok(())
+        }
         _ => Ok(()),
     }
 }
 
 /// Whether a release of a pair after these notes is an agreed deletion. `alone` says that the other
 /// gateway isn't synced.
-fn is_agreed(before: &[Note], alone: bool, gateway: GatewayId, pair: Pair) -> bool
-    requires { alone ≡ not (past.is_synced (other gateway) (reverse before.now)) }
-    ensures { result ≡ past.is_agreed gateway pair (reverse before.now) }
+#[tactic(auto, using(crate::proofs::Worlds::released_begun))]
+fn is_agreed(founded: bool, before: &[Note], alone: bool, gateway: GatewayId, pair: Pair) -> bool
+    requires { alone
+        ≡ not (past.is_synced (other gateway) (past.begun founded (reverse before.now))) }
+    ensures { result ≡ past.is_agreed gateway pair (past.begun founded (reverse before.now)) }
 {
-    alone || has_released(before, gateway.other(), pair) || is_only_at(before, gateway, pair)
+    alone
+        || has_released(before, gateway.other(), pair)
+        || is_only_at(founded, before, gateway, pair)
 }
 
 /// Changes the list of open pairs as one note does. `before` has the notes before it, and `alone`
 /// says that the other gateway isn't synced. Answers `NoMemory` where the list can't grow.
 fn follow(
     opens: &mut Vec<Pair>,
+    founded: bool,
     before: &[Note],
     alone: bool,
     note: &Note,
 ) -> Result<(), AuditFault>
-    requires pairs { AreOpen opens.old.items (reverse before.now) }
-    requires alone { alone ≡ not (past.is_synced (other note.now.by) (reverse before.now)) }
-    ensures ok { OnOk result (AreOpen opens.new.items (note.now ∷ reverse before.now)) }
+    requires pairs { AreOpen opens.old.items (past.begun founded (reverse before.now)) }
+    requires alone { alone
+        ≡ not (past.is_synced (other note.now.by) (past.begun founded (reverse before.now))) }
+    ensures ok { OnOk result
+        (AreOpen opens.new.items (note.now ∷ past.begun founded (reverse before.now))) }
     ensures err { IfErr result (λ f. f ≡ faults.NoMemory) }
     ensures refused { OnErr result (WasRefused 1) }
 {
@@ -335,39 +376,51 @@ fn follow(
             Ok(())
         }
         NoteKind::Released(pair) => {
-            if is_agreed(before, alone, note.by, pair) {
+            if is_agreed(founded, before, alone, note.by, pair) {
                 remove(opens, pair);
             }
             Ok(())
         }
+        NoteKind::Founded => {
+            opens.clear();
+            Ok(())
+        }
         NoteKind::Crashed => {
-            lose(opens, before, note.by);
+            lose(opens, founded, before, note.by);
             Ok(())
         }
         _ => Ok(()),
     }
 }
 
-/// Checks a trace, the oldest note first, and the pairs that gateway 0 and gateway 1 hold after it.
-/// Answers the fault with the smallest position. Of two faults at one note `NotSilent` is answered,
-/// and `NotKept` is answered only where no note has a fault. Answers `NoMemory` where the list of
-/// open pairs can't grow.
-pub fn audit(alloc: Global, trace: &[Note], zero: &[Pair], one: &[Pair]) -> Result<(), AuditFault>
-    ensures fits { OnOk result (FitsUnlessAlone trace.now) }
-    ensures silent { OnOk result (Silent trace.now) }
-    ensures kept { OnOk result (Kept (ListsHold zero.now one.now) trace.now) }
-    ensures fault { IfErr result (FaultSays trace.now zero.now one.now) }
+/// Checks the trace of a world, the oldest note first, and the pairs that gateway 0 and gateway 1
+/// hold after it. The world began with gateway 0 founded, or, where `founded` is false, with nobody
+/// up. Answers the fault with the smallest position. Of two faults at one note `NotSilent` is
+/// answered before `NotFits`, and `NotFoundedRightly` last; `NotKept` is answered only where no note
+/// has a fault. Answers `NoMemory` where the list of open pairs can't grow.
+pub fn audit(
+    alloc: Global,
+    founded: bool,
+    trace: &[Note],
+    zero: &[Pair],
+    one: &[Pair],
+) -> Result<(), AuditFault>
+    ensures fits { OnOk result (FitsUnlessAlone (of_world founded trace.now)) }
+    ensures silent { OnOk result (Silent (of_world founded trace.now)) }
+    ensures founded { OnOk result (FoundedRightly (of_world founded trace.now)) }
+    ensures kept { OnOk result (Kept (ListsHold zero.now one.now) (of_world founded trace.now)) }
+    ensures fault { IfErr result (FaultSays founded trace.now zero.now one.now) }
     // NoMemory is answered only where an allocation was refused.
     ensures short { IfErr result (λ f. f ≡ faults.NoMemory → WasRefused 1) }
 {
     let mut opens = Vec::new(alloc);
-    let mut zero_synced = true;
+    let mut zero_synced = founded;
     let mut one_synced = false;
     for (i, note) in trace.iter().enumerate() {
         let synced = of_gateway(note.by, zero_synced, one_synced);
         let alone = !of_gateway(note.by.other(), zero_synced, one_synced);
-        judge(&opens, &trace[..i], synced, note, i + 1)?;
-        follow(&mut opens, &trace[..i], alone, note)?;
+        judge(&opens, founded, &trace[..i], synced, note, i + 1)?;
+        follow(&mut opens, founded, &trace[..i], alone, note)?;
         zero_synced = synced_after(zero_synced, GatewayId::Zero, *note);
         one_synced = synced_after(one_synced, GatewayId::One, *note);
     }

@@ -16,6 +16,9 @@ returns-clause-kept c = laws.kept_in_order
 pub returns-clause-silent : goal.returns-clause-silent
 returns-clause-silent c = laws.silent_in_order
 
+pub returns-clause-founded_rightly : goal.returns-clause-founded_rightly
+returns-clause-founded_rightly c = laws.founded_in_order
+
 pub returns-clause-goes_on : goal.returns-clause-goes_on
 returns-clause-goes_on c = laws.goes_on_in_order
 

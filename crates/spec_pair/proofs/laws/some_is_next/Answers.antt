@@ -8,4 +8,4 @@ pub returns-clause-next : goal.returns-clause-next
 returns-clause-next c = laws.one_is_next
 
 pub returns-clause-done : goal.returns-clause-done
-returns-clause-done c = laws.synced_when_done
+returns-clause-done c = laws.alike_when_done
