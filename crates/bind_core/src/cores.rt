@@ -77,6 +77,13 @@ impl Core {
         self.table.recall();
     }
 
+    /// Returns which of the two gateways it is.
+    pub fn id(&self) -> GatewayId
+        ensures { result ≡ self.now.id }
+    {
+        self.id
+    }
+
     /// Whether the gateway's table is loaded.
     pub fn is_synced(&self) -> bool
         ensures { result ≡ is_synced_at self.now.stage }

@@ -81,6 +81,7 @@ fn happening(case: &mut Case) -> NoteKind {
         "Crashed" => NoteKind::Crashed,
         "Booted" => NoteKind::Booted(case.number()),
         "Synced" => NoteKind::Synced,
+        "Founded" => NoteKind::Founded,
         _ => {
             case.fault();
             NoteKind::Synced

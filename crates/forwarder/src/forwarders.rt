@@ -5,6 +5,7 @@ ghost use Rattle.packet_rules.specs.declared.readings.Reading.TheVariants.{Packe
 ghost use Rattle.packet_rules.specs.declared.reasons.Reason.TheVariants.{TooLong, TtlOver};
 ghost use Rattle.packet_rules.specs.Steps.{Carries};
 ghost use Rattle.spec_step.specs.GivingWay.{turn_of};
+ghost use Rattle.spec_step.specs.Parts.{status_in};
 ghost use Rattle.spec_step.specs.Shown.{has_side_out, is_running, is_up, is_whole, serves};
 ghost use Rattle.spec_step.specs.Shown.{station_on};
 ghost use Rattle.spec_step.specs.Verdict.{reading_on};
@@ -13,7 +14,7 @@ ghost use Rattle.forwarder.specs.Forwarder.{shown_of};
 use bind_core::Core;
 use interfaces::Interface;
 use ipv4::Packet;
-use link::Link;
+use link::{Link, Status};
 use nat_types::Side;
 use packet_rules::{Networks, Reading, Reason};
 use spec_step::{Turn, never_too_long};
@@ -74,6 +75,13 @@ impl Forwarder {
         ensures { result ≡ serves (shown_of self.now) }
     {
         self.core.is_synced() && self.is_whole()
+    }
+
+    /// The status that the gateway's datagrams have until it ends.
+    pub fn status(&self) -> Status
+        ensures { result ≡ status_in (shown_of self.now) }
+    {
+        Status::of_serving(self.serves())
     }
 
     /// Whether the cable of one side or of both is out.

@@ -4,12 +4,12 @@ use Rattle.std.specs.List.{list_any}
 use Rattle.settings.specs.declared.whole.Settings.{Settings}
 use Rattle.frame_sim.specs.declared.events.Step.{Step}
 use Rattle.nat_types.specs.declared.events.WorldEvent.{WorldEvent}
-use Rattle.frame_sim.specs.World.{World, founding}
+use Rattle.frame_sim.specs.World.{World, world_of}
 use Rattle.frame_sim.specs.Runs.{AreSteps}
 
--- a new world of these settings
-unfoldable pub IsNew : Settings → World → Type 0
-IsNew settings w = w ≡ founding settings
+-- a new world of these settings, which begins with gateway 0 founded or with nobody up
+unfoldable pub IsNew : Settings → Bool → World → Type 0
+IsNew settings founded w = w ≡ world_of settings founded
 
 -- whether an event was refused
 abbrev pub has_refusal : List Step → Bool
@@ -27,5 +27,5 @@ pub record IsRunFrom (w : World) (events : List WorldEvent) (status : ℕ) : Typ
   pub refusals : status ≡ run_status steps
 
 -- a run of these events on a new world of these settings
-abbrev pub IsRun : Settings → List WorldEvent → ℕ → Type 0
-IsRun settings events status = IsRunFrom (founding settings) events status
+abbrev pub IsRun : Settings → Bool → List WorldEvent → ℕ → Type 0
+IsRun settings founded events status = IsRunFrom (world_of settings founded) events status

@@ -107,6 +107,11 @@ nobody_of settings settings_one = record {
 abbrev pub founding : Settings → World
 founding settings = founding_of settings settings
 
+-- the world as it begins with these settings: with gateway 0 founded, or with nobody up
+abbrev pub world_of : Settings → Bool → World
+world_of settings true = founding settings
+world_of settings false = nobody_of settings settings
+
 -- both settings have the same values: the two ranges, the virtual addresses and the prefix lengths
 abbrev pub HaveSameValues : Settings → Settings → Type 0
 HaveSameValues settings settings_one = values_of settings_one ≡ values_of settings

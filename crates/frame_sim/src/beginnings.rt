@@ -9,12 +9,20 @@ use settings::Settings;
 use std::alloc::Global;
 
 impl<'a> World<'a> {
-    /// Returns a new world of these settings, as `new` does, or NoMemory. In contracts the world is named `IsNew`, and
-    /// NoMemory `WasUnfounded`.
-    pub fn founded(alloc: Global, settings: &'a Settings) -> Result<World<'a>, NoMemory>
-        ensures new { IfOk result (IsNew settings.now) }
+    /// Returns a new world of these settings: with gateway 0 founded, as `new` does, or with nobody up, as `begin` does.
+    /// In contracts the world is named `IsNew`, and NoMemory `WasUnfounded`.
+    pub fn begun(
+        alloc: Global,
+        settings: &'a Settings,
+        founded: bool,
+    ) -> Result<World<'a>, NoMemory>
+        ensures new { IfOk result (IsNew settings.now founded) }
         ensures unfounded { OnErr result (WasUnfounded settings.now) }
     {
-        World::new(alloc, settings)
+        if founded {
+            World::new(alloc, settings)
+        } else {
+            Ok(World::begin(alloc, settings, settings))
+        }
     }
 }

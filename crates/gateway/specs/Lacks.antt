@@ -7,7 +7,7 @@ use Rattle.settings.specs.declared.whole.Settings.{Settings}
 use Rattle.bind_core.specs.Memory.{LacksCore}
 use Rattle.interfaces.specs.Memory.{LacksInterface}
 use Rattle.link.specs.declared.datagrams.TheConstants.{RECORDS_IN_A_DATAGRAM}
-use Rattle.link.specs.Link.{may_restart}
+use Rattle.link.specs.Link.{may_reset}
 use Rattle.link.specs.Reading.{header_at}
 use Rattle.output.specs.declared.pages.Room.{Room}
 use Rattle.output.specs.Memory.{LacksPage}
@@ -29,7 +29,7 @@ use Rattle.fragments.specs.Memory.{LacksTaking}
 use Rattle.spec_gateway.specs.State.{GatewayState}
 use Rattle.spec_gateway.specs.Arrivals.{gathering_of, is_gathered, is_part}
 use Rattle.spec_gateway.specs.Steps.{whole_event}
-use Rattle.gateway.specs.Rooms.{apart_needs, both_routers, reading_needs, records_need, restart_needs, room_for, tick_needs, waiting_needs}
+use Rattle.gateway.specs.Rooms.{apart_needs, both_routers, reading_needs, records_need, restart_needs, room_for, tick_needs, waiting_needs, most_waiting}
 use Rattle.gateway.specs.Ticks.{is_apart_at}
 
 -- ---- a gateway that begins
@@ -61,6 +61,10 @@ WasUnready room pairs f page = Unit {0} × (LacksPage room ⊎ WasRefused pairs)
 unfoldable pub WasUnlisted : Forwarder → Type 0
 WasUnlisted f = Unit {0} × WasRefused (length f.kept)
 
+-- no memory for a list of all packets that can wait at once
+unfoldable pub WasWithoutList : Type 0
+WasWithoutList = Unit {0} × WasRefused most_waiting
+
 -- no memory for the copy of a frame that came in on that side
 unfoldable pub WasUncopied : Shown → Side → List ℕ → Type 0
 WasUncopied g side bytes = Unit {0} × LacksCopy (length bytes)
@@ -85,9 +89,11 @@ LacksForFrame side bytes (Ok reading) f page =
     LacksRoom (reading_needs reading (length bytes) f) f page ⊎ ((outcome_read (shown_of f) side (Ok reading) ≡ Waiting) × WasUncopied (shown_of f) side bytes)
 LacksForFrame side bytes (Err reason) f page = LacksRoom (dropped_needs reason) f page
 
--- what a datagram lacks, by whether its header names a greater boot of the other gateway than is known
+-- what a datagram lacks, by whether its header names a greater boot of the other gateway than is known, or says that that
+-- gateway ends
 abbrev pub LacksForDatagram : Bool → Forwarder → Paged → Type 0
-LacksForDatagram true f page = WasUnlisted f ⊎ LacksRoom (and_kept (restart_needs f) f) f page
+LacksForDatagram true f page =
+    WasUnlisted f ⊎ (WasWithoutList ⊎ LacksRoom (and_kept (restart_needs f) f) f page)
 LacksForDatagram false f page = LacksRoom (and_kept (records_need RECORDS_IN_A_DATAGRAM) f) f page
 
 -- what a tick lacks, by whether the gateway is apart at it
@@ -98,10 +104,10 @@ LacksForTick false f page = LacksRoom (tick_needs f) f page
 -- what an event lacks, by its kind; an event of a side lacks nothing
 abbrev pub Lacks : Event → Forwarder → Paged → Type 0
 Lacks (Frame side bytes) f page = LacksForFrame side bytes.now (reading_on (shown_of f) side bytes.now) f page
-Lacks (Datagram bytes) f page = LacksForDatagram (may_restart f.link (header_at bytes.now)) f page
+Lacks (Datagram bytes) f page = LacksForDatagram (may_reset f.link (header_at bytes.now)) f page
 Lacks (Tick now) f page = LacksForTick (is_apart_at (shown_of f) now) f page
 Lacks Stop f page = LacksRoom both_routers f page
-Lacks End f page = LacksRoom both_routers f page
+Lacks End f page = LacksRoom (record both_routers { notes = 1 }) f page
 Lacks (PeerOff boot) f page = WasUnlisted f ⊎ LacksRoom (and_kept (waiting_needs f) f) f page
 Lacks (Cable side up) f page = ⊥
 

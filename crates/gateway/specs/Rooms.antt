@@ -89,18 +89,27 @@ records_need count = record { frames = 2 * count; octets = 0; notes = 4 * count;
 abbrev pub waiting_needs : Forwarder → Needs
 waiting_needs f = record all_for_pairs { notes = length f.core.table.entries + all_for_pairs.notes }
 
--- the need of a datagram whose header names a greater boot: that of a restart, and that of its records; any other datagram needs its records alone
+-- the most new pairs for which a core is made ready
+abbrev pub most_pairs : ℕ
+most_pairs = 2 * all_for_pairs.pairs + (records_need RECORDS_IN_A_DATAGRAM).pairs
+
+-- the need of a datagram whose header names a greater boot, or says that its sender ends: that of a restart, of a
+-- founding, of its records, and of the peer's end, for the entries that there are then; any other datagram needs its
+-- records alone
 abbrev pub restart_needs : Forwarder → Needs
 restart_needs f = record {
-  frames = (waiting_needs f).frames + (records_need RECORDS_IN_A_DATAGRAM).frames;
+  frames = 2 * all_for_pairs.frames + (records_need RECORDS_IN_A_DATAGRAM).frames;
   octets = 0;
-  notes = (waiting_needs f).notes + (records_need RECORDS_IN_A_DATAGRAM).notes;
-  pairs = (waiting_needs f).pairs + (records_need RECORDS_IN_A_DATAGRAM).pairs;
+  notes = 2 * length f.core.table.entries + most_pairs + 2 * all_for_pairs.notes
+      + (records_need RECORDS_IN_A_DATAGRAM).notes + 1;
+  pairs = most_pairs;
 }
 
--- the most new pairs for which a core is made ready, and the most frames or datagrams for which a page is
-abbrev pub most_pairs : ℕ
-most_pairs = all_for_pairs.pairs + (records_need RECORDS_IN_A_DATAGRAM).pairs
+-- the most packets that wait: 64 for pairs, and 64 for next hops
+abbrev pub most_waiting : ℕ
+most_waiting = 128
+
+-- the most frames or datagrams for which a page is made ready
 
 abbrev pub most_on_a_page : ℕ
 most_on_a_page = 4096

@@ -223,33 +223,34 @@ fn begin_unsynced(
     Ok(joined(settings, id, parts, core))
 }
 
-/// Returns gateway 0, founded alone, with its routers started.
+/// Returns a gateway that founds the pair as it begins, with its routers started.
 #[tactic(auto, unfolding(spec_step::specs::Founding::begun, spec_step::specs::Founding::founded))]
 fn begin_founded(
     alloc: Global,
     settings: &Settings,
+    id: GatewayId,
     boot: u64,
     secrets: Secrets,
 ) -> Result<Forwarder, NoMemory>
     requires { 0 < boot }
     ensures shown { IfOk result (λ f. shown_of f
-        ≡ with_secrets secrets (founded settings.now boot)) }
+        ≡ with_secrets secrets (founded settings.now id boot)) }
     ensures hashers { IfOk result (λ f. f.core.table.hashers ≡ secrets.hashers) }
     ensures refused { OnErr result (LacksGateway settings.now) }
 {
     recall_ranges(settings);
     let zero = bounds_of(settings.ports.zero);
     let one = bounds_of(settings.ports.one);
-    let parts = parts_of(alloc, settings, GatewayId::Zero, boot)?;
+    let parts = parts_of(alloc, settings, id, boot)?;
     let rules = rules_of(settings, secrets.key);
-    let core = Core::founder(alloc, Bounds { zero, one }, rules, secrets.hashers)?;
-    let mut forwarder = joined(settings, GatewayId::Zero, parts, core);
+    let core = Core::founder(alloc, id, Bounds { zero, one }, rules, secrets.hashers)?;
+    let mut forwarder = joined(settings, id, parts, core);
     start_routers(&mut forwarder);
     Ok(forwarder)
 }
 
-/// Returns a gateway in this boot. Where `found` is set, it is gateway 0 founded anew: synced, with
-/// its routers started. Otherwise the gateway isn't synced.
+/// Returns a gateway in this boot. Where `found` is set, it founds the pair as it begins: it is synced,
+/// with its routers started. Otherwise the gateway isn't synced.
 pub(crate) fn begin(
     alloc: Global,
     settings: &Settings,
@@ -261,17 +262,15 @@ pub(crate) fn begin(
     requires { 0 < boot }
     ensures ranges { HasRanges settings.now }
     ensures placed { IsPlaced (networks_of settings.now id) }
-    ensures first { IsPlaced (networks_of settings.now Zero) }
     ensures shown { IfOk result (λ f. shown_of f ≡ with_secrets secrets
-        (if found then founded settings.now boot else begun settings.now id boot)) }
+        (if found then founded settings.now id boot else begun settings.now id boot)) }
     ensures hashers { IfOk result (λ f. f.core.table.hashers ≡ secrets.hashers) }
     ensures refused { OnErr result (LacksGateway settings.now) }
 {
     recall_ranges(settings);
     recall_places(settings, id);
-    recall_places(settings, GatewayId::Zero);
     if found {
-        begin_founded(alloc, settings, boot, secrets)
+        begin_founded(alloc, settings, id, boot, secrets)
     } else {
         begin_unsynced(alloc, settings, id, boot, secrets)
     }

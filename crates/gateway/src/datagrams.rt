@@ -1,24 +1,31 @@
 //! Datagrams of the other gateway.
-ghost use Rattle.std.specs.Prelude.{◌≡◌, ◌≤◌, ℕ, [], Ok, false, true, length, vec_capacity};
+ghost use Rattle.std.specs.Prelude.{◌≡◌, ◌≤◌, ◌&&◌, ℕ, [], None, Ok, false, not, true, length, vec_capacity};
 ghost use Rattle.std.specs.Prelude.{if◌then◌else◌};
 ghost use Rattle.link.specs.declared.datagrams.Datagram.{Datagram};
 ghost use Rattle.link.specs.declared.datagrams.TheConstants.{RECORDS_IN_A_DATAGRAM};
-ghost use Rattle.link.specs.Link.{free_places, is_restart, occupied, taking};
+ghost use Rattle.link.specs.Link.{free_places, is_over, is_restart, occupied, refusal, taking};
 ghost use Rattle.link.specs.Reading.{reading};
 ghost use Rattle.spec_binding.specs.Resets.{restart_batch};
 ghost use Rattle.bindings.specs.Ports.{key_count};
 ghost use Rattle.vrrp_states.specs.Table.{IsMoment};
 ghost use Rattle.spec_step.specs.Founding.{link_places};
-ghost use Rattle.spec_step.specs.Parts.{datagram_taken, reset as reset_of};
+ghost use Rattle.spec_step.specs.Parts.{datagram_taken, pair_founded, reset as reset_of};
+ghost use Rattle.spec_step.specs.Shown.{id_of};
+ghost use Rattle.spec_binding.specs.Books.{is_synced};
+ghost use Rattle.nat_types.specs.Same.{same};
+ghost use Rattle.nat_types.specs.declared.gateways.GatewayId.TheVariants.{Zero};
 ghost use Rattle.spec_step.specs.Steps.{outcome_heard};
 ghost use Rattle.forwarder.specs.Forwarder.{scene_on, shown_of};
-ghost use Rattle.forwarder.specs.Room.{HasRoomFor, Spends, and_kept, places_for_answers};
-ghost use Rattle.gateway.specs.Rooms.{records_need, restart_needs, waiting_needs};
+ghost use Rattle.forwarder.specs.Room.{HasRoomFor, Spends, and_kept, notes_alone, places_for_answers};
+ghost use Rattle.gateway.specs.Rooms.{most_waiting, records_need, restart_needs, waiting_needs};
 
 use crate::records::take_records;
+use crate::routers::start_routers;
+use crate::words::go_alone;
 use arrayvec::ArrayVec;
 use forwarder::Forwarder;
 use link::limits_law;
+use nat_types::GatewayId;
 use output::OutputBuffer;
 use packet_rules::Reason;
 use spec_step::Outcome;
@@ -81,16 +88,48 @@ fn reset_where(
     }
 }
 
-/// Takes a datagram that may begin a new session, or drops it. `list` is an empty list with
-/// capacity for all packets that wait.
+/// Founds the pair, as a datagram of the other gateway says that it has no table either: the core
+/// begins with its own range, and the routers start, where the gateway was neither stopped nor away.
+fn found(forwarder: &mut Forwarder, page: &mut OutputBuffer)
+    requires moment { IsMoment forwarder.old.moment }
+    requires zero { forwarder.old.core.id ≡ Zero }
+    requires unsynced { is_synced forwarder.old.core.stage ≡ false }
+    requires begins { occupied forwarder.old.link ≡ 0 }
+    requires room { HasRoomFor (notes_alone 1) forwarder.old page.old }
+    ensures scene { scene_on forwarder.new page.new
+        ≡ pair_founded (scene_on forwarder.old page.old) }
+    ensures spends { Spends (notes_alone 1) forwarder.old page.old forwarder.new page.new }
+    ensures moment { forwarder.new.moment ≡ forwarder.old.moment }
+{
+    let mut notes = page.take_notes();
+    let now = forwarder.moment;
+    forwarder.core.found(&mut forwarder.link, now, &mut notes);
+    page.put_notes(notes);
+    if forwarder.is_running() {
+        start_routers(forwarder);
+    }
+}
+
+/// Whether the gateway founds the pair at a datagram that says, or doesn't, that its sender lacks a
+/// table.
+fn does_found(forwarder: &Forwarder, lacking: bool) -> bool
+    ensures { result ≡ (same (id_of (shown_of forwarder.now)) Zero
+        && (not (is_synced forwarder.now.core.stage) && lacking)) }
+{
+    forwarder.core.id() == GatewayId::Zero && !forwarder.core.is_synced() && lacking
+}
+
+/// Takes a datagram that may begin a new session or end the peer's boot, or drops it. `lists` are
+/// two empty lists with capacity for all packets that wait.
 pub(crate) fn take_first(
     forwarder: &mut Forwarder,
     page: &mut OutputBuffer,
     bytes: &[u8],
-    list: Vec<HeldPacket>,
+    lists: (Vec<HeldPacket>, Vec<HeldPacket>),
 ) -> Outcome
-    requires empty { list.items ≡ [] }
-    requires list { length forwarder.old.kept ≤ vec_capacity list }
+    requires empty { (lists.0.items ≡ []) × (lists.1.items ≡ []) }
+    requires list { length forwarder.old.kept ≤ vec_capacity lists.0 }
+    requires last { most_waiting ≤ vec_capacity lists.1 }
     requires moment { IsMoment forwarder.old.moment }
     requires places { forwarder.old.link.capacity
         ≡ link_places forwarder.old.core.table.zero forwarder.old.core.table.one }
@@ -104,23 +143,33 @@ pub(crate) fn take_first(
     let now = forwarder.moment;
     let mut records = ArrayVec::new();
     match forwarder.link.take_into(bytes, now, &mut records) {
-        Ok(restarted) => {
-            reset_where(forwarder, page, restarted, list);
+        Ok(heard) => {
+            let boot = forwarder.link.known_peer();
+            let founds = does_found(forwarder, heard.lacking);
+            let (first, last) = lists;
+            reset_where(forwarder, page, heard.restarted, first);
+            if founds {
+                found(forwarder, page);
+            }
             take_records(forwarder, page, records.as_slice());
+            if heard.over && forwarder.core.is_synced() {
+                go_alone(forwarder, page, boot, last);
+            }
             Outcome::Done
         }
         Err(_fault) => Outcome::Dropped(Reason::BadDatagram),
     }
 }
 
-/// Takes a datagram that can't begin a new session, or drops it.
+/// Takes a datagram that can neither begin a new session nor end the peer's boot, or drops it.
 pub(crate) fn take_further(
     forwarder: &mut Forwarder,
     page: &mut OutputBuffer,
     bytes: &[u8],
 ) -> Outcome
     requires further { (d : Datagram) → reading bytes.now ≡ Ok d
-        → is_restart forwarder.old.link d ≡ false }
+        → refusal forwarder.old.link d ≡ None
+        → (is_restart forwarder.old.link d ≡ false) × (is_over forwarder.old.link d ≡ false) }
     requires moment { IsMoment forwarder.old.moment }
     requires room { HasRoomFor (and_kept (records_need RECORDS_IN_A_DATAGRAM) forwarder.old)
         forwarder.old page.old }
@@ -132,7 +181,10 @@ pub(crate) fn take_further(
     let now = forwarder.moment;
     let mut records = ArrayVec::new();
     match forwarder.link.take_into(bytes, now, &mut records) {
-        Ok(_restarted) => {
+        Ok(heard) => {
+            if does_found(forwarder, heard.lacking) {
+                found(forwarder, page);
+            }
             take_records(forwarder, page, records.as_slice());
             Outcome::Done
         }

@@ -95,8 +95,9 @@ fn recall_address(address: Ip)
 }
 
 impl Gateway {
-    /// Returns a gateway in this boot. With `found`, gateway 0 of a pair that is founded anew,
-    /// which is synced at once; otherwise the gateway isn't synced until its table is loaded.
+    /// Returns a gateway in this boot. With `found` it founds the pair as it begins, and is synced at
+    /// once, which is right only where the other gateway is off; otherwise the gateway isn't synced
+    /// until its table is loaded, or until it founds the pair by what the other one says.
     /// `secrets` are what the caller drew. Fails where there isn't enough memory.
     pub fn new(
         alloc: Global,
@@ -107,9 +108,8 @@ impl Gateway {
         secrets: Secrets,
     ) -> Result<Gateway, NoMemory>
         requires boot { 0 < boot }
-        requires found { IsTrue found → id ≡ Zero }
         ensures begins { IfOk result (λ g. g ≡ beginning (with_secrets secrets
-            (if found then founded settings.now boot else begun settings.now id boot))) }
+            (if found then founded settings.now id boot else begun settings.now id boot))) }
         ensures refused { OnErr result (LacksGateway settings.now) }
     {
         beginnings();
@@ -148,7 +148,8 @@ impl Gateway {
     {
         self.forwarder.kept.recall();
         let freed = PACKET_NOTES * self.forwarder.kept.len();
-        entry_count(&self.forwarder) + freed + RECORDS_IN_A_DATAGRAM * (1 + freed) + PACKET_NOTES
+        let records = 2 * RECORDS_IN_A_DATAGRAM * (1 + freed);
+        2 * entry_count(&self.forwarder) + 3 * freed + records + PACKET_NOTES
     }
 
     /// Returns the time of the gateway's clock, in centiseconds.
@@ -214,6 +215,21 @@ impl Gateway {
         ensures { result ≡ is_in (station_on self.now.shown side).cable }
     {
         self.forwarder.station(side).is_in()
+    }
+
+    /// Returns the boot of this gateway that the other one named last, or 0. Where it is above the own
+    /// boot, the other gateway knows a greater one.
+    pub fn named(&self) -> u64
+        ensures { result ≡ self.now.shown.link.named }
+    {
+        self.forwarder.link.named()
+    }
+
+    /// Whether the other gateway is known not to have taken some record.
+    pub fn has_unacknowledged(&self) -> bool
+        ensures { result ≡ nat_lt 0 (occupied self.now.shown.link) }
+    {
+        self.forwarder.link.unacknowledged() > 0
     }
 
     /// Returns the boot of the other gateway that is known, or 0.

@@ -285,7 +285,12 @@ fn arrive(
 {
     match event {
         Event::Frame(side, bytes) => arrive_frame(forwarder, fragments, Arrived { side, bytes }),
-        Event::Tick(_) | Event::Datagram(_) | Event::Stop | Event::PeerOff(_) | Event::Side(..) => {
+        Event::Tick(_)
+        | Event::Datagram(_)
+        | Event::Stop
+        | Event::End
+        | Event::PeerOff(_)
+        | Event::Side(..) => {
             Ok(Arrival::Plain)
         }
     }
@@ -349,7 +354,7 @@ fn end_parts(fragments: &mut Fragments, event: Event<'_>, arrival: Arrival, mome
                 end_datagram(fragments, Arrived { side, bytes });
             }
         }
-        Event::Datagram(_) | Event::Stop | Event::PeerOff(_) | Event::Side(..) => {}
+        Event::Datagram(_) | Event::Stop | Event::End | Event::PeerOff(_) | Event::Side(..) => {}
     }
 }
 

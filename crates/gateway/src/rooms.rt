@@ -4,10 +4,10 @@ ghost use Rattle.link.specs.declared.datagrams.TheConstants.{RECORDS_IN_A_DATAGR
 ghost use Rattle.output.specs.Output.{IsWithin};
 ghost use Rattle.forwarder.specs.Forwarder.{scene_on};
 ghost use Rattle.forwarder.specs.Room.{HasRoomFor, an_arp_packet, and_kept, and_octets};
-ghost use Rattle.gateway.specs.Lacks.{LacksRoom, WasUnlisted, WasUnready};
+ghost use Rattle.gateway.specs.Lacks.{LacksRoom, WasUnlisted, WasUnready, WasWithoutList};
 ghost use Rattle.gateway.specs.Rooms.{apart_needs, reading_needs, records_need, restart_needs};
 ghost use Rattle.gateway.specs.Rooms.{room_for, tick_needs, waiting_needs};
-ghost use Rattle.gateway.specs.Rooms.{most_entries, most_octets, most_on_a_page, most_pairs};
+ghost use Rattle.gateway.specs.Rooms.{most_entries, most_octets, most_on_a_page, most_pairs, most_waiting};
 
 use crate::NoMemory;
 use addresses::{Ip, Port, Protocol};
@@ -57,7 +57,7 @@ const RECORD_NOTES: usize = (1 + PACKET_NOTES) * RECORDS_IN_A_DATAGRAM;
 pub(crate) const RECORD_PAIRS: usize = 2 * RECORDS_IN_A_DATAGRAM;
 
 /// The most new pairs for which a core is made ready.
-pub(crate) const MOST_PAIRS: usize = WAITING + RECORD_PAIRS;
+pub(crate) const MOST_PAIRS: usize = 2 * WAITING + RECORD_PAIRS;
 
 const ENDPOINTS: [Endpoint; MOST_PAIRS] = [ANY_ENDPOINT; MOST_PAIRS];
 
@@ -94,6 +94,12 @@ pub(crate) const STOP_ROOM: Room = Room {
     octets: 0,
     datagrams: 1,
     notes: 0,
+};
+
+/// The capacity for the end of a gateway: the stop of both routers, and the last note.
+pub(crate) const LAST_ROOM: Room = Room {
+    notes: 1,
+    ..STOP_ROOM
 };
 
 /// Returns the capacity for an ARP packet: an answer, and the packet whose wait it may end, with
@@ -166,17 +172,19 @@ pub(crate) fn word_room(forwarder: &Forwarder) -> Room
     }
 }
 
-/// Returns the capacity for a datagram that may begin a new session: a note of each entry, the
-/// packets that waited for pairs, and the records.
+/// Returns the capacity for a datagram that may begin a new session, or be the peer's last: a note of
+/// each entry, the packets that waited for pairs, the records; and a note of each entry there is then,
+/// and the packets that wait then.
 pub(crate) fn restart_room(forwarder: &Forwarder) -> Room
     ensures room { result ≡ room_for (and_kept (restart_needs forwarder.now) forwarder.now) }
     ensures few { result.octets ≤ most_octets }
 {
+    let entries = entry_count(forwarder);
     Room {
-        frames: WAITING_FRAMES + RECORD_FRAMES,
+        frames: 2 * WAITING_FRAMES + RECORD_FRAMES,
         octets: forwarder.kept.octets(),
         datagrams: 1,
-        notes: entry_count(forwarder) + WAITING_NOTES + RECORD_NOTES,
+        notes: 2 * entries + MOST_PAIRS + 2 * WAITING_NOTES + RECORD_NOTES + 1,
     }
 }
 
@@ -298,5 +306,17 @@ pub(crate) fn list_for(alloc: Global, forwarder: &Forwarder) -> Result<Vec<HeldP
     ensures refused { OnErr result (WasUnlisted forwarder.now) }
 {
     let list = with_room(alloc, forwarder.kept.len())?;
+    Ok(list)
+}
+
+/// Returns an empty list with capacity for all packets that can wait at once. Fails where there isn't
+/// enough memory. No other function unfolds `WasWithoutList`.
+#[tactic(auto, unfolding(crate::specs::Lacks::WasWithoutList))]
+pub(crate) fn last_list(alloc: Global) -> Result<Vec<HeldPacket>, NoMemory>
+    ensures empty { IfOk result (λ v. v.items ≡ []) }
+    ensures room { IfOk result (λ v. most_waiting ≤ vec_capacity v) }
+    ensures refused { OnErr result WasWithoutList }
+{
+    let list = with_room(alloc, 2 * WAITING)?;
     Ok(list)
 }

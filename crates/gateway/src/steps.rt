@@ -3,7 +3,7 @@ ghost use Rattle.std.specs.Prelude.{◌≡◌, ◌≤◌, ◌⊎◌, IfOk, IsOk,
 ghost use Rattle.std.specs.Prelude.{true};
 ghost use Rattle.link.specs.declared.datagrams.Datagram.{Datagram};
 ghost use Rattle.link.specs.declared.datagrams.TheConstants.{RECORDS_IN_A_DATAGRAM};
-ghost use Rattle.link.specs.Link.{is_restart, may_restart, taking};
+ghost use Rattle.link.specs.Link.{is_over, is_restart, may_reset, refusal, taking};
 ghost use Rattle.link.specs.Reading.{header_at, reading};
 ghost use Rattle.vrrp_states.specs.Table.{IsMoment};
 ghost use Rattle.packet_rules.specs.Steps.{Carries};
@@ -30,9 +30,10 @@ ghost use Rattle.gateway.specs.Ticks.{is_apart_at};
 use crate::NoMemory;
 use crate::arrivals::take_reading;
 use crate::datagrams::{take_first, take_further};
-use crate::ends::{end_other, end_tick};
+use crate::ends::{end_gateway, end_other, end_tick};
 use crate::rooms::{
-    END_ROOM, MOST_PAIRS, OVER_ROOM, RECORD_PAIRS, STOP_ROOM, WAITING, apart_room, list_for,
+    END_ROOM, LAST_ROOM, MOST_PAIRS, OVER_ROOM, RECORD_PAIRS, STOP_ROOM, WAITING, apart_room,
+    last_list, list_for,
     make_ready, make_ready_for, records_room, restart_room, tick_room, word_room,
 };
 use crate::ticks::{is_apart_at, take_stop, take_tick};
@@ -41,7 +42,7 @@ use crate::words::take_word;
 use forwarder::Forwarder;
 use ipv4::Packet;
 use nat_types::Side;
-use output::OutputBuffer;
+use output::{OutputBuffer, Room};
 use packet_rules::{Reading, Reason};
 use spec_step::{
     Event, Outcome, parts_stand, steps_feed, steps_go, steps_keep, steps_settle, steps_stay,
@@ -159,18 +160,14 @@ fn first_came(
     ensures datagrams { OnOk result (1 ≤ page.new.room.datagrams) }
     ensures err { OnErr result (scene_on forwarder.new page.new
         ≡ scene_on forwarder.old page.old) }
-    ensures lacks { OnErr result (WasUnlisted forwarder.old
+    ensures lacks { OnErr result (WasUnlisted forwarder.old ⊎ (WasWithoutList
         ⊎ LacksRoom (and_kept (restart_needs forwarder.old) forwarder.old) forwarder.old
-        page.old) }
+        page.old)) }
 {
     let room = restart_room(forwarder);
-    match list_for(alloc, forwarder) {
-        Ok(list) => {
-            make_ready(forwarder, page, room, MOST_PAIRS)?;
-            Ok(take_first(forwarder, page, bytes, list))
-        }
-        Err(fault) => Err(fault),
-    }
+    let lists = (list_for(alloc, forwarder)?, last_list(alloc)?);
+    make_ready(forwarder, page, room, MOST_PAIRS)?;
+    Ok(take_first(forwarder, page, bytes, lists))
 }
 
 /// Handles any other datagram, with memory for its records, and no list.
@@ -180,7 +177,8 @@ fn further_came(
     bytes: &[u8],
 ) -> Result<Outcome, NoMemory>
     requires further { (d : Datagram) → reading bytes.now ≡ Ok d
-        → is_restart forwarder.old.link d ≡ false }
+        → refusal forwarder.old.link d ≡ None
+        → (is_restart forwarder.old.link d ≡ false) × (is_over forwarder.old.link d ≡ false) }
     requires moment { IsMoment forwarder.old.moment }
     ensures outcome { IfOk result (λ o. o
         ≡ outcome_heard (taking forwarder.old.link (reading bytes.now))) }
@@ -216,9 +214,9 @@ fn datagram_came(
     ensures err { OnErr result (scene_on forwarder.new page.new
         ≡ scene_on forwarder.old page.old) }
     ensures lacks { OnErr result (LacksForDatagram
-        (may_restart forwarder.old.link (header_at bytes.now)) forwarder.old page.old) }
+        (may_reset forwarder.old.link (header_at bytes.now)) forwarder.old page.old) }
 {
-    if forwarder.link.may_restart(bytes) {
+    if forwarder.link.may_reset(bytes) {
         first_came(alloc, forwarder, page, bytes)
     } else {
         further_came(forwarder, page, bytes)
@@ -303,8 +301,13 @@ fn clock_ticked(
     Ok(Outcome::Done)
 }
 
+/// Handles a stop, or the end of the gateway, with this capacity.
 #[cold]
-fn stop_came(forwarder: &mut Forwarder, page: &mut OutputBuffer) -> Result<Outcome, NoMemory>
+fn stop_came(
+    forwarder: &mut Forwarder,
+    page: &mut OutputBuffer,
+    room: Room,
+) -> Result<Outcome, NoMemory>
     requires moment { IsMoment forwarder.old.moment }
     ensures outcome { IfOk result (λ o. o ≡ Done) }
     ensures does { OnOk result (Does (scene_on forwarder.old page.old) StopEvent
@@ -314,7 +317,7 @@ fn stop_came(forwarder: &mut Forwarder, page: &mut OutputBuffer) -> Result<Outco
         ≡ scene_on forwarder.old page.old) }
     ensures lacks { OnErr result (LacksRoom both_routers forwarder.old page.old) }
 {
-    make_ready(forwarder, page, STOP_ROOM, 0)?;
+    make_ready(forwarder, page, room, 0)?;
     take_stop(forwarder, page);
     Ok(Outcome::Done)
 }
@@ -372,7 +375,8 @@ fn take_event(
         Event::Frame(side, bytes) => frame_came(alloc, forwarder, page, side, bytes),
         Event::Datagram(bytes) => datagram_came(alloc, forwarder, page, bytes),
         Event::Tick(now) => clock_ticked(alloc, forwarder, page, now),
-        Event::Stop => stop_came(forwarder, page),
+        Event::Stop => stop_came(forwarder, page, STOP_ROOM),
+        Event::End => stop_came(forwarder, page, LAST_ROOM),
         Event::PeerOff(boot) => word_came(alloc, forwarder, page, boot),
         Event::Side(side, up) => {
             plug(forwarder, side, up);
@@ -390,6 +394,7 @@ fn end_event(forwarder: &mut Forwarder, page: &mut OutputBuffer, event: Event<'_
 {
     match event {
         Event::Tick(_) => end_tick(forwarder, page),
+        Event::End => end_gateway(forwarder, page),
         Event::Frame(..) | Event::Datagram(_) | Event::Stop | Event::PeerOff(_) => {
             end_other(forwarder, page);
         }
@@ -419,7 +424,7 @@ pub(crate) fn recall_event(event: Event<'_>)
 {
     match event {
         Event::Frame(_, bytes) | Event::Datagram(bytes) => recall_bytes(bytes),
-        Event::Tick(_) | Event::Stop | Event::PeerOff(_) | Event::Side(..) => {}
+        Event::Tick(_) | Event::Stop | Event::End | Event::PeerOff(_) | Event::Side(..) => {}
     }
 }
 

@@ -1,5 +1,6 @@
 //! The operator's word that the other gateway is off.
-ghost use Rattle.std.specs.Prelude.{◌≡◌, ◌≤◌, [], None, length, vec_capacity};
+ghost use Rattle.std.specs.Prelude.{◌≡◌, ◌≤◌, [], true, length, vec_capacity};
+ghost use Rattle.spec_binding.specs.Books.{is_synced};
 ghost use Rattle.spec_step.specs.Parts.{word_taken};
 ghost use Rattle.spec_step.specs.Steps.{outcome_word, word_by, word_refusal};
 ghost use Rattle.forwarder.specs.Forwarder.{scene_on, shown_of};
@@ -25,10 +26,16 @@ fn word_refusal(forwarder: &Forwarder, boot: u64) -> Option<Reason>
     }
 }
 
-/// Goes on alone: ends the link's session, revives the pairs, and takes the packets that waited for
-/// pairs again.
-fn go_alone(forwarder: &mut Forwarder, page: &mut OutputBuffer, boot: u64, list: Vec<HeldPacket>)
-    requires heard { word_refusal (shown_of forwarder.old) boot ≡ None }
+/// Goes on alone, by the operator's word or the peer's end: ends the link's session, revives the
+/// pairs, and takes the packets that waited for pairs again.
+pub(crate) fn go_alone(
+    forwarder: &mut Forwarder,
+    page: &mut OutputBuffer,
+    boot: u64,
+    list: Vec<HeldPacket>,
+)
+    requires synced { is_synced forwarder.old.core.stage ≡ true }
+    requires known { forwarder.old.link.known ≤ boot }
     requires empty { list.items ≡ [] }
     requires list { length forwarder.old.kept ≤ vec_capacity list }
     requires room { HasRoomFor (and_kept (waiting_needs forwarder.old) forwarder.old)

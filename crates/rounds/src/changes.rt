@@ -11,7 +11,9 @@ pub(crate) fn origin_of(event: &Event<'_>) -> Origin {
     match event {
         Event::Frame(side, _) => Origin::of(*side),
         Event::Datagram(_) => Origin::Link,
-        Event::Tick(_) | Event::Stop | Event::PeerOff(_) | Event::Side(..) => Origin::Own,
+        Event::Tick(_) | Event::Stop | Event::End | Event::PeerOff(_) | Event::Side(..) => {
+            Origin::Own
+        }
     }
 }
 
@@ -33,7 +35,8 @@ pub(crate) fn log_step<L: Journal>(
     after: &View,
 ) {
     let now = after.timestamp;
-    let has_stopped = matches!(event, Event::Stop) && !matches!(cause, Some(Cause::NoMemory));
+    let has_stopped =
+        matches!(event, Event::Stop | Event::End) && !matches!(cause, Some(Cause::NoMemory));
     if let Some(cause) = cause {
         log.write_dropped(now, origin_of(event), cause);
     }

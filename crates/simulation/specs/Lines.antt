@@ -65,6 +65,7 @@ kind_text (notes.Released p) = codes "Released " ++ pair_text p
 kind_text (notes.Retaken p) = codes "Retaken " ++ pair_text p
 kind_text (notes.Alone p) = codes "Alone " ++ pair_text p
 kind_text notes.Synced = codes "Synced"
+kind_text notes.Founded = codes "Founded"
 kind_text notes.Crashed = codes "Crashed"
 kind_text (notes.Booted number) = codes "Booted " ++ decimal number
 
@@ -128,7 +129,9 @@ gateway_of (events.Tick i moment) = i
 gateway_of (events.Stop i) = i
 gateway_of (events.Deliver i number) = i
 gateway_of (events.Crash i) = i
+gateway_of (events.End i) = i
 gateway_of (events.Boot i number) = i
+gateway_of (events.Found i number) = i
 gateway_of (events.PeerOff i number) = i
 gateway_of (events.Side i side up) = i
 gateway_of (events.Stray i bytes) = i

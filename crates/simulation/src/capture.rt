@@ -23,16 +23,16 @@ pub struct Capture<W> {
 }
 
 impl<W: Write + Drop> Capture<W> {
-    /// Writes the head of a capture.
+    /// Writes the head of a capture. The world begins with gateway 0 founded, or with nobody up.
     ///
     /// # Errors
     ///
     /// Those of the output.
-    pub fn new(mut output: W) -> io::Result<Capture<W>> {
+    pub fn new(mut output: W, founded: bool) -> io::Result<Capture<W>> {
         write_head(&mut output)?;
         Ok(Capture {
             output,
-            clocks: Clocks::new(),
+            clocks: Clocks::new(founded),
             failure: None,
         })
     }
@@ -55,6 +55,9 @@ impl<W: Write> Capture<W> {
             self.clocks.follow(event);
         }
         let written = self.write_event(world, cutter, event, step);
+        if step.answer.is_ok() {
+            self.clocks.stop_ended(event);
+        }
         if let Err(error) = &written {
             self.failure = self.failure.or(Some(error.kind()));
         }
@@ -105,9 +108,10 @@ type FileCapture<F> = Capture<BufWriter<CaptureFile<F>>>;
 pub(crate) fn begin_capture<R: Files + AllocGlobal>(
     rt: &R,
     path: Option<&str>,
+    founded: bool,
 ) -> Result<Option<FileCapture<R::File>>, Fault> {
     match path {
-        Some(path) => match open_capture(rt, path) {
+        Some(path) => match open_capture(rt, path, founded) {
             Ok(capture) => Ok(Some(capture)),
             Err(error) => Err(Fault::capture(rt.alloc(), path, &error)),
         },
@@ -115,10 +119,14 @@ pub(crate) fn begin_capture<R: Files + AllocGlobal>(
     }
 }
 
-fn open_capture<R: Files + AllocGlobal>(rt: &R, path: &str) -> io::Result<FileCapture<R::File>> {
+fn open_capture<R: Files + AllocGlobal>(
+    rt: &R,
+    path: &str,
+    founded: bool,
+) -> io::Result<FileCapture<R::File>> {
     let mut file = open(rt, path, Reader::Awaited)?;
     file.clear()?;
-    Capture::new(BufWriter::new(rt.alloc(), file)?)
+    Capture::new(BufWriter::new(rt.alloc(), file)?, founded)
 }
 
 /// Flushes a capture in the file at a path, where there is one.
@@ -161,7 +169,9 @@ pub(crate) fn input_of<'a>(
         WorldEvent::Tick(_, _)
         | WorldEvent::Stop(_)
         | WorldEvent::Crash(_)
+        | WorldEvent::End(_)
         | WorldEvent::Boot(_, _)
+        | WorldEvent::Found(_, _)
         | WorldEvent::PeerOff(_, _)
         | WorldEvent::Side(_, _, _) => None,
     }

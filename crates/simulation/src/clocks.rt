@@ -13,10 +13,10 @@ pub(crate) struct Clocks {
 }
 
 impl Clocks {
-    /// Returns the clocks of a new world, in which gateway 0 alone is up.
-    pub(crate) fn new() -> Clocks {
+    /// Returns the clocks of a new world, in which gateway 0 alone is up where it is founded, and else none.
+    pub(crate) fn new(founded: bool) -> Clocks {
         Clocks {
-            zero: Some(0),
+            zero: founded.then_some(0),
             one: None,
         }
     }
@@ -35,13 +35,21 @@ impl Clocks {
                 }
             }
             WorldEvent::Crash(id) => self.set(*id, None),
-            WorldEvent::Boot(id, _) => self.set(*id, Some(0)),
+            WorldEvent::Boot(id, _) | WorldEvent::Found(id, _) => self.set(*id, Some(0)),
             WorldEvent::Frame(_, _, _)
             | WorldEvent::Stop(_)
+            | WorldEvent::End(_)
             | WorldEvent::Deliver(_, _)
             | WorldEvent::PeerOff(_, _)
             | WorldEvent::Side(_, _, _)
             | WorldEvent::Stray(_, _) => {}
+        }
+    }
+
+    /// Stops the clock of a gateway that has ended by an event.
+    pub(crate) fn stop_ended(&mut self, event: &WorldEvent) {
+        if let WorldEvent::End(id) = event {
+            self.set(*id, None);
         }
     }
 

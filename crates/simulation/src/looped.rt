@@ -1,6 +1,6 @@
 //! `natpair loop`: runs a script whose frames and datagrams are sent through a channel before they are applied.
 ghost use Rattle.std.specs.Prelude.{◌≡◌, ◌||◌, IfOk, OnOk};
-ghost use Rattle.frame_sim.specs.World.{founding};
+ghost use Rattle.frame_sim.specs.World.{world_of};
 ghost use Rattle.simulation.specs.Printed.{Prints};
 ghost use Rattle.simulation.specs.Runs.{HaveTurned, IsLooped, IsTurn, counts_then, is_refusal, turn_lines};
 
@@ -42,7 +42,7 @@ pub fn run_loop<R: Files + Net + Clock + AllocGlobal, W: Write>(
 ) -> Result<u8, Fault> {
     let job = read_job(rt.alloc(), settings, script)?;
     let mut channel = Loopback::open(rt, settings.path, &job.settings)?;
-    let mut file = begin_capture(rt, capture)?;
+    let mut file = begin_capture(rt, capture, job.founded)?;
     let status = run_loop_job(rt.alloc(), &job, &mut channel, &mut file, output);
     end_capture(rt.alloc(), capture, file)?;
     status
@@ -62,10 +62,10 @@ pub fn run_loop_job<C: Channel, F: Write + Drop, W: Write>(
     capture: &mut Option<Capture<F>>,
     output: &mut W,
 ) -> Result<u8, Fault>
-    ensures { IfOk result (IsLooped W.contents (founding job.now.settings) job.now.events.items
+    ensures { IfOk result (IsLooped W.contents (world_of job.now.settings job.now.founded) job.now.events.items
         output.old output.new) }
 {
-    match World::founded(alloc, &job.settings) {
+    match World::begun(alloc, &job.settings, job.founded) {
         Ok(mut world) => {
             let status = run_on(&mut world, job, channel, capture, output);
             world.end();

@@ -12,12 +12,17 @@ const MAX_EVENTS: usize = 1_000_000;
 /// The most bytes of a frame or a stray in a script.
 const MAX_BYTES: usize = 2_000;
 
-/// The events of a script in order, and the settings of the gateways that they are run on.
+/// The events of a script in order, the settings of the gateways that they are run on, and how the world begins.
 #[derive(Drop)]
 pub struct Job {
     pub settings: Settings,
+    /// Whether the world begins with gateway 0 founded, else with nobody up.
+    pub founded: bool,
     pub events: Vec<WorldEvent>,
 }
+
+/// The first line of a script whose world begins with nobody up.
+const BEGIN: &str = "begin";
 
 /// Why a line is no event.
 #[derive(Clone, Copy, Debug)]
@@ -34,7 +39,7 @@ impl From<AllocError> for LineFault {
 }
 
 const WANTS_EVENT: LineFault = LineFault::Wants(
-    "an event is tick I MOMENT, frame I SIDE HEX, deliver I K, stop I, crash I, boot I N, peer-off I N, side I SIDE up|down or stray I HEX",
+    "an event is tick I MOMENT, frame I SIDE HEX, deliver I K, stop I, crash I, end I, boot I N, found I N, peer-off I N, side I SIDE up|down or stray I HEX; begin stands as the first line alone",
 );
 
 const WANTS_GATEWAY: LineFault = LineFault::Wants("a gateway is 0 or 1");
@@ -59,14 +64,24 @@ const WANTS_FEWER: LineFault = LineFault::Wants("a script has at most 1000000 ev
 /// `NoMemory`.
 pub fn read_job(alloc: Global, settings: TextFile<'_>, script: TextFile<'_>) -> Result<Job, Fault> {
     let settings = settings_in(alloc, settings)?;
-    let events = parse_events(alloc, script)?;
-    Ok(Job { settings, events })
+    let (founded, events) = parse_script(alloc, script)?;
+    Ok(Job {
+        settings,
+        founded,
+        events,
+    })
 }
 
-fn parse_events(alloc: Global, script: TextFile<'_>) -> Result<Vec<WorldEvent>, Fault> {
+/// Parses a script. Returns whether its world begins with gateway 0 founded, and its events.
+fn parse_script(alloc: Global, script: TextFile<'_>) -> Result<(bool, Vec<WorldEvent>), Fault> {
+    let mut founded = true;
     let mut events = Vec::new(alloc);
     for (index, line) in script.text.lines().enumerate() {
         if is_skipped(line) {
+            continue;
+        }
+        if founded && events.is_empty() && line == BEGIN {
+            founded = false;
             continue;
         }
         match parse_next(alloc, line, events.len()) {
@@ -78,7 +93,7 @@ fn parse_events(alloc: Global, script: TextFile<'_>) -> Result<Vec<WorldEvent>, 
             Err(LineFault::NoMemory) => return Err(Fault::NoMemory),
         }
     }
-    Ok(events)
+    Ok((founded, events))
 }
 
 /// Whether a line is a comment, or has blanks and tabs only.
@@ -119,13 +134,14 @@ fn parse_stop(verb: &str, gateway: &str) -> Result<WorldEvent, LineFault> {
     match verb {
         "stop" => Ok(WorldEvent::Stop(parse_gateway(gateway)?)),
         "crash" => Ok(WorldEvent::Crash(parse_gateway(gateway)?)),
+        "end" => Ok(WorldEvent::End(parse_gateway(gateway)?)),
         _ => Err(WANTS_EVENT),
     }
 }
 
 /// Parses the words of an event with a number, as `tick 0 100`.
 fn parse_numbered(verb: &str, gateway: &str, number: &str) -> Result<WorldEvent, LineFault> {
-    if !matches!(verb, "tick" | "deliver" | "boot" | "peer-off") {
+    if !matches!(verb, "tick" | "deliver" | "boot" | "found" | "peer-off") {
         return Err(WANTS_EVENT);
     }
     let id = parse_gateway(gateway)?;
@@ -134,6 +150,7 @@ fn parse_numbered(verb: &str, gateway: &str, number: &str) -> Result<WorldEvent,
         "tick" => WorldEvent::Tick(id, number),
         "deliver" => WorldEvent::Deliver(id, number),
         "boot" => WorldEvent::Boot(id, number),
+        "found" => WorldEvent::Found(id, number),
         _ => WorldEvent::PeerOff(id, number),
     })
 }

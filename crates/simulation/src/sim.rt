@@ -2,7 +2,7 @@
 ghost use Rattle.std.specs.Prelude.{◌≡◌, ◌++◌, IfOk, OnOk, if◌then◌else◌};
 ghost use Rattle.frame_sim.specs.Runs.{AreSteps};
 ghost use Rattle.frame_sim.specs.Status.{has_refusal};
-ghost use Rattle.frame_sim.specs.World.{founding};
+ghost use Rattle.frame_sim.specs.World.{world_of};
 ghost use Rattle.simulation.specs.Lines.{no_counts};
 ghost use Rattle.simulation.specs.Printed.{Prints};
 ghost use Rattle.simulation.specs.Runs.{IsPlayed, run_lines, steps_lines};
@@ -53,7 +53,7 @@ pub fn run_sim<R: Files + AllocGlobal, P: Progress, W: Write>(
     output: &mut W,
 ) -> Result<u8, Fault> {
     let job = read_job(rt.alloc(), settings, script)?;
-    let mut file = begin_capture(rt, capture)?;
+    let mut file = begin_capture(rt, capture, job.founded)?;
     let status = run_sim_job(rt.alloc(), &job, progress, &mut file, output);
     end_capture(rt.alloc(), capture, file)?;
     status
@@ -73,10 +73,10 @@ pub fn run_sim_job<P: Progress, C: Write + Drop, W: Write>(
     capture: &mut Option<Capture<C>>,
     output: &mut W,
 ) -> Result<u8, Fault>
-    ensures { IfOk result (IsPlayed W.contents (founding job.now.settings) job.now.events.items
+    ensures { IfOk result (IsPlayed W.contents (world_of job.now.settings job.now.founded) job.now.events.items
         output.old output.new) }
 {
-    match World::founded(alloc, &job.settings) {
+    match World::begun(alloc, &job.settings, job.founded) {
         Ok(mut world) => {
             let status = run_on(&mut world, job, progress, capture, output);
             world.end();

@@ -132,6 +132,7 @@ fn print_note<W: Write>(output: &mut W, note: &Note) -> io::Result<()>
             writeln!(output, "note {id} Alone {pair}")
         }
         NoteKind::Synced => writeln!(output, "note {id} Synced"),
+        NoteKind::Founded => writeln!(output, "note {id} Founded"),
         NoteKind::Crashed => writeln!(output, "note {id} Crashed"),
         NoteKind::Booted(number) => writeln!(output, "note {id} Booted {number}"),
     }

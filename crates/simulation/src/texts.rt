@@ -16,7 +16,9 @@ pub fn gateway_of(event: &WorldEvent) -> GatewayId
         | WorldEvent::Stop(id)
         | WorldEvent::Deliver(id, _)
         | WorldEvent::Crash(id)
+        | WorldEvent::End(id)
         | WorldEvent::Boot(id, _)
+        | WorldEvent::Found(id, _)
         | WorldEvent::PeerOff(id, _)
         | WorldEvent::Side(id, _, _)
         | WorldEvent::Stray(id, _) => *id,
