@@ -9,7 +9,7 @@ use Rattle.bind_core.proofs.Performing.{restarted-bare, works-as}
 use Rattle.bind_core.proofs.cores.Core.found.Goals as goal
 
 pub forget-requires : goal.forget-requires
-forget-requires c = subst IsBook (restarted-bare (book_of c.args.self.now) c.requires.unsynced) (c.books_keep.ensures.restarted (book_of c.args.self.now) c.recall.ensures.book)
+forget-requires c = record { kept = subst IsBook (restarted-bare (book_of c.args.self.now) c.requires.unsynced) (c.books_keep.ensures.restarted (book_of c.args.self.now) c.recall.ensures.book) }
 
 pub own_first-requires-clause-none : goal.own_first-requires-clause-none
 own_first-requires-clause-none c = ap (λ (b : Book). b.owned) c.forget.ensures.book
