@@ -1,5 +1,5 @@
 -- What a gateway keeps while the other one changes.
-use Rattle.std.proofs.Common.{◌≡◌, ◌⊎◌, ◌||◌, ◌<◌, ◌≤◌, ℕ, true, false, List, [], ◌++◌, Some, IsTrue, sym, ◌∙◌, inl, inr, arith}
+use Rattle.std.proofs.Common.{◌≡◌, ◌⊎◌, ◌||◌, ◌≤◌, ℕ, true, false, List, [], ◌++◌, Some, IsTrue, sym, ◌∙◌, inl, inr, arith}
 use Rattle.std.proofs.lemmas.Bool.{both_ways}
 use Rattle.nat_types.specs.Same.{other}
 use Rattle.nat_types.specs.declared.gateways.GatewayId.{GatewayId}
@@ -10,7 +10,7 @@ use Rattle.spec_trace.specs.Past.{is_synced, is_open, was_alone}
 use Rattle.spec_pair.specs.Box.{Box, Letter, In, IsLacking, nth}
 use Rattle.spec_pair.specs.Ownership.{Ranges}
 use Rattle.spec_pair.specs.Talk.{MachineRecord, pair_of}
-use Rattle.spec_pair.proofs.Invariant.{Fresh, IsLone, Leaves, Loads, Orphan, Real, Side, View, Waits, Within}
+use Rattle.spec_pair.proofs.Invariant.{Fresh, IsLone, Leaves, Loads, Orphan, Real, Reborn, Side, View, Waits, Within}
 use Rattle.spec_pair.proofs.Traced.{Covers, GoesAt, PrivateAt, LetsGo, WereAlone, TwoAlone}
 
 module _ (i : GatewayId) (a b b2 : Box) where
@@ -43,9 +43,8 @@ module _ (i : GatewayId) (a b b2 : Box) where
   -- what a dead boot of the other left is still there, where what is said of the other is shown anew
   pub leaves_beside : (source : Box) (ma mb : List Letter) (t t2 : List Note) → Leaves i source a b ma mb t → b2.synced ≡ false → b.boot ≤ b2.boot
       → (GoesAt i a.table t → GoesAt i a.table t2) → (PrivateAt i a.table t → PrivateAt i a.table t2)
-      → (b2.up ≡ true → source.boot < b2.boot) → (b2.up ≡ true → Fresh b2) → (b2.up ≡ true → GoesAt (other i) b2.table t2) → (b2.up ≡ true → PrivateAt (other i) b2.table t2)
-      → (b2.up ≡ true → (l : Letter) → In l ma → l.to < b2.boot) → Leaves i source a b2 ma mb t2
-  leaves_beside source ma mb t t2 x out older goes private dead fresh their_goes their_private unsaid = record {
+      → (b2.up ≡ true → Reborn (other i) source b2 ma t2) → Leaves i source a b2 ma mb t2
+  leaves_beside source ma mb t t2 x out older goes private reborn = record {
     synced = x.synced;
     back = x.back;
     letters = x.letters;
@@ -56,11 +55,7 @@ module _ (i : GatewayId) (a b b2 : Box) where
     other_out = out;
     goes = goes x.goes;
     private = private x.private;
-    dead = dead;
-    fresh = fresh;
-    their_goes = their_goes;
-    their_private = their_private;
-    unsaid = unsaid;
+    reborn = reborn;
   }
 
 module _ (r : Ranges) where

@@ -1,5 +1,5 @@
 -- Runs over eras.
-use Rattle.std.proofs.Common.{◌≡◌, Bool, true, false, cond, [], ◌∷◌, ◌++◌, Some, None, refl, sym, ap, ◌∙◌, inl, inr, lit<, zero-le}
+use Rattle.std.proofs.Common.{◌≡◌, Bool, true, false, cond, [], ◌∷◌, ◌++◌, Some, None, refl, sym, ap, ◌∙◌, inl, inr, lit<, zero-le, arith}
 use Rattle.nat_types.proofs.Offered.{key-false}
 use Rattle.nat_types.specs.Same.{same_key}
 use Rattle.nat_types.specs.declared.gateways.GatewayId.TheVariants.{Zero}
@@ -7,13 +7,14 @@ use Rattle.nat_types.specs.declared.pairs.Key.{Key}
 use Rattle.spec_trace.specs.Past.{nobody_up}
 use Rattle.spec_pair.specs.Batch.{AreThose, LieWithin}
 use Rattle.spec_pair.specs.Box.{is_back, revived}
-use Rattle.spec_pair.specs.EraRows.{by_word, by_word_notes, coming_up, coming_up_notes, ending, ending_notes, found_again, found_again_notes, held_anew, live_anew, saving, saving_notes}
+use Rattle.spec_pair.specs.EraRows.{by_word, by_word_notes, coming_up, coming_up_notes, ending, ending_notes, found_again, found_again_notes, held_anew, live_anew, ports_back, ports_back_notes, saving, saving_notes}
 use Rattle.spec_pair.specs.Ownership.{in_run}
-use Rattle.spec_pair.specs.Rows.{LeadsFrom, LeadsTo, held_first, host, live_first, loading, loading_notes, pair_p, parcel_p, range_of, slot_on, two_ranges, udp, using, using_notes}
+use Rattle.spec_pair.specs.Rows.{LeadsFrom, LeadsTo, LeavesPorts, granting, held_first, host, live_first, loading, loading_notes, pair_p, parcel_p, range_of, sharing, six_ports, slot_on, two_ranges, udp, using, using_notes, wanting}
 use Rattle.spec_pair.specs.Talk.{Slot, Live, Free, held, Pending}
-use Rattle.spec_pair.specs.World.{AreAllowed, founding, nobody}
+use Rattle.spec_pair.specs.World.{AreAllowed, after_events, founding, nobody}
 use Rattle.spec_pair.proofs.Batches.{fixed_leaves, batch_new, batch_mirrored}
-use Rattle.spec_pair.proofs.Runs.{Paired, apart_one, at_first, at_will, old_kept, paired-allowed, those_one, to_one, two_hosts, within_one}
+use Rattle.spec_pair.proofs.Runs.{Paired, Wanted, apart_one, at_first, at_will, granting-allowed, old_kept, paired-allowed, rest_of, six_low, those_one, to_one, two_hosts, wanted-allowed, within_one}
+use Rattle.spec_pair.proofs.Worlds.{allowed_join}
 
 over_last : (b : Bool) (x y : Slot) → cond b x (cond b y Free) ≡ cond b x Free
 over_last true x y = refl
@@ -221,3 +222,50 @@ word-allowed = (
 
 pub word_leads : LeadsFrom nobody two_ranges by_word (nobody_up ∷ by_word_notes) [] (slot_on 40000 (Live (host 5000)) ∷ [])
 word_leads = record { allowed = word-allowed; trace_is = refl; zero_is = λ k. refl; one_is = λ k. refl }
+
+back-allowed : AreAllowed six_ports ports_back (after_events six_ports granting Wanted)
+back-allowed = (
+  (refl, λ l h. absurd h, tt),
+  (
+    (refl, λ l h. absurd h, tt),
+    (
+      ((refl, lit< tt), λ l h. absurd h, tt),
+      (
+        ((refl, lit< tt), λ l h. absurd h, tt),
+        (
+          (at_first, λ l h. absurd h, tt),
+          (
+            ((refl, refl, lit< tt), λ l h. elim h [ inl e ↦ inl e | inr b ↦ absurd b ], tt),
+            (
+              (at_first, λ l h. absurd h, tt),
+              (
+                ((refl, refl, refl, (refl, refl, refl), zero-le, refl, ((lit< tt, omega arith, six_low), tt), λ p. rest_of (in_run 20000 20001 p) (in_run 40000 40003 p)), λ l h. elim h [ inl e ↦ inl e | inr b ↦ absurd b ], tt),
+                (
+                  (at_will, λ l h. absurd h, tt),
+                  (
+                    ((refl, record { up = refl; boot = refl; to = refl; number = refl; record_is = refl }), λ l h. elim h [ inl e ↦ inl e | inr b ↦ absurd b ], tt),
+                    (
+                      ((refl, refl, (λ k. refl), (lit< tt, omega arith, six_low), record { up = refl; boot = refl; to = refl; number = refl; record_is = refl }), λ l h. elim h [ inl e ↦ inl e | inr b ↦ absurd b ], tt),
+                      (
+                        ((refl, refl, record { up = refl; boot = refl; to = refl; number = refl; record_is = refl }), λ l h. elim h [ inl e ↦ inl e | inr b ↦ absurd b ], tt),
+                        tt,
+                      ),
+                    ),
+                  ),
+                ),
+              ),
+            ),
+          ),
+        ),
+      ),
+    ),
+  ),
+)
+
+pub back_leaves : LeavesPorts (sharing ++ wanting ++ granting ++ ports_back) (loading_notes ++ ports_back_notes) (20000 ∷ 20001 ∷ []) (40000 ∷ 40001 ∷ 40002 ∷ 40003 ∷ [])
+back_leaves = record {
+  allowed = wanted-allowed (granting ++ ports_back) (allowed_join six_ports granting ports_back Wanted granting-allowed back-allowed);
+  trace_is = refl;
+  zero_is = refl;
+  one_is = refl;
+}

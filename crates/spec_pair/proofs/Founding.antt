@@ -59,7 +59,7 @@ module _ (r : Ranges) where
       let out : is_synced (other i) (note i moment Founded ∷ s.trace) ≡ s.theirs.synced = ap (λ b. cond b true (is_synced (other i) s.trace)) (same-not i) ∙ there.synced_is in
       let fresh : s.theirs.up ≡ true → Fresh s.theirs = λ u. elim (there.awaits sb u) [
         | inl w ↦ w.fresh (λ z. flag s.mine.synced z sa)
-        | inr o ↦ let less : l.to < s.mine.boot = o.left.unsaid up l sent in absurd (omega (arith, less, for_me))
+        | inr o ↦ let less : l.to < s.mine.boot = (o.left.reborn up).unsaid l sent in absurd (omega (arith, less, for_me))
       ] in
       let view : View r i (founds s.mine l.boot (own_ports r i) os part) s.theirs s.their_mail (note i moment Founded ∷ s.trace) = view_heard r i (record (bare s.mine.up s.mine.boot) { synced = true; owned = own_ports r i }) s.theirs s.their_mail (note i moment Founded ∷ s.trace) l.boot os [] part
       (known_new moment i s.mine.up s.mine.boot s.theirs s.trace) can.0.6 can.0.7 tt (λ k. refl)
@@ -100,7 +100,7 @@ module _ (r : Ranges) where
             (λ z u. inl record {
               letters = λ m n q inside to new h. elim (there.awaits z u) [
                 | inl w ↦ flag s.mine.synced (w.letters m n q inside to new h).2 sa
-                | inr o ↦ let less : l.to < s.mine.boot = o.left.unsaid up l sent in absurd (omega (arith, less, for_me))
+                | inr o ↦ let less : l.to < s.mine.boot = (o.left.reborn up).unsaid l sent in absurd (omega (arith, less, for_me))
               ];
               fresh = λ q. fresh u;
               goes = λ y p. (λ h. absurd (cc), λ h. absurd (none_some (translated (s.theirs.table p.key)) p.endpoint (ap translated ((fresh u).table p.key)) h));

@@ -132,6 +132,15 @@ pub record Waits (i : GatewayId) (a b : Box) (their_mail : List Letter) (t : Lis
   pub goes : b.synced ≡ true → GoesAt i a.table t
   pub private : b.synced ≡ true → PrivateAt i a.table t
 
+-- Gateway j is up, in a boot above that of `source`: it has loaded nothing, and nobody ever sent a letter to this boot.
+-- `mail` is the other's.
+pub record Reborn (j : GatewayId) (source b : Box) (mail : List Letter) (t : List Note) : Type 0 where
+  pub later : source.boot < b.boot
+  pub fresh : Fresh b
+  pub goes : GoesAt j b.table t
+  pub private : PrivateAt j b.table t
+  pub unsaid : (l : Letter) → In l mail → l.to < b.boot
+
 -- An unsynced gateway has what a boot of the other left that crashed, or ended, as the last synced one: its letters are
 -- on their way still, by which the gateway may be loaded. `source` is the other's box as it was then.
 pub record Leaves (i : GatewayId) (source a b : Box) (my_mail their_mail : List Letter) (t : List Note) : Type 0 where
@@ -145,12 +154,7 @@ pub record Leaves (i : GatewayId) (source a b : Box) (my_mail their_mail : List 
   pub other_out : b.synced ≡ false
   pub goes : GoesAt i a.table t
   pub private : PrivateAt i a.table t
-  -- what the other is in a later boot: it has loaded nothing, and nobody knows it
-  pub dead : b.up ≡ true → source.boot < b.boot
-  pub fresh : b.up ≡ true → Fresh b
-  pub their_goes : b.up ≡ true → GoesAt (other i) b.table t
-  pub their_private : b.up ≡ true → PrivateAt (other i) b.table t
-  pub unsaid : b.up ≡ true → (l : Letter) → In l my_mail → l.to < b.boot
+  pub reborn : b.up ≡ true → Reborn (other i) source b my_mail t
 
 module _ (r : Ranges) where
   -- Where the ports are. The ghost owner says of each key whose it is, also while its port is on its way or lost, where

@@ -11,7 +11,7 @@ use Rattle.spec_trace.specs.Past.{is_synced, is_open, goes_on, is_private, is_in
 use Rattle.spec_pair.specs.Acts.{Crash, Boot, HearAnew}
 use Rattle.spec_pair.specs.Box.{Box, Letter, booted, crashed, empty, hears_anew}
 use Rattle.spec_pair.proofs.Beside.{side_beside, side_later, alone_beside, view_beside, waits_none, waits_off, leaves_beside}
-use Rattle.spec_pair.proofs.Invariant.{Fresh, Loads, Orphan, Real, View, Waits, Side, Inv}
+use Rattle.spec_pair.proofs.Invariant.{Fresh, Loads, Orphan, Real, Reborn, View, Waits, Side, Inv}
 use Rattle.spec_pair.proofs.Phase.{owns, Phase, shared, covered, alone_in, owner_slot, other_slot, slot_at}
 use Rattle.spec_pair.specs.Ownership.{Ranges}
 use Rattle.spec_pair.specs.Talk.{Slot, translated, note}
@@ -130,7 +130,7 @@ module _ (r : Ranges) where
               o.view.loads;
           left = leaves_beside (other i) b a (crashed a) o.source mb ma t (note i moment Crashed ∷ t) o.left refl (le_refl a.boot)
               (λ g. g) (λ g. private_gone moment (other i) i b.table t g)
-              (λ x. absurd (cc)) (λ x. absurd (cc)) (λ x. absurd (cc)) (λ x. absurd (cc)) (λ x. absurd (cc));
+              (λ x. absurd (cc));
         }
         | inl w ↦ elim (cases_Bool a.synced) [
           | inr out ↦ inl (waits_off (other i) b a (crashed a) ma t (note i moment Crashed ∷ t) w out refl)
@@ -160,11 +160,7 @@ module _ (r : Ranges) where
                   other_out = refl;
                   goes = w.goes sa;
                   private = private_gone moment (other i) i b.table t (w.private sa);
-                  dead = λ x. absurd (cc);
-                  fresh = λ x. absurd (cc);
-                  their_goes = λ x. absurd (cc);
-                  their_private = λ x. absurd (cc);
-                  unsaid = λ x. absurd (cc);
+                  reborn = λ x. absurd (cc);
                 };
               }
             ]
@@ -294,11 +290,13 @@ module _ (r : Ranges) where
                 left = leaves_beside (other i) s.theirs s.mine (booted n) o.source s.their_mail s.my_mail s.trace (note i moment (Booted n) ∷ s.trace) o.left refl older
                     (λ g. goes_boot moment (other i) i n s.theirs.table s.trace (same-not i) g)
                     (λ g. private_boot moment (other i) i n s.theirs.table s.trace (same-not i) g)
-                    (λ z. let le : o.source.boot ≤ s.mine.boot = o.left.older in omega arith)
-                    (λ z. now)
-                    (λ z. subst (λ (j : GatewayId). GoesAt j empty (note i moment (Booted n) ∷ s.trace)) (sym (other-other i)) (goes_none moment i n s.trace))
-                    (λ z. subst (λ (j : GatewayId). PrivateAt j empty (note i moment (Booted n) ∷ s.trace)) (sym (other-other i)) (private_none moment i n s.trace))
-                    (λ z l inside. let le : l.to ≤ s.mine.boot = (there.boots l inside).1 in omega arith);
+                    (λ z. record {
+                      later = (let le : o.source.boot ≤ s.mine.boot = o.left.older in omega arith);
+                      fresh = now;
+                      goes = subst (λ (j : GatewayId). GoesAt j empty (note i moment (Booted n) ∷ s.trace)) (sym (other-other i)) (goes_none moment i n s.trace);
+                      private = subst (λ (j : GatewayId). PrivateAt j empty (note i moment (Booted n) ∷ s.trace)) (sym (other-other i)) (private_none moment i n s.trace);
+                      unsaid = λ l inside. let le : l.to ≤ s.mine.boot = (there.boots l inside).1 in omega arith;
+                    });
               }
             ]);
       }
@@ -341,11 +339,7 @@ module _ (r : Ranges) where
           other_out = o.left.other_out;
           goes = goes_quiet i s.mine.table empty s.trace o.left.goes (λ q. ap translated (sym (f.table q)));
           private = private_quiet i s.mine.table empty s.trace o.left.private (λ q. ap alone_in (sym (f.table q)));
-          dead = o.left.dead;
-          fresh = o.left.fresh;
-          their_goes = o.left.their_goes;
-          their_private = o.left.their_private;
-          unsaid = o.left.unsaid;
+          reborn = o.left.reborn;
         };
       }
 
@@ -427,11 +421,13 @@ module _ (r : Ranges) where
                 left = leaves_beside (other i) s.theirs s.mine (hears_anew s.mine l.boot) o.source s.their_mail s.my_mail s.trace s.trace o.left sa (le_refl s.mine.boot)
                     (λ g. g)
                     (λ g. g)
-                    o.left.dead
-                    (λ z. now)
-                    (λ z. goes_quiet (other (other i)) s.mine.table empty s.trace (o.left.their_goes z) (λ q. ap translated (sym ((o.left.fresh z).table q))))
-                    (λ z. private_quiet (other (other i)) s.mine.table empty s.trace (o.left.their_private z) (λ q. ap alone_in (sym ((o.left.fresh z).table q))))
-                    o.left.unsaid;
+                    (λ z. let x : Reborn (other (other i)) o.source s.mine s.their_mail s.trace = o.left.reborn z in record {
+                      later = x.later;
+                      fresh = now;
+                      goes = goes_quiet (other (other i)) s.mine.table empty s.trace x.goes (λ q. ap translated (sym (x.fresh.table q)));
+                      private = private_quiet (other (other i)) s.mine.table empty s.trace x.private (λ q. ap alone_in (sym (x.fresh.table q)));
+                      unsaid = x.unsaid;
+                    });
               }
             ]);
       }

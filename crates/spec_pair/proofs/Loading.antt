@@ -13,7 +13,7 @@ use Rattle.spec_trace.specs.Past.{is_synced, OnePort, OneEndpoint, Silent, Found
 use Rattle.spec_pair.specs.Acts.{LoadOwner, LoadBegin, LoadPut, LoadDone, LoadSkip, IsMisplaced}
 use Rattle.spec_pair.specs.Box.{owners, takes_owner, Box, Letter, Parcel, record_of, with_pair, HasRoomFor, HasRoom, nth, empty, load, loaded_slot, puts, batch, takes_begin, takes_put, takes_done, In, StandsNext, AreLoadable}
 use Rattle.spec_pair.proofs.Beside.{side_beside, view_beside, waits_none, waits_of}
-use Rattle.spec_pair.proofs.Invariant.{Within, Fresh, Leaves, Naming, Orphan, Part, Loads, Real, View, Waits, Side, Inv}
+use Rattle.spec_pair.proofs.Invariant.{Within, Fresh, Leaves, Naming, Orphan, Part, Loads, Real, Reborn, View, Waits, Side, Inv}
 use Rattle.spec_pair.proofs.Phase.{owns, Phase, closing, covered, alone_in}
 use Rattle.spec_pair.specs.Ownership.{Ranges, Run, keyed, left_to, cut, cuts, in_run, last_named, AreRising, IsRisingRun}
 use Rattle.spec_pair.specs.Talk.{Slot, Free, Live, Held, held, held_on, translated, MachineRecord, Put, Owner, Tell, set_at, note, Done, Begin}
@@ -239,11 +239,13 @@ module _ (r : Ranges) where
         other_out = left.other_out;
         goes = goes;
         private = private;
-        dead = left.dead;
-        fresh = left.fresh;
-        their_goes = λ z. goes_there s.theirs.table (left.their_goes z);
-        their_private = λ z. private_there s.theirs.table (left.their_private z);
-        unsaid = left.unsaid;
+        reborn = λ z. let y : Reborn (other i) x.source s.theirs s.my_mail s.trace = left.reborn z in record {
+          later = y.later;
+          fresh = y.fresh;
+          goes = goes_there s.theirs.table y.goes;
+          private = private_there s.theirs.table y.private;
+          unsaid = y.unsaid;
+        };
       };
     }
   ]
@@ -304,7 +306,7 @@ module _ (r : Ranges) where
             (λ h. elim x.whence [ inl live ↦ inr (subst (λ (b : Box). View r (other i) b a2 s.my_mail t2) live.1 view) | inr left ↦ flag s.theirs.synced h left.other_out ])
             (λ h u. elim x.whence [
               | inl live ↦ flag s.theirs.synced live.0 h
-              | inr left ↦ inl (waits_none (other i) s.theirs a2 a2 s.my_mail t2 sa2 (λ l m q inside to new nn. let less : l.to < s.theirs.boot = left.unsaid u l inside in omega arith) (left.fresh u))
+              | inr left ↦ inl (waits_none (other i) s.theirs a2 a2 s.my_mail t2 sa2 (λ l m q inside to new nn. let less : l.to < s.theirs.boot = (left.reborn u).unsaid l inside in omega arith) (left.reborn u).fresh)
             ]);
       }
 
@@ -550,7 +552,7 @@ module _ (r : Ranges) where
                 my_view.two
                 (λ z. flag s.theirs.synced z left.other_out)
                 (λ m p. absurd (cc))
-                (λ z u p. let d : x.source.boot < s.theirs.boot = left.dead u in let e : s.mine.peer ≡ x.source.boot = x.peer in let f : s.mine.peer ≡ s.theirs.boot = p in absurd (omega arith))
+                (λ z u p. let d : x.source.boot < s.theirs.boot = (left.reborn u).later in let e : s.mine.peer ≡ x.source.boot = x.peer in let f : s.mine.peer ≡ s.theirs.boot = p in absurd (omega arith))
           ]);
           awaits = λ h u. absurd (cc);
         };
@@ -560,16 +562,16 @@ module _ (r : Ranges) where
             there.private
             (λ z u y o m inside to k. elim x.whence [
               | inl live ↦ flag s.theirs.synced live.0 y
-              | inr left ↦ let less : m.to < s.theirs.boot = left.unsaid u m inside in absurd (omega arith)
+              | inr left ↦ let less : m.to < s.theirs.boot = (left.reborn u).unsaid m inside in absurd (omega arith)
             ])
             (λ h. elim x.whence [ inl live ↦ inr (subst (λ (b : Box). View r (other i) b a2 s.my_mail t2) live.1 theirs_view) | inr left ↦ flag s.theirs.synced h left.other_out ])
             (λ h u. elim x.whence [
               | inl live ↦ flag s.theirs.synced live.0 h
               | inr left ↦ inl record {
-                letters = λ m k q inside to new nn. let less : m.to < s.theirs.boot = left.unsaid u m inside in absurd (omega arith);
-                fresh = λ z. left.fresh u;
-                goes = λ z. left.their_goes u;
-                private = λ z. left.their_private u;
+                letters = λ m k q inside to new nn. let less : m.to < s.theirs.boot = (left.reborn u).unsaid m inside in absurd (omega arith);
+                fresh = λ z. (left.reborn u).fresh;
+                goes = λ z. (left.reborn u).goes;
+                private = λ z. (left.reborn u).private;
               }
             ]);
       }

@@ -73,7 +73,7 @@ module _ (r : Ranges) where
           let none : s.theirs.taken ≡ 0 = view.taken ∙ ap length x.heard_is in omega (arith, none))
       | inr z ↦ elim (v.there.awaits z t.their_up) [
         | inl w ↦ (let none = (w.fresh (λ y. absurd (both_ways s.mine.synced n y))).taken in omega (arith, none))
-        | inr o ↦ (let low = o.left.peer_at in let dead = o.left.dead t.up in let back = t.back in absurd (omega (arith, low, dead, back)))
+        | inr o ↦ (let low = o.left.peer_at in let dead = (o.left.reborn t.up).later in let back = t.back in absurd (omega (arith, low, dead, back)))
       ]
     ]
   ]

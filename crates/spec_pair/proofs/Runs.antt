@@ -532,14 +532,14 @@ wanting-allowed = (
 abbrev pub Wanted : Scene
 Wanted = after_events six_ports wanting Shared
 
-wanted-allowed : (xs : List MachineEvent) → AreAllowed six_ports xs Wanted → AreAllowed six_ports (sharing ++ wanting ++ xs) (founding six_ports)
+pub wanted-allowed : (xs : List MachineEvent) → AreAllowed six_ports xs Wanted → AreAllowed six_ports (sharing ++ wanting ++ xs) (founding six_ports)
 wanted-allowed xs a = allowed_join six_ports sharing (wanting ++ xs) (founding six_ports) sharing-allowed (allowed_join six_ports wanting xs Shared wanting-allowed a)
 
 -- while a Grant is under way its two ports are owned by nobody
 pub wanting_leaves : LeavesPorts (sharing ++ wanting) loading_notes (20000 ∷ 20001 ∷ []) (40000 ∷ 40001 ∷ [])
 wanting_leaves = record { allowed = allowed_join six_ports sharing wanting (founding six_ports) sharing-allowed wanting-allowed; trace_is = refl; zero_is = refl; one_is = refl }
 
-granting-allowed : AreAllowed six_ports granting Wanted
+pub granting-allowed : AreAllowed six_ports granting Wanted
 unfolding same_key
 granting-allowed = (
   ((refl, refl, refl, (λ p. (λ h. h, λ h inside off idle. h)), record { up = refl; boot = refl; to = refl; number = refl; record_is = refl }), λ l h. elim h [ inl e ↦ inl e | inr b ↦ absurd b ], tt),

@@ -8,7 +8,7 @@ use Rattle.nat_types.specs.declared.notes.Note.{Note}
 use Rattle.spec_pair.specs.Acts.{Send, End, MaySend}
 use Rattle.spec_pair.specs.Box.{Box, Letter, In, IsLacking, batch, last_letter, nth, letter}
 use Rattle.spec_pair.proofs.Beside.{view_beside}
-use Rattle.spec_pair.proofs.Invariant.{Loads, Orphan, View, Waits, Within, Side, Inv}
+use Rattle.spec_pair.proofs.Invariant.{Loads, Orphan, Reborn, View, Waits, Within, Side, Inv}
 use Rattle.spec_pair.proofs.Lives.{crash_here, crash_there}
 use Rattle.spec_pair.specs.Ownership.{Ranges}
 use Rattle.spec_pair.specs.Talk.{MachineRecord}
@@ -74,14 +74,16 @@ module _ (r : Ranges) where
         other_out = o.left.other_out;
         goes = o.left.goes;
         private = o.left.private;
-        dead = o.left.dead;
-        fresh = o.left.fresh;
-        their_goes = o.left.their_goes;
-        their_private = o.left.their_private;
-        unsaid = λ z l inside. elim inside [
-          | inl e ↦ (let p : a.peer ≤ o.source.boot = o.left.peer_at in let d : o.source.boot < b.boot = o.left.dead z in let f : l.to ≡ a.peer = ap (λ (y : Letter). y.to) e ∙ x.to in omega arith)
-          | inr old ↦ o.left.unsaid z l old
-        ];
+        reborn = λ z. let y : Reborn (other i) o.source b ma t = o.left.reborn z in record {
+          later = y.later;
+          fresh = y.fresh;
+          goes = y.goes;
+          private = y.private;
+          unsaid = λ l inside. elim inside [
+            | inl e ↦ (let p : a.peer ≤ o.source.boot = o.left.peer_at in let d : o.source.boot < b.boot = y.later in let f : l.to ≡ a.peer = ap (λ (m : Letter). m.to) e ∙ x.to in omega arith)
+            | inr old ↦ y.unsaid l old
+          ];
+        };
       };
     }
 
@@ -171,11 +173,7 @@ module _ (r : Ranges) where
                 other_out = o.left.other_out;
                 goes = o.left.goes;
                 private = o.left.private;
-                dead = o.left.dead;
-                fresh = o.left.fresh;
-                their_goes = o.left.their_goes;
-                their_private = o.left.their_private;
-                unsaid = o.left.unsaid;
+                reborn = o.left.reborn;
               };
             }
       ]

@@ -5,10 +5,10 @@ use Rattle.nat_types.specs.declared.gateways.GatewayId.TheVariants.{Zero, One}
 use Rattle.nat_types.specs.declared.notes.NoteKind.TheVariants.{Used, Retaken, Synced, Founded, Crashed, Booted}
 use Rattle.nat_types.specs.declared.notes.Note.{Note}
 use Rattle.nat_types.specs.declared.pairs.Pair.{Pair}
-use Rattle.spec_pair.specs.Acts.{BootFounding, Boot, Crash, Do, End, Found, Hear, HearAnew, LoadBegin, LoadDone, LoadPut, LoneNew, LoneUse, PeerEnds, Send, Take}
+use Rattle.spec_pair.specs.Acts.{BootFounding, Boot, Crash, Do, End, Found, Hear, HearAnew, LoadBegin, LoadDone, LoadOwner, LoadPut, LoneNew, LoneUse, PeerEnds, Send, Take}
 use Rattle.spec_pair.specs.Box.{Letter}
-use Rattle.spec_pair.specs.Rows.{Placed, empty_batch, hello, hello_2, host, k1, letter_of, one_at, pair_p, pair_q, parcel_p, slot_on, udp, zero_at}
-use Rattle.spec_pair.specs.Talk.{Accept, Agree, Agreed, Begin, Done, Held, Install, Live, Propose, Put, Use, note, pair_of}
+use Rattle.spec_pair.specs.Rows.{Placed, empty_batch, hello, hello_2, host, k1, letter_of, one_at, pair_p, pair_q, parcel_p, run_of, slot_on, udp, zero_at}
+use Rattle.spec_pair.specs.Talk.{Accept, Agree, Agreed, Begin, Done, Held, Install, Live, Owner, Propose, Put, Use, note, pair_of}
 use Rattle.spec_pair.specs.World.{MachineEvent}
 
 -- gateway 1's letter by which it says that it lacks a table to boot 1 of gateway 0
@@ -172,4 +172,36 @@ by_word_notes =
     ∷ note One 0 Founded
     ∷ note One 5 (Retaken (pair_of k1 (host 5000)))
     ∷ note One 5 (Used (pair_of k1 (host 5000)))
+    ∷ []
+
+-- gateway 0's batch of an empty table with its ports, between the second boots of both
+abbrev pub ports_batch : Letter
+ports_batch = letter_of 2 2 0 (Begin ∷ Owner 20000 20001 ∷ Done ∷ [])
+
+-- Ports have moved when both gateways crash. Gateway 0 founds the pair again: each has its own ports.
+abbrev pub ports_back : List MachineEvent
+ports_back =
+    zero_at 40 Crash
+    ∷ one_at 40 Crash
+    ∷ zero_at 0 (Boot 2)
+    ∷ one_at 0 (Boot 2)
+    ∷ zero_at 0 (Send 0 0)
+    ∷ one_at 1 (HearAnew hello_2)
+    ∷ one_at 1 (Send 0 0)
+    ∷ zero_at 1 (Found lacking_2 (run_of 20000 20001 ∷ []) false)
+    ∷ zero_at 1 (Send 0 3)
+    ∷ one_at 2 (LoadBegin ports_batch 0)
+    ∷ one_at 2 (LoadOwner ports_batch 1 20000 20001)
+    ∷ one_at 2 (LoadDone ports_batch 2)
+    ∷ []
+
+-- the notes of `ports_back`
+abbrev pub ports_back_notes : List Note
+ports_back_notes =
+    note Zero 40 Crashed
+    ∷ note One 40 Crashed
+    ∷ note Zero 0 (Booted 2)
+    ∷ note One 0 (Booted 2)
+    ∷ note Zero 1 Founded
+    ∷ note One 2 Synced
     ∷ []

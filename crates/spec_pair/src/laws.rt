@@ -20,7 +20,7 @@ ghost use Rattle.spec_pair.specs.Rows.{live_first, held_first, LeadsFrom, LeadsT
 ghost use Rattle.spec_pair.specs.RecordTable.{AreFacts, DoesTake, Facts, act_by_table, becomes_owned, told};
 ghost use Rattle.spec_pair.specs.Step.{IsOff, IsStep, ReadsOnly, WasSent};
 ghost use Rattle.spec_pair.specs.AloneRows.{made_alone, made_alone_notes, meeting, meeting_notes, pair_b, pair_c, reloading, reloading_notes, tell_crosses, tell_crosses_notes, going_on, going_on_notes, taking_back, taking_back_notes, dying, dying_notes};
-ghost use Rattle.spec_pair.specs.EraRows.{by_word, by_word_notes, coming_up, coming_up_notes, ending, ending_notes, found_again, found_again_notes, held_anew, live_anew, saving, saving_notes};
+ghost use Rattle.spec_pair.specs.EraRows.{by_word, by_word_notes, coming_up, coming_up_notes, ending, ending_notes, found_again, found_again_notes, held_anew, live_anew, ports_back, ports_back_notes, saving, saving_notes};
 ghost use Rattle.spec_pair.specs.Talk.{Adopt, Alone, Free, Held, Live, MachineRecord, Pending, Slot, Tell, pair_of};
 ghost use Rattle.spec_pair.specs.World.{AreAllowed, Can, EndsBy, MachineEvent, HasOwners, TableHolds, IsKept, IsWorld, Scene, TableTranslates, box_in, after_act, after_event, flip, mail_in, after_events, seen_by, beginning, nobody, tables_of, with_step};
 
@@ -212,9 +212,9 @@ pub fn never_stuck()
 {}
 
 /// A gateway that is up may always send a letter that tells its boot (`said`). Where the other hasn't heard that boot, the
-/// other may hear it: unsynced (`anew`), or synced with the pairs and runs of its batch (`heard`). Then
-/// one gateway fewer hasn't heard (`fewer_anew`, `fewer_heard`). Where both have heard, they are in one session, and
-/// neither is lone (`together`).
+/// other may hear it: unsynced (`anew`), or synced with the pairs and runs of its batch (`heard`). Then one gateway fewer
+/// hasn't heard (`fewer_anew`, `fewer_heard`). Where both are up and have heard, they are in one session, and neither is
+/// lone (`together`).
 pub fn hears_next()
     ensures said { (r : Ranges) (s : Scene) (i : GatewayId) → IsWorld r s →
         let v = seen_by i s in v.theirs.up ≡ true → Can r (other i) (flip v) (Send 0 1) }
@@ -359,7 +359,7 @@ pub fn alone_rows_lead()
 /// Whole runs over eras. With nobody up both gateways boot, and gateway 0 founds the pair by what it hears (`first`). Both
 /// crash while a pair is in use, and are founded again: the port serves another host (`again`). The last synced gateway
 /// crashes, and the other is loaded by the batch that it left (`saved`). A gateway ends, and the other makes pairs at
-/// once (`ended`). A boot of gateway 1 founds the pair (`by_word`).
+/// once (`ended`). A boot of gateway 1 founds the pair (`by_word`). Ports that moved are back in the next era (`ports_back`).
 pub fn era_rows_lead()
     ensures first { LeadsFrom nobody two_ranges coming_up (nobody_up ∷ coming_up_notes) [] [] }
     ensures again { LeadsTo two_ranges (loading ++ using ++ found_again)
@@ -370,6 +370,9 @@ pub fn era_rows_lead()
         (slot_on 20001 (Live (host 5001)) ∷ live_first) [] }
     ensures by_word { LeadsFrom nobody two_ranges by_word (nobody_up ∷ by_word_notes) []
         (slot_on 40000 (Live (host 5000)) ∷ []) }
+    ensures ports_back { LeavesPorts (sharing ++ wanting ++ granting ++ ports_back)
+        (loading_notes ++ ports_back_notes) (20000 ∷ 20001 ∷ [])
+        (40000 ∷ 40001 ∷ 40002 ∷ 40003 ∷ []) }
 {}
 
 /// Whole runs with six ports that move. While a Grant is on its way its ports are nobody's; then they are the asker's.

@@ -15,3 +15,6 @@ returns-clause-ended c = laws.ending_leads
 
 pub returns-clause-by_word : goal.returns-clause-by_word
 returns-clause-by_word c = laws.word_leads
+
+pub returns-clause-ports_back : goal.returns-clause-ports_back
+returns-clause-ports_back c = laws.back_leaves
