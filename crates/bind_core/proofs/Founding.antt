@@ -81,13 +81,16 @@ range-kept id t bounds range is same = same ∙ ap (λ (z : PortBounds). own_bou
 
 -- a gateway without a table that is alone is the founder
 pub founder-book : (c : Core) (id : GatewayId) (zero one : PortBounds) (rules : Rules) → book_of c ≡ empty_book id zero one rules → founded_with Lone at.Over c ≡ founded_book id zero one rules
-founder-book c id zero one rules empty = ap (λ (b : Book). let x : Book = record b { stage = Lone; owned = own_ports b; coming = [] } in x) empty
+founder-book c id z o rules empty = ap (λ (b : Book). let x : Book = record b { stage = Lone; owned = own_ports b; coming = [] } in x) empty
 
 -- a gateway whose table was emptied founds the pair
 pub anew-book : (c c1 : Core) (cursor : Cursor) → cursor ≡ at.Begin → book_of c1 ≡ emptied (book_of c) → founded_with Paired cursor c1 ≡ founded_again (book_of c)
 anew-book c c1 cursor start empty =
     ap (λ (k : Cursor). founded_with Paired k c1) start
     ∙ ap (λ (b : Book). let x : Book = record b { stage = Paired; owned = own_ports b; coming = batch_of (own_ports b) b.entries } in x) empty
+
+pub anew-founded : (c c1 c2 : Core) (cursor : Cursor) → cursor ≡ at.Begin → book_of c1 ≡ emptied (book_of c) → book_of c2 ≡ founded_with Paired cursor c1 → book_of c2 ≡ founded_again (book_of c)
+anew-founded c c1 c2 cursor start empty book = book ∙ anew-book c c1 cursor start empty
 
 pub anew-ledger : (c c2 : Core) → book_of c2 ≡ founded_again (book_of c) → c2.table.lives ≡ [] → c2.inward_refresh ≡ c.inward_refresh → c2.table.hashers ≡ c.table.hashers → ledger_of c2 ≡ founded_ledger (ledger_of c)
 anew-ledger c c2 book lives refresh hashers = ledger-parts c2 _ _ _ _ book lives refresh hashers

@@ -4,14 +4,13 @@ use Rattle.std.proofs.lemmas.List.{append-nil}
 use Rattle.nat_types.specs.declared.notes.Note.{Note}
 use Rattle.nat_types.specs.declared.records.Record.{Record}
 use Rattle.nat_types.specs.declared.records.Record.TheVariants as record_of
-use Rattle.link.specs.Link.{Link}
 use Rattle.output.specs.Output.{Output}
 use Rattle.spec_binding.specs.declared.changes.Change.{Change}
 use Rattle.spec_binding.specs.declared.changes.Change.TheVariants as change_of
 use Rattle.spec_binding.specs.declared.changes.Transition.{Transition}
 use Rattle.spec_binding.specs.Books.{Book, IsBook, is_paired, is_synced}
 use Rattle.spec_binding.specs.Ledgers.{rests_for, taken_ledger}
-use Rattle.spec_binding.specs.Rows.{after, ahead_row, answered, behind, changed, is_full, quiet, row, row_of, taken_answer, taken_behind, taken_book, unsynced_after}
+use Rattle.spec_binding.specs.Rows.{after, ahead_row, answered, behind, changed, is_full, quiet, row, row_of, taken_answer, unsynced_after}
 use Rattle.spec_binding.proofs.Offered.{change-keeps, either-ahead, paired-is}
 use Rattle.spec_step.specs.Parts.{by_row, by_row_and_behind, by_row_behind, record_taken}
 use Rattle.spec_step.specs.Shown.{GatewayAndOutput, Shown, scene}

@@ -8,4 +8,4 @@ pub returns-clause-batch : goal.returns-clause-batch
 returns-clause-batch c = rw (← c.self.view_is) (revived-few c.self.inside.table c.recall.ensures)
 
 pub returns-clause-founding : goal.returns-clause-founding
-returns-clause-founding c = rw (← c.self.view_is) (founding-few (book_of (core_of c.self.inside)) c.self.inside.table.capacity c.self.invariant.book.zero c.self.invariant.book.one c.recall.ensures.capacity (c.rows_leave.ensures.founding (book_of (core_of c.self.inside))))
+returns-clause-founding c = rw (← c.self.view_is) (founding-few (book_of (core_of c.self.inside)) c.self.inside.table.capacity c.self.invariant.book.zero c.self.invariant.book.one c.recall.ensures.room (c.rows_leave.ensures.founding (book_of (core_of c.self.inside))))
