@@ -16,7 +16,7 @@ use Rattle.frame_sim.proofs.worlds.World.boot.Goals as goal
 
 pub invariant_of-self-in-Zero : goal.invariant_of-self-in-Zero
 invariant_of-self-in-Zero c =
-    let w : World = record { settings = c.self.inside.settings.now; settings_one = c.self.inside.settings_one.now; zero = c.self.inside.zero; one = c.self.inside.one; trace = c.self.inside.trace.items } in
+    let w : World = record { settings = c.self.inside.settings.now; settings_one = c.self.inside.settings_one.now; founded = c.self.inside.founded; zero = c.self.inside.zero; one = c.self.inside.one; trace = c.self.inside.trace.items } in
     let n = c.args.number in
     let may = subst (λ (x : World). may_boot x c.args.id n ≡ true) (sym c.self.view_is) (sym c.may_boot.ensures ∙ (let f : c.may_boot.result ≡ true = cc in f)) in
     let may2 = subst (λ (i : GatewayId). may_boot w i n ≡ true) c.in-Zero.is may in
@@ -28,7 +28,7 @@ invariant_of-self-in-Zero c =
 
 pub invariant_of-self-in-One : goal.invariant_of-self-in-One
 invariant_of-self-in-One c =
-    let w : World = record { settings = c.self.inside.settings.now; settings_one = c.self.inside.settings_one.now; zero = c.self.inside.zero; one = c.self.inside.one; trace = c.self.inside.trace.items } in
+    let w : World = record { settings = c.self.inside.settings.now; settings_one = c.self.inside.settings_one.now; founded = c.self.inside.founded; zero = c.self.inside.zero; one = c.self.inside.one; trace = c.self.inside.trace.items } in
     let n = c.args.number in
     let may = subst (λ (x : World). may_boot x c.args.id n ≡ true) (sym c.self.view_is) (sym c.may_boot.ensures ∙ (let f : c.may_boot.result ≡ true = cc in f)) in
     let may2 = subst (λ (i : GatewayId). may_boot w i n ≡ true) c.in-One.is may in
@@ -41,5 +41,5 @@ invariant_of-self-in-One c =
 pub returns-in-Err : goal.returns-in-Err
 returns-in-Err c =
     let may : may_boot c.args.self.now c.args.id c.args.number ≡ true = sym c.may_boot.ensures ∙ (let f : c.may_boot.result ≡ true = cc in f) in
-    let same = ap (λ (notes : List Note). let x : World = record { settings = c.self.inside.settings.now; settings_one = c.self.inside.settings_one.now; zero = c.self.inside.zero; one = c.self.inside.one; trace = notes } in x) c.in-Err.ensures.unnoted in
+    let same = ap (λ (notes : List Note). let x : World = record { settings = c.self.inside.settings.now; settings_one = c.self.inside.settings_one.now; founded = c.self.inside.founded; zero = c.self.inside.zero; one = c.self.inside.one; trace = notes } in x) c.in-Err.ensures.unnoted in
     (ap (λ (b : Bool). fault_of (unless b PremiseBroken)) (sym may), (λ is. inr c.in-Err.ensures.short), c.in-Err.ensures.untold, same ∙ c.self.view_is)

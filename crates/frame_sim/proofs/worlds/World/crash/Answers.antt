@@ -10,7 +10,7 @@ use Rattle.frame_sim.proofs.worlds.World.crash.Goals as goal
 
 pub invariant_of-self-in-Zero : goal.invariant_of-self-in-Zero
 invariant_of-self-in-Zero c =
-    let w : World = record { settings = c.self.inside.settings.now; settings_one = c.self.inside.settings_one.now; zero = c.self.inside.zero; one = c.self.inside.one; trace = c.self.inside.trace.items } in
+    let w : World = record { settings = c.self.inside.settings.now; settings_one = c.self.inside.settings_one.now; founded = c.self.inside.founded; zero = c.self.inside.zero; one = c.self.inside.one; trace = c.self.inside.trace.items } in
     let may = subst (λ (x : World). may_crash x c.args.id ≡ true) (sym c.self.view_is) (sym c.may_crash.ensures ∙ (let f : c.may_crash.result ≡ true = cc in f)) in
     let may2 = subst (λ (i : GatewayId). may_crash w i ≡ true) c.in-Zero.is may in
     let noted = c.in_ok-note_both.ensures.trace ∙ ap (λ (i : GatewayId). w.trace ++ noting i c.moment.result Crashed ∷ []) c.in-Zero.is in
@@ -18,7 +18,7 @@ invariant_of-self-in-Zero c =
 
 pub invariant_of-self-in-One : goal.invariant_of-self-in-One
 invariant_of-self-in-One c =
-    let w : World = record { settings = c.self.inside.settings.now; settings_one = c.self.inside.settings_one.now; zero = c.self.inside.zero; one = c.self.inside.one; trace = c.self.inside.trace.items } in
+    let w : World = record { settings = c.self.inside.settings.now; settings_one = c.self.inside.settings_one.now; founded = c.self.inside.founded; zero = c.self.inside.zero; one = c.self.inside.one; trace = c.self.inside.trace.items } in
     let may = subst (λ (x : World). may_crash x c.args.id ≡ true) (sym c.self.view_is) (sym c.may_crash.ensures ∙ (let f : c.may_crash.result ≡ true = cc in f)) in
     let may2 = subst (λ (i : GatewayId). may_crash w i ≡ true) c.in-One.is may in
     let noted = c.in_ok-note_both.ensures.trace ∙ ap (λ (i : GatewayId). w.trace ++ noting i c.moment.result Crashed ∷ []) c.in-One.is in
