@@ -674,7 +674,8 @@ impl<'a> World<'a> {
     fn may_crash(&self, id: GatewayId) -> bool
         ensures { result ≡ may_crash self.now id }
     {
-        self.half(id).up()
+        let gateway = self.half(id);
+        gateway.up()
     }
 
     fn may_found(&self, id: GatewayId, number: u64) -> bool
