@@ -30,15 +30,15 @@ abbrev with-choice : Shown → Choice → Shown
 with-choice g choice = record g { ledger = record g.ledger { book = record g.ledger.book { choice = choice } } }
 
 -- a gateway begins with the fixed secrets
-either-fixed : (settings : Settings) (id : GatewayId) (boot : ℕ) (found : Bool) → with_secrets fixed (if found then founded settings boot else begun settings id boot) ≡ (if found then founded settings boot else begun settings id boot)
+either-fixed : (settings : Settings) (id : GatewayId) (boot : ℕ) (found : Bool) → with_secrets fixed (if found then founded settings id boot else begun settings id boot) ≡ (if found then founded settings id boot else begun settings id boot)
 unfolding founded begun
-either-fixed settings id boot true = ap (with-choice (founded settings boot)) (keyed-is settings.choice)
+either-fixed settings id boot true = ap (with-choice (founded settings id boot)) (keyed-is settings.choice)
 either-fixed settings id boot false = ap (with-choice (begun settings id boot)) (keyed-is settings.choice)
 
 pub fixed-begins : (settings : Settings) (id : GatewayId) (boot : ℕ) (found : Bool) (secrets : Secrets) → is_drawn secrets.hashers ≡ false → secrets.key ≡ zero_key
-    → with_secrets secrets (if found then founded settings boot else begun settings id boot) ≡ (if found then founded settings boot else begun settings id boot)
+    → with_secrets secrets (if found then founded settings id boot else begun settings id boot) ≡ (if found then founded settings id boot else begun settings id boot)
 fixed-begins settings id boot found secrets hashers key =
-    let g : Shown = if found then founded settings boot else begun settings id boot in
+    let g : Shown = if found then founded settings id boot else begun settings id boot in
     ap (λ (h : Hashers). let s : Secrets = record { hashers = h; key = secrets.key } in with_secrets s g) (hashers-are secrets.hashers hashers)
     ∙ ap (λ k. let s : Secrets = record { hashers = Fixed; key = k } in with_secrets s g) key
     ∙ either-fixed settings id boot found

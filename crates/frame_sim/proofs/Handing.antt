@@ -14,20 +14,21 @@ use Rattle.frame_sim.specs.Scene.{IsHanded, box_at}
 use Rattle.frame_sim.proofs.Mails.{in-mail}
 
 pub hands-frame : (w : World) (i : GatewayId) (side : Side) (bytes : Bor (List ℕ)) → IsHanded w i (given.Frame side bytes)
-hands-frame w i side bytes = record { letters = λ l h. absurd h; words = λ h n m. absurd m }
+hands-frame w i side bytes = record { further = tt; letters = λ l h. absurd h; words = λ h n m. absurd m }
 
 pub hands-tick : (w : World) (i : GatewayId) (moment : ℕ) → IsHanded w i (given.Tick moment)
-hands-tick w i moment = record { letters = λ l h. absurd h; words = λ h n m. absurd m }
+hands-tick w i moment = record { further = tt; letters = λ l h. absurd h; words = λ h n m. absurd m }
 
 pub hands-side : (w : World) (i : GatewayId) (side : Side) (up : Bool) → IsHanded w i (given.Side side up)
-hands-side w i side up = record { letters = λ l h. absurd h; words = λ h n m. absurd m }
+hands-side w i side up = record { further = tt; letters = λ l h. absurd h; words = λ h n m. absurd m }
 
 pub hands-stop : (w : World) (i : GatewayId) → IsHanded w i given.Stop
-hands-stop w i = record { letters = λ l h. absurd h; words = λ h n m. absurd m }
+hands-stop w i = record { further = tt; letters = λ l h. absurd h; words = λ h n m. absurd m }
 
 -- a datagram that the other gateway sent may be given
 pub hands-datagram : (w : World) (i : GatewayId) (k : ℕ) (bytes : Bor (List ℕ)) → datagram_for w i k ≡ Some bytes.now → IsHanded w i (given.Datagram bytes)
 hands-datagram w i k bytes at = record {
+  further = tt;
   letters = λ l h. in-mail l (half w (other i)).sent k bytes.now at h;
   words = λ h n m. absurd m;
 }
@@ -45,6 +46,7 @@ hands-word w i n may =
     let three = and_parts (nat_lt 0 n) (o.boot == n) two.1 in
     let boot : o.boot ≡ n = eqb-true o.boot n three.1 in
     record {
+      further = tt;
       letters = λ l h. absurd h;
       words = λ h m is. elim is [
         | inl same ↦ (let down = down-of (gateway_at w (other i)) o.boot h (not-true (is_up (gateway_at w (other i))) two.0) in (down.0, same ∙ sym boot ∙ sym down.1))

@@ -6,7 +6,7 @@ use Rattle.output.specs.Output.{Output}
 use Rattle.spec_pair.specs.Box.{Letter}
 use Rattle.spec_pair.specs.Step.{IsOff, WasSent}
 use Rattle.spec_step.specs.declared.events.Event.{Event}
-use Rattle.spec_step.specs.Machine.{HasBytes, letters_in, words_in}
+use Rattle.spec_step.specs.Machine.{GoesFurther, HasBytes, letters_in, words_in}
 use Rattle.spec_step.specs.Shown.{scene}
 use Rattle.spec_step.specs.Steps.{IsStepOn}
 use Rattle.spec_gateway.specs.Inner.{StandsFor, TakesNothing, TakesWhole}
@@ -21,6 +21,7 @@ pub record IsInnerStep (s : GatewayState) (told : Output) (event : Event) (s2 : 
   pub whole : Output
   pub step : IsStepOn (scene s.shown told) inner (scene s2.shown whole)
   pub bytes : HasBytes inner
+  pub further : GoesFurther event → GoesFurther inner
   pub letters : letters_in inner ≡ letters_in event
   pub words : words_in inner ≡ words_in event
   pub notes : told2.notes ≡ whole.notes
@@ -58,6 +59,10 @@ same-words : (event whole : Event) → StandsFor event whole → words_in whole 
 same-words event whole (inl same) = ap words_in same
 same-words event whole (inr f) = ap words_in f.whole_is ∙ sym (ap words_in f.event_is)
 
+same-way : (event whole : Event) → StandsFor event whole → GoesFurther event → GoesFurther whole
+same-way event whole (inl same) further = subst GoesFurther (sym same) further
+same-way event whole (inr f) further = subst GoesFurther (sym f.whole_is) tt
+
 pub inner-steps : Either → SameNotes → SameDatagrams → InnerSteps
 inner-steps either notes datagrams s told event s2 told2 step bytes parts = by (either s told event s2 told2 step)
   where
@@ -72,6 +77,7 @@ inner-steps either notes datagrams s told event s2 told2 step bytes parts = by (
       whole = step.whole;
       step = x.is;
       bytes = x.bytes bytes parts;
+      further = same-way event x.whole x.stands;
       letters = same-letters event x.whole x.stands;
       words = same-words event x.whole x.stands;
       notes = notes s told event s2 told2 step;
@@ -79,8 +85,9 @@ inner-steps either notes datagrams s told event s2 told2 step bytes parts = by (
     })
 
 -- an event with the same letters and words may be given, too
-pub inner-handed : (w : World) (i : GatewayId) (event inner : Event) → letters_in inner ≡ letters_in event → words_in inner ≡ words_in event → IsHanded w i event → IsHanded w i inner
-inner-handed w i event inner letters words handed = record {
+pub inner-handed : (w : World) (i : GatewayId) (event inner : Event) → (GoesFurther event → GoesFurther inner) → letters_in inner ≡ letters_in event → words_in inner ≡ words_in event → IsHanded w i event → IsHanded w i inner
+inner-handed w i event inner further letters words handed = record {
+  further = further handed.further;
   letters = subst (λ (ls : List Letter). WasSent ls (mail_of (half w (other i)).sent)) (sym letters) handed.letters;
   words = λ h. subst (λ (ws : List ℕ). IsOff ws (box_at (gateway_at w (other i)) (half w (other i)).boot h)) (sym words) (handed.words h);
 }

@@ -25,7 +25,7 @@ use Rattle.spec_pair.specs.World.{box_in}
 use Rattle.spec_pair.specs.Mapped.{slot_in}
 use Rattle.spec_binding.specs.Machine.{machine_slot, slots_of}
 use Rattle.spec_step.specs.Shown.{Shown}
-use Rattle.frame_sim.specs.World.{HasKeys, World, gateway_at, half, entries_of, synced_at, ShowsSynced, Holds, IsKeptTogether, IsShared, Translates}
+use Rattle.frame_sim.specs.World.{HasKeys, World, gateway_at, half, entries_of, synced_at, trace_of, ShowsSynced, Holds, IsKeptTogether, IsShared, Translates}
 use Rattle.frame_sim.specs.Scene.{IsSound, box_at, ranges_of, scene_of}
 use Rattle.frame_sim.proofs.Stepping.{box-is}
 use Rattle.frame_sim.proofs.Turning.{synced-of}
@@ -158,9 +158,9 @@ translates-on w pushed t zero one goes i synced p = at i (goes i synced p)
     at One h = over h (at-translated (gateway_at w One) w.one.boot (pushed One) p one)
 
 -- a box is synced exactly where its gateway is
-pub shows-synced : (w : World) (pushed : GatewayId → List Record) → ((i : GatewayId) → (box_in (scene_of w pushed) i).synced ≡ is_synced i (reverse w.trace)) → ShowsSynced w
+pub shows-synced : (w : World) (pushed : GatewayId → List Record) → ((i : GatewayId) → (box_in (scene_of w pushed) i).synced ≡ is_synced i (reverse (trace_of w))) → ShowsSynced w
 shows-synced w pushed says i =
-    let same : synced_at (gateway_at w i) ≡ is_synced i (reverse w.trace) =
+    let same : synced_at (gateway_at w i) ≡ is_synced i (reverse (trace_of w)) =
     sym (ap (λ (b : Box). b.synced) (box-is w pushed i) ∙ synced-of (gateway_at w i) (half w i).boot (pushed i)) ∙ says i in
     (λ h. subst IsTrue same h, λ h. subst IsTrue (sym same) h)
 
@@ -189,28 +189,28 @@ PlainFits = (r : Ranges) (s : machine_world.Scene) (trace : List Note) → machi
 abbrev pub PlainKeeps : Type 0
 PlainKeeps = (r : Ranges) (s : machine_world.Scene) (trace : List Note) → machine_world.IsWorld r s → s.trace ≡ reverse trace → plain.IsPlain (reverse trace) → plain.Kept (machine_world.TableHolds (machine_world.tables_of s)) (reverse trace)
 
-pub sound-promise : (P : List Note → Type 0) → Promises P → (w : World) → IsSound w → P w.trace
-sound-promise P law w sound = law (ranges_of w.settings.ports) (scene_of w sound.pushed) w.trace sound.scene refl
+pub sound-promise : (P : List Note → Type 0) → Promises P → (w : World) → IsSound w → P (trace_of w)
+sound-promise P law w sound = law (ranges_of w.settings.ports) (scene_of w sound.pushed) (trace_of w) sound.scene refl
 
-pub sound-two : Twos → (w : World) → HasKeys (gateway_at w Zero) → HasKeys (gateway_at w One) → IsSound w → AtMostTwo (Holds w) w.trace
-sound-two law w zero one sound = holds-two w sound.pushed w.trace zero one (law (ranges_of w.settings.ports) (scene_of w sound.pushed) w.trace sound.scene refl)
+pub sound-two : Twos → (w : World) → HasKeys (gateway_at w Zero) → HasKeys (gateway_at w One) → IsSound w → AtMostTwo (Holds w) (trace_of w)
+sound-two law w zero one sound = holds-two w sound.pushed (trace_of w) zero one (law (ranges_of w.settings.ports) (scene_of w sound.pushed) (trace_of w) sound.scene refl)
 
-pub sound-plain : PlainFits → PlainKeeps → (w : World) → IsSound w → GoesOn (Translates w) w.trace → plain.IsPlain (reverse w.trace) → IsKeptTogether w
+pub sound-plain : PlainFits → PlainKeeps → (w : World) → IsSound w → GoesOn (Translates w) (trace_of w) → plain.IsPlain (reverse (trace_of w)) → IsKeptTogether w
 sound-plain fits keeps w sound goes is = record {
-  none = λ p alone. was_none p (reverse w.trace) is alone;
-  goes_on = all_go_plain (Translates w) (reverse w.trace) is goes;
-  fits = fits (ranges_of w.settings.ports) (scene_of w sound.pushed) w.trace sound.scene refl is;
-  kept = holds-plain w sound.pushed (reverse w.trace) (keeps (ranges_of w.settings.ports) (scene_of w sound.pushed) w.trace sound.scene refl is);
+  none = λ p alone. was_none p (reverse (trace_of w)) is alone;
+  goes_on = all_go_plain (Translates w) (reverse (trace_of w)) is goes;
+  fits = fits (ranges_of w.settings.ports) (scene_of w sound.pushed) (trace_of w) sound.scene refl is;
+  kept = holds-plain w sound.pushed (reverse (trace_of w)) (keeps (ranges_of w.settings.ports) (scene_of w sound.pushed) (trace_of w) sound.scene refl is);
 }
 
-pub sound-kept : Keeps → (w : World) → IsSound w → Kept (Holds w) w.trace
-sound-kept law w sound = holds-kept w sound.pushed w.trace (law (ranges_of w.settings.ports) (scene_of w sound.pushed) w.trace sound.scene refl)
+pub sound-kept : Keeps → (w : World) → IsSound w → Kept (Holds w) (trace_of w)
+sound-kept law w sound = holds-kept w sound.pushed (trace_of w) (law (ranges_of w.settings.ports) (scene_of w sound.pushed) (trace_of w) sound.scene refl)
 
 pub sound-shared : Keeps → (w : World) → IsSound w → IsShared w
 sound-shared law w sound none p used i synced = elim (sound-kept law w sound p used i synced) [ inl a ↦ a | inr a ↦ absurd (none a.0 p a.2) ]
 
-pub sound-goes : Goes → (w : World) → HasKeys (gateway_at w Zero) → HasKeys (gateway_at w One) → IsSound w → GoesOn (Translates w) w.trace
-sound-goes law w zero one sound = translates-on w sound.pushed w.trace zero one (law (ranges_of w.settings.ports) (scene_of w sound.pushed) w.trace sound.scene refl)
+pub sound-goes : Goes → (w : World) → HasKeys (gateway_at w Zero) → HasKeys (gateway_at w One) → IsSound w → GoesOn (Translates w) (trace_of w)
+sound-goes law w zero one sound = translates-on w sound.pushed (trace_of w) zero one (law (ranges_of w.settings.ports) (scene_of w sound.pushed) (trace_of w) sound.scene refl)
 
 pub sound-says : Says → (w : World) → IsSound w → ShowsSynced w
-sound-says law w sound = shows-synced w sound.pushed (λ i. law (ranges_of w.settings.ports) (scene_of w sound.pushed) w.trace i sound.scene refl)
+sound-says law w sound = shows-synced w sound.pushed (λ i. law (ranges_of w.settings.ports) (scene_of w sound.pushed) (trace_of w) i sound.scene refl)

@@ -1,6 +1,7 @@
 mod Laws
 mod Fixed
 mod Mails
+mod Traces
 mod Inner
 mod Stepping
 mod Turning

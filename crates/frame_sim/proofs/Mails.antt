@@ -5,6 +5,7 @@ use Rattle.std.specs.Prelude.{slice_get}
 use Rattle.std.proofs.lemmas.List.{append-nil, drop_at, reverse-append}
 use Rattle.std.proofs.lemmas.List.Concat.{flat_map-append}
 use Rattle.link.specs.declared.datagrams.Datagram.{Datagram}
+use Rattle.link.specs.declared.datagrams.Status.{Status}
 use Rattle.link.specs.Grammar.{IsWellFormed, spelling}
 use Rattle.link.specs.Link.{IsLink, Link, datagram_of}
 use Rattle.link.specs.Reading.{reading}
@@ -30,9 +31,9 @@ none-since xs old new is = ap (λ ys. xs ++ ys) (since-is old [] new (is ∙ sym
 -- ---- sent
 
 -- the datagrams that an end of the link sends are well-formed
-pub are-formed : (e : Link) (synced : Bool) (ds : List Datagram) → IsLink e → AllByRecursion (λ d. d ≡ datagram_of synced e) ds → AllByRecursion IsWellFormed ds
-are-formed e synced [] link own = tt
-are-formed e synced (d ∷ ds) link own = (subst IsWellFormed (sym own.0) (formed e synced link), are-formed e synced ds link own.1)
+pub are-formed : (e : Link) (status : Status) (ds : List Datagram) → IsLink e → AllByRecursion (λ d. d ≡ datagram_of status e) ds → AllByRecursion IsWellFormed ds
+are-formed e status [] link own = tt
+are-formed e status (d ∷ ds) link own = (subst IsWellFormed (sym own.0) (formed e status link), are-formed e status ds link own.1)
 
 -- well-formed datagrams are read as the letters that they spell
 pub all-read : AreRead → (ds : List Datagram) → AllByRecursion IsWellFormed ds → flat_map letters_read (map spelling ds) ≡ map letter_of ds

@@ -1,6 +1,5 @@
 -- A gateway's step leads from a world that can come about to one that can.
 use Rattle.std.proofs.Common.{◌≡◌, ℕ, List, [], ◌∷◌, ◌++◌, map, reverse, Option, Some, refl, sym, ap, subst, ◌∙◌}
-use Rattle.std.proofs.lemmas.List.{reverse-append}
 use Rattle.nat_types.specs.Same.{other}
 use Rattle.nat_types.specs.declared.gateways.GatewayId.{GatewayId}
 use Rattle.nat_types.specs.declared.gateways.GatewayId.TheVariants.{Zero, One}
@@ -11,28 +10,32 @@ use Rattle.settings.specs.declared.ranges.PortRanges.{PortRanges}
 use Rattle.bindings.specs.declared.entries.PortBounds.{PortBounds}
 use Rattle.bindings.specs.Ports.{in_bounds, in_either}
 use Rattle.link.specs.Link.{IsLink}
-use Rattle.spec_pair.specs.Acts.{Act, Boot, Crash, box_after}
+use Rattle.spec_trace.specs.Trace.{of_world}
+use Rattle.spec_pair.specs.Acts.{Act, Boot, BootFounding, Crash, End, box_after}
 use Rattle.spec_pair.specs.Box.{Box, Letter}
 use Rattle.spec_pair.specs.Ownership.{Ranges, moving}
 use Rattle.spec_pair.specs.Step.{Follows, IsGiven, IsOff, IsStep, WasSent, boxes_after}
 use Rattle.spec_pair.specs.World.{IsWorld, Scene, box_in, mail_in, with_step}
-use Rattle.spec_binding.specs.Books.{Book, IsBook}
+use Rattle.spec_binding.specs.Books.{Book, IsBook, own_bounds}
 use Rattle.spec_binding.specs.Machine as machine
 use Rattle.spec_binding.specs.Machine.{letter_of}
 use Rattle.output.specs.Output.{Output}
 use Rattle.spec_step.specs.declared.events.Event.{Event}
 use Rattle.spec_step.specs.Founding.{bounds_of}
 use Rattle.spec_step.specs.Machine.{HasBytes, IsLoneRightly, KeepsBytes, box_of, letters_in, words_in}
-use Rattle.spec_step.specs.Shown.{Shown, id_of, scene, serves}
+use Rattle.spec_step.specs.Parts.{status_in}
+use Rattle.spec_step.specs.Settled.{IsSettled}
+use Rattle.spec_step.specs.Shown.{Shown, id_of, scene}
 use Rattle.spec_step.specs.Steps.{IsStepOn}
 use Rattle.spec_gateway.specs.State.{GatewayState, KeepsParts}
-use Rattle.frame_sim.specs.World.{Half, World, gateway_at, half, shown_at, state_at, with_half}
+use Rattle.frame_sim.specs.World.{Half, World, gateway_at, half, shown_at, state_at, trace_of, with_half}
 use Rattle.frame_sim.specs.Events.{since, stepped}
 use Rattle.frame_sim.specs.Scene.{IsHalf, IsHanded, IsSound, IsThat, KeepsPartsAt, box_at, mail_of, ranges_of, scene_of}
 use Rattle.frame_sim.proofs.Laws.{AreRead, OthersStep, StepsAccount, StepsAnywhere, StepsGo, StepsKeep}
 use Rattle.frame_sim.proofs.Accounting.{step-accounted, still-accounted}
 use Rattle.frame_sim.proofs.BySettings.{step-by-settings, still-by-settings}
 use Rattle.frame_sim.proofs.Mails.{are-formed, more-mail, since-is}
+use Rattle.frame_sim.proofs.Traces.{with-more}
 
 -- ---- what a scene shows of gateway i
 
@@ -48,20 +51,22 @@ pub ranges-are : (ports : PortRanges) (b : Book) → b.zero ≡ bounds_of ports.
 ranges-are ports b zero one = ap (λ z. ranges z b.one) zero ∙ ap (ranges (bounds_of ports.zero)) one
   where
     ranges : PortBounds → PortBounds → Ranges
-    ranges z o = moving (λ p. in_either z o p) (in_bounds z)
+    ranges z o = moving (λ p. in_either z o p) (λ i. in_bounds (own_bounds i z o))
 
 -- ---- a step of the machine keeps the boot number
 
 boot-stays : (r : Ranges) (i : GatewayId) (a : Box) (ws : List ℕ) (x : Act) → IsGiven ws x → (box_after r i a x).boot ≡ a.boot
 boot-stays r i a ws Crash given = absurd given
+boot-stays r i a ws (End first count) given = absurd given
 boot-stays r i a ws (Boot n) given = absurd given
+boot-stays r i a ws (BootFounding n) given = absurd given
 boot-stays r i a ws x given = refl
 
 boots-stay : (r : Ranges) (i : GatewayId) (a : Box) (ls : List Letter) (ws : List ℕ) (xs : List Act) → Follows r i a ls ws xs → (boxes_after r i a xs).boot ≡ a.boot
 boots-stay r i a ls ws [] f = refl
 boots-stay r i a ls ws (x ∷ xs) f = boots-stay r i (box_after r i a x) ls ws xs f.2 ∙ boot-stays r i a ws x f.1.1
 
-boot-kept : (r : Ranges) (i : GatewayId) (moment : ℕ) (a b : Box) (ls : List Letter) (ws : List ℕ) (t t2 : List Note) (m m2 : List Letter) → IsStep r i moment a b ls ws t t2 m m2 → b.boot ≡ a.boot
+pub boot-kept : (r : Ranges) (i : GatewayId) (moment : ℕ) (a b : Box) (ls : List Letter) (ws : List ℕ) (t t2 : List Note) (m m2 : List Letter) → IsStep r i moment a b ls ws t t2 m m2 → b.boot ≡ a.boot
 boot-kept r i moment a b ls ws t t2 m m2 x = ap (λ (c : Box). c.boot) x.box_is ∙ boots-stay r i a ls ws x.acts x.follows
 
 -- ---- the world afterwards
@@ -71,13 +76,13 @@ abbrev pub with_pushed : (GatewayId → List Record) → GatewayId → List Reco
 with_pushed pushed i h = of_gateway (of_gateway h (pushed Zero) i) (of_gateway (pushed One) h i)
 
 scene-is : (w : World) (pushed : GatewayId → List Record) (i : GatewayId) (new : GatewayState) (h : List Record) (told told2 : Output) (ns : List Note) (ms : List Letter)
-    → reverse (w.trace ++ since told.notes told2.notes) ≡ ns ++ reverse w.trace → mail_of ((half w i).sent ++ since told.datagrams told2.datagrams) ≡ ms ++ mail_of (half w i).sent
-    → with_step (scene_of w pushed) i (box_of new.shown h) (ns ++ reverse w.trace) (ms ++ mail_of (half w i).sent) ≡ scene_of (stepped w i new told told2) (with_pushed pushed i h)
+    → reverse (of_world w.founded (w.trace ++ since told.notes told2.notes)) ≡ ns ++ reverse (trace_of w) → mail_of ((half w i).sent ++ since told.datagrams told2.datagrams) ≡ ms ++ mail_of (half w i).sent
+    → with_step (scene_of w pushed) i (box_of new.shown h) (ns ++ reverse (trace_of w)) (ms ++ mail_of (half w i).sent) ≡ scene_of (stepped w i new told told2) (with_pushed pushed i h)
 scene-is w pushed Zero new h told told2 ns ms t m =
-    ap (λ (mail : List Letter). with_step (scene_of w pushed) Zero (box_of new.shown h) (ns ++ reverse w.trace) mail) (sym m)
+    ap (λ (mail : List Letter). with_step (scene_of w pushed) Zero (box_of new.shown h) (ns ++ reverse (trace_of w)) mail) (sym m)
     ∙ ap (λ (trace : List Note). with_step (scene_of w pushed) Zero (box_of new.shown h) trace (mail_of (w.zero.sent ++ since told.datagrams told2.datagrams))) (sym t)
 scene-is w pushed One new h told told2 ns ms t m =
-    ap (λ (mail : List Letter). with_step (scene_of w pushed) One (box_of new.shown h) (ns ++ reverse w.trace) mail) (sym m)
+    ap (λ (mail : List Letter). with_step (scene_of w pushed) One (box_of new.shown h) (ns ++ reverse (trace_of w)) mail) (sym m)
     ∙ ap (λ (trace : List Note). with_step (scene_of w pushed) One (box_of new.shown h) trace (mail_of (w.one.sent ++ since told.datagrams told2.datagrams))) (sym t)
 
 pub halves-are : (w : World) (pushed : GatewayId → List Record) (i : GatewayId) (h : Half) (records : List Record) (trace : List Note) → let ports = w.settings.ports in let w2 = with_half w i h trace in
@@ -99,9 +104,9 @@ parts-are w One h trace mine all One = mine
 
 pub step-sound : StepsGo → AreRead → StepsKeep → StepsAnywhere → StepsAccount → OthersStep → (w : World) (i : GatewayId) (g : Shown) (new : GatewayState) (event : Event) (told told2 : Output)
     → IsSound w → gateway_at w i ≡ Some g → IsStepOn (scene g told) event (scene new.shown told2) → HasBytes event
-    → IsBook g.ledger.book → IsLoneRightly g → KeepsBytes g → KeepsParts new → IsLink new.shown.link → new.shown.link.values ≡ g.link.values
+    → IsBook g.ledger.book → IsLoneRightly g → KeepsBytes g → IsSettled g → KeepsParts new → IsLink new.shown.link → new.shown.link.values ≡ g.link.values
     → IsHanded w i event → IsSound (stepped w i new told told2)
-step-sound go read keep anywhere account others w i g new event told told2 sound up step bytes book alone kept parts link values handed =
+step-sound go read keep anywhere account others w i g new event told told2 sound up step bytes book alone kept settled parts link values handed =
     let ports = w.settings.ports in
     let r = ranges_of ports in
     let pushed = sound.pushed in
@@ -109,7 +114,7 @@ step-sound go read keep anywhere account others w i g new event told told2 sound
     let h = pushed i in
     let ls = letters_in event in let ws = words_in event in
     let that : IsThat ports i (half w i).boot g h = subst (λ (x : Option Shown). IsHalf ports i (half w i).boot x h) up (sound.halves i) in
-    let goes = go (scene g told) event (scene new.shown told2) h step bytes book alone kept that.pushed in
+    let goes = go (scene g told) event (scene new.shown told2) h step handed.further bytes book alone kept settled that.pushed in
     let h2 = goes.history in
     let b2 = box_of new.shown h2 in
     let ns = reverse goes.notes in
@@ -123,9 +128,9 @@ step-sound go read keep anywhere account others w i g new event told told2 sound
     let there = keep r i new.shown.moment s ls ws b2 (ns ++ s.trace) (ms ++ mail_in s i) sound.scene was_sent is_off (anywhere r i new.shown.moment (box_in s i) b2 ls ws ns ms three s.trace (mail_in s i)) in
     let there2 = subst (λ (m : List Letter). IsWorld r (with_step s i b2 (ns ++ s.trace) (ms ++ m))) (mail-is w pushed i) there in
     let noted = since-is told.notes goes.notes told2.notes goes.notes_are in
-    let trace : reverse (w.trace ++ since told.notes told2.notes) ≡ ns ++ reverse w.trace = ap (λ (xs : List Note). reverse (w.trace ++ xs)) noted ∙ reverse-append w.trace goes.notes in
+    let trace : reverse (of_world w.founded (w.trace ++ since told.notes told2.notes)) ≡ ns ++ reverse (trace_of w) = ap (λ (xs : List Note). reverse (of_world w.founded (w.trace ++ xs))) noted ∙ with-more w.founded w.trace goes.notes in
     let rests = account (scene g told) event (scene new.shown told2) step bytes book kept in
-    let mail = more-mail read (half w i).sent (since told.datagrams told2.datagrams) goes.sent (since-is told.datagrams _ told2.datagrams goes.datagrams_are) (are-formed new.shown.link (serves new.shown) goes.sent link goes.own) in
+    let mail = more-mail read (half w i).sent (since told.datagrams told2.datagrams) goes.sent (since-is told.datagrams _ told2.datagrams goes.datagrams_are) (are-formed new.shown.link (status_in new.shown) goes.sent link goes.own) in
     record {
       values = sound.values;
       pushed = with_pushed pushed i h2;

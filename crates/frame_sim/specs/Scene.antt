@@ -20,7 +20,7 @@ use Rattle.spec_pair.specs.World.{IsWorld, Scene}
 use Rattle.spec_binding.specs.Books.{own_bounds}
 use Rattle.spec_step.specs.Founding.{bounds_of}
 use Rattle.spec_step.specs.declared.events.Event.{Event}
-use Rattle.spec_step.specs.Machine.{HasPushed, box_of, letter_in, letters_in, words_in}
+use Rattle.spec_step.specs.Machine.{GoesFurther, HasPushed, box_of, letter_in, letters_in, words_in}
 use Rattle.spec_step.specs.Rests.{AccountsOn}
 use Rattle.spec_step.specs.Shown.{Shown, id_of}
 use Rattle.spec_gateway.specs.State.{GatewayState, KeepsParts}
@@ -103,8 +103,10 @@ pub record IsSound (w : World) : Type 0 where
   pub by_settings : IsBySettings w
   pub parts : (i : GatewayId) → KeepsPartsAt (state_at w i)
 
--- gateway i may be given the event: its datagram was sent by the other, and its operator's word about the other is true
+-- gateway i may be given the event, which isn't its end: its datagram was sent by the other, and its operator's word
+-- about the other is true
 pub record IsHanded (w : World) (i : GatewayId) (event : Event) : Type 0 where
+  pub further : GoesFurther event
   pub letters : WasSent (letters_in event) (mail_of (half w (other i)).sent)
   pub words : (h : List Record) →
       IsOff (words_in event) (box_at (gateway_at w (other i)) (half w (other i)).boot h)

@@ -26,7 +26,7 @@ use link::limits_law;
 use memory::{reserve, with_room};
 use nat_types::{NoMemory, Note, Pair};
 use spec_gateway::{gateway_tells, inner_steps};
-use spec_step::{steps_go, steps_note};
+use spec_step::{ends_go, steps_go, steps_note};
 use std::alloc::Global;
 use std::marker::Model;
 
@@ -170,6 +170,7 @@ fn step_up(
         (WasUnready gateway.old.shown ⊎ WasUnstepped gateway.old event.entry) }
 {
     steps_go();
+    ends_go();
     steps_note();
     inner_steps();
     gateway_tells();

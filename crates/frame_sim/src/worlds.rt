@@ -3,19 +3,21 @@ ghost use Rattle.std.specs.Prelude.{◌≡◌, ◌<◌, ◌≤◌, ◌+◌, ◌+
 ghost use Rattle.bindings.specs.Entries.{is_pair, translates};
 ghost use Rattle.spec_trace.specs.OneBox.{IsOneBox};
 ghost use Rattle.spec_trace.specs.Plain.{IsPlain};
+ghost use Rattle.spec_trace.specs.Position.{IsNeverUnsynced, IsOneEra};
 ghost use Rattle.spec_trace.specs.Trace.{AtMostTwo, GoesOn, Idle, Kept, OneEndpoint, OnePort, FoundedRightly, Silent};
 ghost use Rattle.link.specs.Reading.{reading};
 ghost use Rattle.link.specs.Strays.{IsStray, is_stray};
 ghost use Rattle.output.specs.Output.{Output};
 ghost use Rattle.nat_types.specs.declared.gateways.GatewayId.{GatewayId};
 ghost use Rattle.nat_types.specs.declared.gateways.GatewayId.TheVariants.{Zero};
+ghost use Rattle.spec_step.specs.declared.events.Event.TheVariants as given;
 ghost use Rattle.spec_step.specs.declared.events.Outcome.{Outcome};
 ghost use Rattle.spec_step.specs.Founding.{begun, founded};
 ghost use Rattle.spec_step.specs.Shown.{with_notes};
 ghost use Rattle.spec_gateway.specs.State.{beginning};
 ghost use Rattle.nat_types.specs.declared.events.WorldEvent.TheVariants as events;
 ghost use Rattle.frame_sim.specs.declared.events.WorldFault.TheVariants as faults;
-ghost use Rattle.frame_sim.specs.Events.{ChangesNothing, Strays, TakesAt, datagram_for, may_be_told, may_boot, may_crash, may_found, may_stray, noting, unless};
+ghost use Rattle.frame_sim.specs.Events.{ChangesNothing, EndsAt, Strays, TakesAt, datagram_for, may_be_told, may_boot, may_crash, may_found, may_stray, noting, unless};
 ghost use Rattle.frame_sim.specs.Lacks.{IsUnheard, IsUnnoted, IsUnowned, IsUnpaired, IsUnstepped, IsUntranslated, WasUnbegun, WasUnrun, WasUntold, WasUntraced};
 ghost use Rattle.frame_sim.specs.Runs.{Answers, AreSteps, Gives, WasTaken, fault_of};
 ghost use Rattle.frame_sim.specs.Scene.{IsHanded};
@@ -39,7 +41,7 @@ use spec_pair::laws::{
     steps_anywhere,
 };
 use spec_step::{beginnings_account, ends_go, others_account, steps_account, steps_go};
-use spec_trace::laws::is_one_box;
+use spec_trace::laws::{is_one_box, one_era};
 use std::alloc::Global;
 use std::marker::Model;
 use std::slice;
@@ -96,9 +98,12 @@ fn tell(out: &mut Out, notes: &[Note]) -> Result<(), NoMemory>
         datagrams: 0,
         notes: notes.len(),
     })?;
-    for note in notes {
-        out.page.note(note);
+    let mut told = out.page.take_notes();
+    match told.extend_from_slice(notes) {
+        Ok(()) => {}
+        Err(_full) => unreachable!(),
     }
+    out.page.put_notes(told);
     Ok(())
 }
 
@@ -302,8 +307,11 @@ impl<'a> World<'a> {
         ensures synced { ShowsSynced self.now }
         ensures idle { Idle (trace_of self.now) }
         ensures one_box { IsOneBox (trace_of self.now) }
+        // While some gateway is synced at each moment, no Founded note stands: the trace is one era.
+        ensures one_era { IsNeverUnsynced (trace_of self.now) → IsOneEra (trace_of self.now) }
         ensures owned_ports { IsOwned self.now }
     {
+        one_era();
         promises_in_order();
         promises_without_alone();
         promises();
@@ -606,9 +614,24 @@ impl<'a> World<'a> {
         Ok(Outcome::Done)
     }
 
-    /// Ends one of the two gateways: it takes a last step, and is down then.
+    /// Ends one of the two gateways, if it is up.
     fn end_gateway(&mut self, id: GatewayId, out: &mut Out) -> Result<Outcome, WorldFault>
         ensures { Answers self.old (events.End id) out.old result out.new self.new }
+    {
+        if !self.may_crash(id) {
+            return Err(WorldFault::PremiseBroken);
+        }
+        Ok(self.end_up(id, out)?)
+    }
+
+    /// Ends one of the two gateways, which is up: it takes a last step, and is down then.
+    fn end_up(&mut self, id: GatewayId, out: &mut Out) -> Result<Outcome, NoMemory>
+        requires { may_crash self.old id ≡ true }
+        ensures takes { IfOk result (λ o. EndsAt self.old id (state_at self.old id)
+            out.old o out.new self.new) }
+        ensures err { OnErr result (self.new ≡ self.old) }
+        ensures untold { OnErr result (out.new ≡ out.old) }
+        ensures short { OnErr result (IsUnstepped (state_at self.old id) given.End) }
     {
         goes_to();
         a_step_keeps();
@@ -617,14 +640,10 @@ impl<'a> World<'a> {
         ends_go();
         steps_account();
         others_account();
-        if !self.may_crash(id) {
-            return Err(WorldFault::PremiseBroken);
+        match id {
+            GatewayId::Zero => self.zero.end_step(self.alloc, &mut self.trace, out),
+            GatewayId::One => self.one.end_step(self.alloc, &mut self.trace, out),
         }
-        let outcome = match id {
-            GatewayId::Zero => self.zero.end_step(self.alloc, &mut self.trace, out)?,
-            GatewayId::One => self.one.end_step(self.alloc, &mut self.trace, out)?,
-        };
-        Ok(outcome)
     }
 
     /// Starts one of the two gateways, which founds the pair as it starts.
@@ -640,6 +659,7 @@ impl<'a> World<'a> {
             return Err(WorldFault::PremiseBroken);
         }
         let gateway = begin(self.alloc, self.settings(id), id, number, true)?;
+        gateway.recall();
         let notes = [
             boot_note(id, NoteKind::Booted(number)),
             boot_note(id, NoteKind::Founded),
@@ -661,7 +681,8 @@ impl<'a> World<'a> {
     fn may_crash(&self, id: GatewayId) -> bool
         ensures { result ≡ may_crash self.now id }
     {
-        self.half(id).up()
+        let gateway = self.half(id);
+        gateway.up()
     }
 
     fn may_found(&self, id: GatewayId, number: u64) -> bool

@@ -16,11 +16,11 @@ use Rattle.frame_sim.proofs.worlds.World.boot.Goals as goal
 
 pub invariant_of-self-in-Zero : goal.invariant_of-self-in-Zero
 invariant_of-self-in-Zero c =
-    let w : World = record { settings = c.self.inside.settings.now; settings_one = c.self.inside.settings_one.now; zero = c.self.inside.zero; one = c.self.inside.one; trace = c.self.inside.trace.items } in
+    let w : World = record { settings = c.self.inside.settings.now; settings_one = c.self.inside.settings_one.now; founded = c.self.inside.founded; zero = c.self.inside.zero; one = c.self.inside.one; trace = c.self.inside.trace.items } in
     let n = c.args.number in
     let may = subst (λ (x : World). may_boot x c.args.id n ≡ true) (sym c.self.view_is) (sym c.may_boot.ensures ∙ (let f : c.may_boot.result ≡ true = cc in f)) in
     let may2 = subst (λ (i : GatewayId). may_boot w i n ≡ true) c.in-Zero.is may in
-    let noted = c.in-Ok.ensures.trace ∙ ap (λ (i : GatewayId). w.trace ++ noting i 0 (Booted n) ∷ []) c.in-Zero.is in
+    let noted = c.in-Ok.ensures.trace ∙ ap (λ (ns : List Note). w.trace ++ ns) (c.from_ref.ensures.value ∙ ap (λ (x : Note). x ∷ []) c.boot_note-note.ensures) ∙ ap (λ (i : GatewayId). w.trace ++ noting i 0 (Booted n) ∷ []) c.in-Zero.is in
     let own = c.settings.ensures ∙ ap (λ (x : World). settings_of x c.args.id) (sym c.self.view_is) in
     let begins = c.in_ok-gateway.ensures.begins ∙ ap (λ (s : Settings). beginning (begun s c.args.id n)) own ∙ ap (λ (i : GatewayId). beginning (begun (settings_of w i) i n)) c.in-Zero.is in
     let is = c.start.ensures ∙ ap (λ (g : GatewayState). let h : Half = record w.zero { gateway = Some g; boot = n } in h) begins in
@@ -28,11 +28,11 @@ invariant_of-self-in-Zero c =
 
 pub invariant_of-self-in-One : goal.invariant_of-self-in-One
 invariant_of-self-in-One c =
-    let w : World = record { settings = c.self.inside.settings.now; settings_one = c.self.inside.settings_one.now; zero = c.self.inside.zero; one = c.self.inside.one; trace = c.self.inside.trace.items } in
+    let w : World = record { settings = c.self.inside.settings.now; settings_one = c.self.inside.settings_one.now; founded = c.self.inside.founded; zero = c.self.inside.zero; one = c.self.inside.one; trace = c.self.inside.trace.items } in
     let n = c.args.number in
     let may = subst (λ (x : World). may_boot x c.args.id n ≡ true) (sym c.self.view_is) (sym c.may_boot.ensures ∙ (let f : c.may_boot.result ≡ true = cc in f)) in
     let may2 = subst (λ (i : GatewayId). may_boot w i n ≡ true) c.in-One.is may in
-    let noted = c.in-Ok.ensures.trace ∙ ap (λ (i : GatewayId). w.trace ++ noting i 0 (Booted n) ∷ []) c.in-One.is in
+    let noted = c.in-Ok.ensures.trace ∙ ap (λ (ns : List Note). w.trace ++ ns) (c.from_ref.ensures.value ∙ ap (λ (x : Note). x ∷ []) c.boot_note-note.ensures) ∙ ap (λ (i : GatewayId). w.trace ++ noting i 0 (Booted n) ∷ []) c.in-One.is in
     let own = c.settings.ensures ∙ ap (λ (x : World). settings_of x c.args.id) (sym c.self.view_is) in
     let begins = c.in_ok-gateway.ensures.begins ∙ ap (λ (s : Settings). beginning (begun s c.args.id n)) own ∙ ap (λ (i : GatewayId). beginning (begun (settings_of w i) i n)) c.in-One.is in
     let is = c.start-in-One.ensures ∙ ap (λ (g : GatewayState). let h : Half = record w.one { gateway = Some g; boot = n } in h) begins in
@@ -41,5 +41,5 @@ invariant_of-self-in-One c =
 pub returns-in-Err : goal.returns-in-Err
 returns-in-Err c =
     let may : may_boot c.args.self.now c.args.id c.args.number ≡ true = sym c.may_boot.ensures ∙ (let f : c.may_boot.result ≡ true = cc in f) in
-    let same = ap (λ (notes : List Note). let x : World = record { settings = c.self.inside.settings.now; settings_one = c.self.inside.settings_one.now; zero = c.self.inside.zero; one = c.self.inside.one; trace = notes } in x) c.in-Err.ensures.unnoted in
+    let same = ap (λ (notes : List Note). let x : World = record { settings = c.self.inside.settings.now; settings_one = c.self.inside.settings_one.now; founded = c.self.inside.founded; zero = c.self.inside.zero; one = c.self.inside.one; trace = notes } in x) c.in-Err.ensures.unnoted in
     (ap (λ (b : Bool). fault_of (unless b PremiseBroken)) (sym may), (λ is. inr c.in-Err.ensures.short), c.in-Err.ensures.untold, same ∙ c.self.view_is)

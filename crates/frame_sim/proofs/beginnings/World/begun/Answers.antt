@@ -1,5 +1,5 @@
 use Rattle.frame_sim.specs.Status.{IsNew}
-use Rattle.frame_sim.proofs.worlds.World.founded.Goals as goal
+use Rattle.frame_sim.proofs.beginnings.World.begun.Goals as goal
 
 pub returns-clause-new : goal.returns-clause-new
 unfolding IsNew
