@@ -19,7 +19,7 @@ pub returns-clause-left : goal.returns-clause-left
 returns-clause-left g c h = subst (LeavesFirst (new_file c.args.above)) (sym (returns-clause-end g c h)) (new_first c.args.above (g.D.Disk.now c.args.disk.now))
 
 pub returns-clause-zero : goal.returns-clause-zero
-returns-clause-zero g c h = subst (LeavesNumber c.args.above) (sym (returns-clause-end g c h)) (new_leaves c.args.above (g.D.Disk.now c.args.disk.now) c.ranges.above)
+returns-clause-zero g c h = subst (LeavesNumber c.args.above) (sym (returns-clause-end g c h)) (new_leaves c.args.above (g.D.Disk.now c.args.disk.now) c.ranges.above.fits)
 
 pub returns-clause-passes : goal.returns-clause-passes
 returns-clause-passes g c h =
