@@ -19,6 +19,13 @@ pub(crate) struct Outline<'a> {
     pub(crate) arguments: &'a [Argument<'a>],
 }
 
+/// The text below the options in the help of `init`.
+const INIT_HELP: &str =
+    "A box whose boot file is lost gets a new one above all its boots so far. `natpair status` of the other box says the
+greatest that it knows; add 1000 to that, for boots of which it never heard.
+
+Example: natpair init boot0";
+
 /// The text below the options in the help of `gate`.
 const GATE_HELP: &str = "A way is one of
   loopback                          the ports of the settings, on this machine
@@ -76,12 +83,19 @@ static COMMANDS: [Outline<'static>; 10] = [
     Outline {
         name: "init",
         about: "Creates a boot file; one that exists is left as it is and refused",
-        after_help: "Example: natpair init boot0",
-        arguments: &[Argument {
-            kind: ArgumentKind::Positional,
-            name: "FILE",
-            help: "The boot file to create, as in boot0",
-        }],
+        after_help: INIT_HELP,
+        arguments: &[
+            Argument {
+                kind: ArgumentKind::Positional,
+                name: "FILE",
+                help: "The boot file to create, as in boot0",
+            },
+            Argument {
+                kind: ArgumentKind::Number(ValueParser::Unsigned(0, 18_446_744_073_709_551_614)),
+                name: "above",
+                help: "At least each boot number that this box ever had, as in --above 1007; left out, it is 0",
+            },
+        ],
     },
     Outline {
         name: "check",

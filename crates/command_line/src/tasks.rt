@@ -3,13 +3,13 @@ ghost use Rattle.std.specs.Prelude.{◌≡◌, codes, string_bytes, map, option_
 ghost use Rattle.clap.specs.Words.{found_of, rows_of, subcommand_rows_of};
 ghost use Rattle.command_line.specs.Line.{Takes, entered_by};
 ghost use Rattle.command_line.specs.Values.{HasId, IsId};
-ghost use Rattle.command_line.specs.Tasks.{AreFiles, AreWays, AreWrong, Asks, Enters, HasNumbers, IsCheck, IsEntered, IsEnteredFaulty, IsFaulty, IsGate, IsPeerOff, IsTask, Numbered, Refuses, RefusesAs, RefusesEntered, RefusesValues, RefusesWords, is_named, wants_id};
+ghost use Rattle.command_line.specs.Tasks.{AreFiles, AreWays, AreWrong, Asks, Enters, HasNumbers, IsCheck, IsEntered, IsEnteredFaulty, IsFaulty, IsGate, IsInit, IsPeerOff, IsTask, Numbered, Refuses, RefusesAs, RefusesEntered, RefusesValues, RefusesWords, is_named, wants_id};
 ghost use Rattle.command_line.specs.declared.faults.ValueFault.{ValueFault as Why};
 ghost use Rattle.command_line.specs.declared.faults.ValueFault.TheVariants.{FoundNeedsIdZero, NoFilter, NoSide, NoStatus};
 
 use crate::faults::{LineFault, ValueFault};
 use crate::words::{
-    CheckWords, GateWords, PairsWords, PeerOffWords, RunWords, StatusWords, WayWords,
+    CheckWords, GateWords, InitWords, PairsWords, PeerOffWords, RunWords, StatusWords, WayWords,
 };
 use crate::{commands, filters, values};
 use clap::ArgMatches;
@@ -21,7 +21,7 @@ use std::alloc::{AllocError, Global};
 #[derive(Debug, Drop)]
 pub enum Task {
     /// Create a boot file.
-    Init(String),
+    Init(InitWords),
     /// Check settings, or compare them with others.
     Check(CheckWords),
     /// Run one gateway.
@@ -118,7 +118,7 @@ fn task_of(alloc: Global, name: &str, matches: &ArgMatches<'_>) -> Result<Task, 
     ensures err { IfErr result (RefusesValues name.now (rows_of (found_of matches.now))) }
 {
     match name {
-        "init" => Ok(Task::Init(values::word(alloc, matches, "FILE")?)),
+        "init" => Ok(Task::Init(init(alloc, matches)?)),
         "check" => Ok(Task::Check(check(alloc, matches)?)),
         "gate" => gate(alloc, matches),
         "status" => status(alloc, matches),
@@ -133,6 +133,17 @@ fn task_of(alloc: Global, name: &str, matches: &ArgMatches<'_>) -> Result<Task, 
         "loop" => Ok(Task::Loop(run_words(alloc, matches)?)),
         _ => unreachable!(),
     }
+}
+
+/// Returns the values of `init`.
+fn init(alloc: Global, matches: &ArgMatches<'_>) -> Result<InitWords, AllocError>
+    requires { HasNumbers (rows_of (found_of matches.now)) }
+    ensures words { IfOk result (IsInit (rows_of (found_of matches.now))) }
+{
+    Ok(InitWords {
+        file: values::word(alloc, matches, "FILE")?,
+        above: values::above(matches),
+    })
 }
 
 /// Returns the values of `check`.
