@@ -11,8 +11,7 @@ use Rattle.command_line.specs.Values.{HasId, HasIdIf, HasNumberIf, HasNumberUpTo
 use Rattle.command_line.specs.declared.faults.LineFault.{LineFault}
 use Rattle.command_line.specs.declared.faults.LineFault.TheVariants.{Refused, Values, NoMemory}
 use Rattle.command_line.specs.declared.faults.ValueFault.{ValueFault}
-use Rattle.command_line.specs.declared.faults.ValueFault.TheVariants.{FoundNeedsIdZero, NoSide, NoStatus, NoFilter}
-use Rattle.nat_types.specs.declared.gateways.GatewayId.TheVariants.{One}
+use Rattle.command_line.specs.declared.faults.ValueFault.TheVariants.{NoSide, NoStatus, NoFilter}
 use Rattle.command_line.specs.declared.words.CheckWords.{CheckWords}
 use Rattle.command_line.specs.declared.words.GateWords.{GateWords}
 use Rattle.command_line.specs.declared.words.InitWords.{InitWords}
@@ -147,24 +146,18 @@ Numbered (Some entered) = HasNumbers entered.1 × (wants_id entered.0 ≡ true �
 
 -- ---- why words are no task
 
--- `--found` stands beside `--id 1`
-abbrev pub FoundsAtOne : List Row → Type 0
-FoundsAtOne rows = (flag_of (codes "found") rows ≡ true) × IsId rows One
-
 -- the words of `side` name no side, or don't say whether it is up or down
 abbrev pub LacksSide : List Row → Type 0
 LacksSide rows = (side_in rows ≡ None) ⊎ (state_in rows ≡ None)
 
 -- the command whose values a fault is about
 abbrev pub command_at : ValueFault → Text
-command_at FoundNeedsIdZero = codes "gate"
 command_at NoSide = codes "side"
 command_at NoStatus = codes "status"
 command_at NoFilter = codes "pairs"
 
 -- the values don't go together so
 abbrev pub AreWrong : List Row → ValueFault → Type 0
-AreWrong rows FoundNeedsIdZero = FoundsAtOne rows
 AreWrong rows NoSide = LacksSide rows
 AreWrong rows NoStatus = LacksStatus rows
 AreWrong rows NoFilter = LacksFilter rows

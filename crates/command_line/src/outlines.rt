@@ -38,6 +38,13 @@ environment's NATPAIR_LOG, or info.
 
 Example: natpair gate S.toml --id 0";
 
+/// The text below the options in the help of `peer-off`.
+const PEER_OFF_HELP: &str =
+    "A gateway that has no table founds the pair again by this word, as the next boot of its box; so it must be true. It
+refuses the word while it hears the peer or sees its advertisements.
+
+Example: natpair peer-off S.toml --id 0 --boot 7";
+
 /// The parser of a gateway's number, 0 or 1.
 const GATEWAY_NUMBER: ValueParser<'static> = ValueParser::Signed(0, 1);
 
@@ -155,7 +162,7 @@ static COMMANDS: [Outline<'static>; 10] = [
             Argument {
                 kind: ArgumentKind::Flag,
                 name: "found",
-                help: "Founds the pair: once, at gateway 0, with a new boot file",
+                help: "Founds the pair, unless the other box is seen first: once, with a new boot file",
             },
             Argument {
                 kind: ArgumentKind::Way,
@@ -276,7 +283,7 @@ static COMMANDS: [Outline<'static>; 10] = [
     Outline {
         name: "peer-off",
         about: "Tells a running gateway that a boot of its peer has ended for good",
-        after_help: "Example: natpair peer-off S.toml --id 0 --boot 7",
+        after_help: PEER_OFF_HELP,
         arguments: &[
             SETTINGS,
             ID,
@@ -288,7 +295,7 @@ static COMMANDS: [Outline<'static>; 10] = [
             Argument {
                 kind: ArgumentKind::Flag,
                 name: "force",
-                help: "Takes a boot above the one that it knows, too",
+                help: "Takes a boot above the one that it knows, too, and where only the peer's advertisements were seen",
             },
         ],
     },
