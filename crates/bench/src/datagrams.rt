@@ -3,7 +3,7 @@
 use crate::clocks::{each, now, since};
 use addresses::{Port, Protocol};
 use cases_words::{Case, beside};
-use link::{Link, parse, write};
+use link::{Link, Status, parse, write};
 use nat_types::{GatewayId, Key, Record};
 use settings::Settings;
 use std::alloc::{AllocError, Global};
@@ -25,7 +25,7 @@ fn send(link: &mut Link, moment: u64, out: &mut Vec<u8>, case: &mut Case) {
     if link.wanted() != 0 {
         return;
     }
-    if let Some(datagram) = link.tick(moment, true) {
+    if let Some(datagram) = link.tick(moment, Status::Serving) {
         case.keep(write(&datagram, out));
         drop(datagram);
     }

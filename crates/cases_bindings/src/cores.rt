@@ -39,9 +39,6 @@ impl Cores {
             return;
         };
         let inward_refresh = case.left() == 0 || case.is_first("all", "outward");
-        if is_founder && id == GatewayId::One {
-            return refuse("no beginning founder", case);
-        }
         let rules = Rules {
             limit,
             alone,

@@ -17,7 +17,7 @@ use arrayvec::ArrayVec;
 use bind_core::{Bounds, Core, Hashers, Rules};
 use bindings::Table;
 use cases_words::{Case, beside};
-use link::{Datagram, Link, write};
+use link::{Datagram, Link, Status, write};
 use nat_types::{Endpoint, EntryState, GatewayId, Key, Note, Record};
 use settings::Values;
 use spec_binding::{Want, rows_leave};
@@ -56,14 +56,14 @@ fn empty_datagram(sender: GatewayId, boot: u64, delivered: usize) -> Datagram {
         boot,
         receiver_boot: 1,
         values: VALUES,
-        serves: true,
+        status: Status::Serving,
         delivered: delivered as u64,
         first: 1,
         records: ArrayVec::new(),
     }
 }
 
-/// Makes a core. Only gateway 0 may be a founder.
+/// Makes a core.
 fn begin_core(
     alloc: Global,
     id: GatewayId,
@@ -76,7 +76,7 @@ fn begin_core(
 {
     let hashers = Hashers::fixed();
     if is_founder {
-        return Core::founder(alloc, bounds, rules, hashers).ok();
+        return Core::founder(alloc, id, bounds, rules, hashers).ok();
     }
     Core::unsynced(alloc, id, bounds, rules, hashers).ok()
 }
@@ -181,7 +181,7 @@ impl Side {
             return;
         }
         let serves = self.core.is_synced();
-        if let Some(datagram) = self.link.answer(serves) {
+        if let Some(datagram) = self.link.answer(Status::of_serving(serves)) {
             tell_pushed(datagram.records.as_slice(), self.printed, case);
             self.printed = datagram.records.len();
             drop(datagram);

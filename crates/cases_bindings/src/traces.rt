@@ -9,6 +9,7 @@ use std::alloc::Global;
 #[derive(Drop)]
 pub(crate) struct Trace {
     notes: Vec<Note>,
+    founded: bool,
     zero: Vec<Pair>,
     one: Vec<Pair>,
 }
@@ -17,9 +18,15 @@ impl Trace {
     pub(crate) fn new(alloc: Global) -> Trace {
         Trace {
             notes: Vec::new(alloc),
+            founded: true,
             zero: Vec::new(alloc),
             one: Vec::new(alloc),
         }
+    }
+
+    fn begin(&mut self, founded: bool) {
+        self.founded = founded;
+        self.notes.clear();
     }
 
     fn note(&mut self, case: &mut Case) {
@@ -44,7 +51,7 @@ impl Trace {
 
     fn judge(&mut self, case: &mut Case) {
         case.echo(": ");
-        match audit(case.alloc, &self.notes, &self.zero, &self.one) {
+        match audit(case.alloc, self.founded, &self.notes, &self.zero, &self.one) {
             Ok(()) => case.put("ok"),
             Err(fault) => {
                 case.show("", fault);
@@ -58,11 +65,12 @@ impl Trace {
 }
 
 impl Actor for Trace {
-    /// Takes a line: `new` begins an empty trace, `note` adds a note, `held` a pair to a table, and `judge` prints the
-    /// answer under a name and empties the tables.
+    /// Takes a line: `new` begins an empty trace, with gateway 0 founded, and `begin` one with nobody up; `note` adds a
+    /// note, `held` a pair to a table, and `judge` prints the answer under a name and empties the tables.
     fn act(&mut self, case: &mut Case) {
         match case.word() {
-            "new" => self.notes.clear(),
+            "new" => self.begin(true),
+            "begin" => self.begin(false),
             "note" => self.note(case),
             "held" => self.hold(case),
             "judge" => self.judge(case),

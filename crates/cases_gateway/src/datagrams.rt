@@ -4,7 +4,7 @@ use crate::test_gateway::after;
 use addresses::Port;
 use arrayvec::ArrayVec;
 use cases_words::Case;
-use link::{Datagram, write};
+use link::{Datagram, Status, write};
 use nat_types::{GatewayId, Key, Pair, Record};
 use settings::Values;
 
@@ -22,7 +22,7 @@ pub(crate) fn spelled(sender: GatewayId, values: Values, case: &mut Case) -> Vec
         boot: after("boot", case),
         receiver_boot: after("to", case),
         values,
-        serves: true,
+        status: Status::Serving,
         delivered: after("took", case),
         first: after("first", case),
         records: records(list, case),

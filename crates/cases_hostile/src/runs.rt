@@ -8,7 +8,6 @@ use frame_sim::{AuditFault, Step, World, audit};
 use gateway::Outcome;
 use nat_types::{GatewayId, NoMemory, WorldEvent};
 use sendings::pieces_of;
-use settings::Settings;
 use simulation::{Job, gateway_of, read_job};
 use std::alloc::Global;
 use std::fs;
@@ -46,7 +45,7 @@ pub(crate) enum Told {
 pub(crate) fn run_texts(settings: &str, script: &str, told: Told, case: &mut Case) {
     match read(case.alloc, settings, script) {
         Ok(job) => {
-            run(&job.settings, job.events.as_slice(), told, case);
+            run(&job, told, case);
             drop(job);
         }
         Err(_) => case.fault(),
@@ -65,13 +64,14 @@ fn read(alloc: Global, settings: &str, script: &str) -> Result<Job, Fault> {
     read_job(alloc, settings, TextFile::new("script", script))
 }
 
-/// Founds a new world. The function has no contract, so that its caller has little to prove.
-fn founded(alloc: Global, settings: &Settings) -> Result<World<'_>, NoMemory> {
-    World::founded(alloc, settings)
+/// Begins a new world. The function has no contract, so that its caller has little to prove.
+fn begun(alloc: Global, job: &Job) -> Result<World<'_>, NoMemory> {
+    World::begun(alloc, &job.settings, job.founded)
 }
 
-fn run(settings: &Settings, events: &[WorldEvent], told: Told, case: &mut Case) {
-    match founded(case.alloc, settings) {
+fn run(job: &Job, told: Told, case: &mut Case) {
+    let events = job.events.as_slice();
+    match begun(case.alloc, job) {
         Ok(mut world) => {
             let mut watch = Watch::new(case.alloc);
             watch.follow(&mut world, events, case);
@@ -152,7 +152,13 @@ impl Watch {
     fn audit(&mut self, world: &World<'_>, case: &mut Case) {
         match (world.table(GatewayId::Zero), world.table(GatewayId::One)) {
             (Ok(zero), Ok(one)) => {
-                let judged = audit(case.alloc, world.trace(), zero.as_slice(), one.as_slice());
+                let judged = audit(
+                    case.alloc,
+                    world.began_founded(),
+                    world.trace(),
+                    zero.as_slice(),
+                    one.as_slice(),
+                );
                 self.keep(judged);
             }
             _ => case.fault(),

@@ -4,7 +4,6 @@ use cases_words::Case;
 use faults::{Fault, TextFile};
 use frame_sim::{AuditFault, World, audit};
 use nat_types::{GatewayId, NoMemory, WorldEvent};
-use settings::Settings;
 use simulation::{Job, read_job};
 use std::alloc::Global;
 
@@ -13,7 +12,7 @@ use std::alloc::Global;
 pub(crate) fn audited(settings: &str, script: &str, after_each: bool, case: &mut Case) {
     match read(case.alloc, settings, script) {
         Ok(job) => {
-            audit_in(&job.settings, job.events.as_slice(), after_each, case);
+            audit_in(&job, after_each, case);
             drop(job);
         }
         Err(_) => case.fault(),
@@ -28,13 +27,14 @@ fn read(alloc: Global, settings: &str, script: &str) -> Result<Job, Fault> {
 }
 
 /// Returns a new world of these settings. The function has no contract, for the same reason.
-fn founded(alloc: Global, settings: &Settings) -> Result<World<'_>, NoMemory> {
-    World::founded(alloc, settings)
+fn begun(alloc: Global, job: &Job) -> Result<World<'_>, NoMemory> {
+    World::begun(alloc, &job.settings, job.founded)
 }
 
-/// Runs these events in a new world, and prints what the audit says.
-fn audit_in(settings: &Settings, events: &[WorldEvent], after_each: bool, case: &mut Case) {
-    match founded(case.alloc, settings) {
+/// Runs the events of a job in a new world, and prints what the audit says.
+fn audit_in(job: &Job, after_each: bool, case: &mut Case) {
+    let events = job.events.as_slice();
+    match begun(case.alloc, job) {
         Ok(mut world) => {
             if after_each {
                 tell_first(&mut world, events, case);
@@ -79,7 +79,14 @@ fn run_on(world: &mut World<'_>, events: &[WorldEvent], case: &mut Case) {
 fn fault_in(world: &World<'_>, case: &mut Case) -> Option<AuditFault> {
     match (world.table(GatewayId::Zero), world.table(GatewayId::One)) {
         (Ok(zero), Ok(one)) => {
-            audit(case.alloc, world.trace(), zero.as_slice(), one.as_slice()).err()
+            audit(
+                case.alloc,
+                world.began_founded(),
+                world.trace(),
+                zero.as_slice(),
+                one.as_slice(),
+            )
+            .err()
         }
         _ => {
             case.fault();

@@ -2,7 +2,7 @@
 ghost use Rattle.std.specs.Prelude.{◌<◌};
 
 use cases_words::Case;
-use link::{Datagram, Link, Taken, parse, write};
+use link::{Datagram, Link, Status, Taken, parse, write};
 use nat_types::GatewayId;
 use settings::Settings;
 use std::alloc::{AllocError, Global};
@@ -31,7 +31,10 @@ fn tell_head(case: &mut Case, datagram: &Datagram) {
     case.say("from ", datagram.sender);
     case.say(" boot ", datagram.boot);
     case.say(" to ", datagram.receiver_boot);
-    case.say(", serves ", datagram.serves);
+    match datagram.status {
+        Status::Ending => case.say(", ends ", true),
+        status => case.say(", serves ", status == Status::Serving),
+    }
 }
 
 fn tell_counts(case: &mut Case, datagram: &Datagram) {

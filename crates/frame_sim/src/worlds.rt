@@ -325,6 +325,13 @@ impl<'a> World<'a> {
         let _ = &self.settings;
     }
 
+    /// Whether the world began with gateway 0 founded, else with nobody up.
+    pub fn began_founded(&self) -> bool
+        ensures { result ≡ self.now.founded }
+    {
+        self.founded
+    }
+
     /// Returns all notes so far, the oldest first.
     pub fn trace(&self) -> &[Note]
         ensures { result.now ≡ self.now.trace }
