@@ -1,7 +1,7 @@
 //! Boot files by their paths.
 
 use crate::{FileDisk, FileFault};
-use boot_store::{BootFault, Disk, init, zero_file};
+use boot_store::{BootFault, Disk, init, new_file};
 use std::fs::{File, Files, OpenOptions, TryLockError};
 use std::io::{self, ErrorKind};
 use std::os::unix::fs::OpenOptionsExt;
@@ -56,7 +56,8 @@ pub fn open<R: Files<File = File>>(rt: &R, path: &str) -> Result<FileDisk<File>,
     }
 }
 
-/// Makes a boot file of number 0, on which a gateway can be founded, whole or not at all.
+/// Makes a boot file above a number, whole or not at all: the first start's number is the next one. Only on a file above 0 can
+/// a pair be founded.
 ///
 /// The file is written, synced and read back under a temporary name (its own with `.new` behind it), then linked to its own
 /// name, and its folder is synced. A file of the temporary name, which an earlier call may have left, is removed; one of the
@@ -67,7 +68,11 @@ pub fn open<R: Files<File = File>>(rt: &R, path: &str) -> Result<FileDisk<File>,
 ///
 /// `NoFile` where the folder isn't there; `Exists`; `NotMade` where no file can be made there; `NotStored`; `Altered`;
 /// `NotLinked`; `NoMemory`. After each of them no file of that name was made.
-pub fn create<R: Files<File = File> + AllocGlobal>(rt: &R, path: &str) -> Result<(), FileFault> {
+pub fn create<R: Files<File = File> + AllocGlobal>(
+    rt: &R,
+    path: &str,
+    above: u64,
+) -> Result<(), FileFault> {
     let folder = open_folder(rt, path).map_err(not_made)?;
     if rt.symlink_metadata(path).is_ok() {
         return Err(FileFault::Exists);
@@ -75,7 +80,7 @@ pub fn create<R: Files<File = File> + AllocGlobal>(rt: &R, path: &str) -> Result
     let Ok(temporary) = format!(in rt.alloc(); "{path}.new") else {
         return Err(FileFault::NoMemory);
     };
-    let made = make(rt, folder, temporary.as_str(), path);
+    let made = make(rt, folder, temporary.as_str(), path, above);
     let _is_gone = rt.remove_file(temporary.as_str());
     made
 }
@@ -86,6 +91,7 @@ fn make<R: Files<File = File>>(
     folder: File,
     temporary: &str,
     path: &str,
+    above: u64,
 ) -> Result<(), FileFault> {
     let _is_gone = rt.remove_file(temporary);
     let mut options = OpenOptions::new();
@@ -93,7 +99,7 @@ fn make<R: Files<File = File>>(
     options.read(true).write(true).create_new(true);
     let file = options.open(rt, temporary).map_err(not_made)?;
     let mut disk = FileDisk::new(file, folder);
-    write_zero(&mut disk)?;
+    write_new(&mut disk, above)?;
     if let Err(error) = rt.hard_link(temporary, path) {
         return Err(match error.kind() {
             ErrorKind::AlreadyExists => FileFault::Exists,
@@ -107,16 +113,16 @@ fn make<R: Files<File = File>>(
     Ok(())
 }
 
-/// Writes the bytes of a boot file of number 0, and reads them back.
-fn write_zero<D: Disk>(disk: &mut D) -> Result<(), FileFault> {
-    match init(disk) {
+/// Writes the bytes of a boot file above a number, and reads them back.
+fn write_new<D: Disk>(disk: &mut D, above: u64) -> Result<(), FileFault> {
+    match init(disk, above) {
         Ok(()) => {}
         Err(BootFault::Device(fault)) => return Err(FileFault::NotStored(fault)),
         Err(_) => unreachable!(),
     }
     let mut buffer = [0; 32];
     match disk.read(&mut buffer) {
-        Ok(32) if buffer == zero_file() => Ok(()),
+        Ok(32) if buffer == new_file(above) => Ok(()),
         Ok(_) => Err(FileFault::Altered),
         Err(fault) => Err(FileFault::NotStored(fault)),
     }

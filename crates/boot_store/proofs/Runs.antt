@@ -30,5 +30,6 @@ rises_over m start (Crashed left ∷ events) leaves run =
     rises_over m (left_by_crash left) events (after_crash m start left leaves run.0) run.1
 rises_over m start (Opened found ∷ events) leaves run = rises_over m found events (keeps_still start found run.0 m leaves) run.1
 
-pub zero_leaves : (s : Moment) → LeavesNumber 0 s → LeavesAtLeast 0 s
-zero_leaves s is c l = (0, is c l, omega arith)
+-- a number that is left is at least left
+pub number_leaves : (n : ℕ) (s : Moment) → LeavesNumber n s → LeavesAtLeast n s
+number_leaves n s is c l = (n, is c l, omega arith)

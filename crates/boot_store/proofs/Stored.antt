@@ -1,9 +1,9 @@
 -- A write over the slot that doesn't have the file's number.
-use Rattle.std.proofs.Common.{◌≡◌, ⊎_elim, ℕ, ◌+◌, ◌<◌, ◌≤◌, ◌^◌, List, [], ◌++◌, length, take, drop, map, Some, refl, sym, ◌∙◌, ap, subst, arith, append_assoc, length-append, length-drop}
+use Rattle.std.proofs.Common.{◌≡◌, ⊎_elim, ℕ, ◌+◌, ◌<◌, ◌≤◌, ◌^◌, max, List, [], ◌++◌, length, take, drop, map, Some, refl, sym, ◌∙◌, ap, subst, arith, append_assoc, length-append, length-drop}
 use Rattle.std.proofs.Math.Path.{ap₂}
 use Rattle.std.proofs.lemmas.List.{append-nil, drop-map, take-map, length-map, length-take, take_at, drop_at}
 use Rattle.boot_store.specs.Moment.{Moment, bytes_of, MayLeave, StillKept, AfterRead, put, loose_cell, kept_cell, left_by_crash, written, within_write, synced}
-use Rattle.boot_store.specs.BootFile.{slot_number, slot_at, greater, slot_bytes, zero_file}
+use Rattle.boot_store.specs.BootFile.{slot_number, slot_at, greater, slot_bytes, new_file}
 use Rattle.boot_store.specs.Crash.{LeavesAtLeast, LeavesFirst, LeavesNumber, IsReady}
 use Rattle.boot_store.proofs.Leaves.{as_read, leaves_length, leaves_take, leaves_drop, leaves_front, kept_leaves, synced_leaves, still_leaves, read_keeps, steady_leaves, synced-loose, synced-written, map-put, length-put, drop-put, take-put}
 use Rattle.boot_store.proofs.Numbers.{number_is, has_first, has_second, length-slot, slot_reads}
@@ -60,6 +60,11 @@ keeps_written place x s size ready m leaves c l =
     has_first m has.0 c (length_high x s size ready.steady ready.long c l16) (high_leaves x s size ready.steady ready.long c l16 ∙ high.1 ∙ has.1) has.2)
     ready.beside
 
+-- a slot in front of other bytes has its number
+cut_reads : (n : ℕ) (rest : List ℕ) → n < 2 ^ 64 → slot_number (take 16 (slot_bytes n ++ rest)) ≡ Some n
+cut_reads n rest fits =
+    ap slot_number (take_at (slot_bytes n) rest 16 (length-slot n) ∙ sym (append-nil (slot_bytes n))) ∙ slot_reads n [] fits
+
 -- once it is synced, the written number counts
 pub new_number : (place n : ℕ) (s : Moment) → n < 2 ^ 64 → IsReady place s → LeavesAtLeast n (synced (written place (slot_bytes n) s))
 new_number place n s fits ready c l =
@@ -78,10 +83,6 @@ new_number place n s fits ready c l =
     has_second n n c (omega (arith, ap length is16, length-put 16 (slot_bytes n) file (omega arith))) reads (omega arith))
     ready.beside
   where
-    cut_reads : (n : ℕ) (rest : List ℕ) → n < 2 ^ 64 → slot_number (take 16 (slot_bytes n ++ rest)) ≡ Some n
-    cut_reads n rest fits =
-        ap slot_number (take_at (slot_bytes n) rest 16 (length-slot n) ∙ sym (append-nil (slot_bytes n))) ∙ slot_reads n [] fits
-
     first_reads : (n : ℕ) (file : List ℕ) → n < 2 ^ 64 → slot_at 0 (put 0 (slot_bytes n) file) ≡ Some n
     first_reads n file fits = cut_reads n (drop (0 + length (slot_bytes n)) file) fits
 
@@ -92,37 +93,35 @@ new_number place n s fits ready c l =
         ap (λ (f : List ℕ). slot_number (take 16 f)) (ap (λ (f : List ℕ). drop 16 f) (append_assoc (take 16 file) (slot_bytes n) rest) ∙ drop_at (take 16 file) (slot_bytes n ++ rest) 16 front) ∙ cut_reads n rest fits
 
 -- a new file's write, synced, leaves its bytes in front
-zero_left : (s : Moment) (c : List ℕ) → MayLeave (synced (written 0 zero_file s)) c → (rest : List ℕ) × (c ≡ zero_file ++ rest)
-zero_left s c l =
-    let front : synced (written 0 zero_file s) ≡ left_by_crash zero_file ++ _ =
-    map-put _ 0 (map loose_cell zero_file) s ∙ ap (λ (t : Moment). put 0 t (synced s)) (synced-loose zero_file) in
-    leaves_front zero_file _ c (subst (λ t. MayLeave t c) front l)
+new_left : (n : ℕ) (s : Moment) (c : List ℕ) → MayLeave (synced (written 0 (new_file n) s)) c → (rest : List ℕ) × (c ≡ new_file n ++ rest)
+new_left n s c l =
+    let front : synced (written 0 (new_file n) s) ≡ left_by_crash (new_file n) ++ _ =
+    map-put _ 0 (map loose_cell (new_file n)) s ∙ ap (λ (t : Moment). put 0 t (synced s)) (synced-loose (new_file n)) in
+    leaves_front (new_file n) _ c (subst (λ t. MayLeave t c) front l)
 
-pub length-zero : length zero_file ≡ 32
-length-zero = omega (arith, length-append (slot_bytes 0) (slot_bytes 0), length-slot 0)
+pub length-new : (n : ℕ) → length (new_file n) ≡ 32
+length-new n = omega (arith, length-append (slot_bytes n) (slot_bytes n), length-slot n)
 
-pub zero_first : (s : Moment) → LeavesFirst zero_file (synced (written 0 zero_file s))
-zero_first s c l =
-    let left = zero_left s c l in
-    ap (take (length zero_file)) left.1 ∙ take_at zero_file left.0 (length zero_file) refl
+pub new_first : (n : ℕ) (s : Moment) → LeavesFirst (new_file n) (synced (written 0 (new_file n) s))
+new_first n s c l =
+    let left = new_left n s c l in
+    ap (take (length (new_file n))) left.1 ∙ take_at (new_file n) left.0 (length (new_file n)) refl
 
-pub zero_bytes : (s : Moment) → take 32 (bytes_of (synced (written 0 zero_file s))) ≡ zero_file
-zero_bytes s = ap (λ n. take n (bytes_of (synced (written 0 zero_file s)))) (sym length-zero) ∙ zero_first s _ (as_read (synced (written 0 zero_file s)))
+pub new_bytes : (n : ℕ) (s : Moment) → take 32 (bytes_of (synced (written 0 (new_file n) s))) ≡ new_file n
+new_bytes n s = ap (λ m. take m (bytes_of (synced (written 0 (new_file n) s)))) (sym (length-new n)) ∙ new_first n s _ (as_read (synced (written 0 (new_file n) s)))
 
-pub zero_number : (s : Moment) → LeavesNumber 0 (synced (written 0 zero_file s))
-zero_number s c l =
-    let zero_slot = slot_bytes 0 in
-    let size = length-slot 0 in
-    let left = zero_left s c l in
+pub new_leaves : (n : ℕ) (s : Moment) → n < 2 ^ 64 → LeavesNumber n (synced (written 0 (new_file n) s))
+new_leaves n s fits c l =
+    let slot = slot_bytes n in
+    let size = length-slot n in
+    let left = new_left n s c l in
     let rest = left.0 in
-    let is : c ≡ zero_slot ++ (zero_slot ++ rest) = left.1 ∙ append_assoc zero_slot zero_slot rest in
-    let long : 32 ≤ length c = omega (arith, ap length is, length-append zero_slot (zero_slot ++ rest), length-append zero_slot rest, size) in
-    let low : slot_at 0 c ≡ Some 0 = ap (slot_at 0) is ∙ cut_zero (zero_slot ++ rest) in
-    let high : slot_at 16 c ≡ Some 0 = ap (λ (f : List ℕ). slot_number (take 16 f)) (ap (λ (f : List ℕ). drop 16 f) is ∙ drop_at zero_slot (zero_slot ++ rest) 16 size) ∙ cut_zero rest in
-    number_is c long ∙ ap₂ greater low high
-  where
-    cut_zero : (rest : List ℕ) → slot_number (take 16 (slot_bytes 0 ++ rest)) ≡ Some 0
-    cut_zero rest = ap slot_number (take_at (slot_bytes 0) rest 16 (length-slot 0) ∙ sym (append-nil (slot_bytes 0))) ∙ slot_reads 0 [] (omega arith)
+    let is : c ≡ slot ++ (slot ++ rest) = left.1 ∙ append_assoc slot slot rest in
+    let long : 32 ≤ length c = omega (arith, ap length is, length-append slot (slot ++ rest), length-append slot rest, size) in
+    let low : slot_at 0 c ≡ Some n = ap (slot_at 0) is ∙ cut_reads n (slot ++ rest) fits in
+    let high : slot_at 16 c ≡ Some n = ap (λ (f : List ℕ). slot_number (take 16 f)) (ap (λ (f : List ℕ). drop 16 f) is ∙ drop_at slot (slot ++ rest) 16 size) ∙ cut_reads n rest fits in
+    let same : max n n ≡ n = omega arith in
+    number_is c long ∙ ap₂ greater low high ∙ ap Some same
 
 -- within a write over the other slot, the file's number is left
 pub keeps_within : (place n : ℕ) (s : Moment) → n ≡ 16 → IsReady place s → (m : ℕ) → LeavesAtLeast m s → LeavesAtLeast m (within_write place n s)

@@ -44,9 +44,9 @@ next_place (Some a) (Some b) = if nat_lt b a then 16 else 0
 unfoldable pub slot_bytes : ℕ → List ℕ
 slot_bytes n = big_bytes 8 n ++ big_bytes 8 (18446744073709551615 - n)
 
--- the 32 bytes of a new file: both slots have the number 0
-abbrev pub zero_file : List ℕ
-zero_file = slot_bytes 0 ++ slot_bytes 0
+-- the 32 bytes of a new file: both slots have this number
+abbrev pub new_file : ℕ → List ℕ
+new_file n = slot_bytes n ++ slot_bytes n
 
 -- the file with this number written
 abbrev pub with_number : ℕ → List ℕ → List ℕ

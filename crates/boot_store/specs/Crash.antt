@@ -3,7 +3,7 @@ use Rattle.std.specs.Prelude.{◌≡◌, ◌⊎◌, ◌≤◌, ◌<◌, ℕ, Lis
 use Rattle.std.specs.List.{AllByRecursion}
 use Rattle.boot_store.specs.declared.faults.BootFault.{BootFault}
 use Rattle.boot_store.specs.Moment.{Moment, MayLeave, MayShow, StillKept, FailedWrite, bytes_of, left_by_crash, synced, within_write, written}
-use Rattle.boot_store.specs.BootFile.{number_of, slot_at, boot_answer, next_place, slot_bytes, with_number, zero_file}
+use Rattle.boot_store.specs.BootFile.{number_of, slot_at, boot_answer, next_place, slot_bytes, with_number, new_file}
 
 -- the file's number is at least m
 abbrev pub HasAtLeast : ℕ → List ℕ → Type 0
@@ -45,9 +45,9 @@ abbrev pub Decides : Bool → Moment → Moment → Result ℕ BootFault → Typ
 Decides found start end answer =
     (file : List ℕ) × MayShow start file × (answer ≡ boot_answer found (number_of file)) × (end ≡ left_by_crash (answered_file answer file))
 
--- the moments of a new file's write and sync
-abbrev pub zero_past : Moment → List Moment
-zero_past start = start ∷ within_write 0 32 start ∷ written 0 zero_file start ∷ []
+-- the moments of the write and the sync of a new file of this number
+abbrev pub init_past : ℕ → Moment → List Moment
+init_past n start = start ∷ within_write 0 32 start ∷ written 0 (new_file n) start ∷ []
 
 -- the moments of a sync and a read: nothing is written
 abbrev pub looked : Moment → List Moment

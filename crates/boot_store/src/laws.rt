@@ -9,6 +9,7 @@ pub fn boot_numbers_rise()
     ensures over_any { (m : ℕ) (start : Moment) (events : List BootEvent)
         → LeavesAtLeast m start
         → IsRun start events → RiseFrom m (numbers_of events) }
-    ensures over_init { (start : Moment) (events : List BootEvent) → LeavesNumber 0 start
-        → IsRun start events → RiseFrom 0 (numbers_of events) }
+    ensures over_init { (above : ℕ) (start : Moment) (events : List BootEvent)
+        → LeavesNumber above start
+        → IsRun start events → RiseFrom above (numbers_of events) }
 {}

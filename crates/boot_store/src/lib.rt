@@ -18,4 +18,4 @@ pub use faults::BootFault;
 pub use laws::boot_numbers_rise;
 pub use model::{ModelDisk, Trouble};
 pub use slots::slot_number;
-pub use starts::{init, next_boot, zero_file};
+pub use starts::{init, new_file, next_boot};

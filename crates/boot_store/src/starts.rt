@@ -2,26 +2,28 @@
 // valid one.
 ghost use Rattle.std.specs.Prelude.{◌≡◌, ◌≤◌, ◌<◌, ◌+◌, ◌↔◌, ◌++◌, [], ◌∷◌, take, drop, OnOk, OnErr, IfOk, IfErr, IsErrAnd};
 ghost use Rattle.boot_store.specs.Moment.{MayShow, StillKept, bytes_of, written, within_write, synced};
-ghost use Rattle.boot_store.specs.BootFile.{slot_bytes, zero_file};
+ghost use Rattle.boot_store.specs.BootFile.{slot_bytes, new_file};
 ghost use Rattle.boot_store.specs.Calls.{IsDevice, IsInited};
-ghost use Rattle.boot_store.specs.Crash.{LeavesNumber, LeavesFirst, Since, Keeps, Rises, Decides, Settled, IsReady, WholeFile, zero_past, looked, WritesOnce, AfterWrite, AfterFailure, WriteStopped, LookStopped, StartStopped};
+ghost use Rattle.boot_store.specs.Crash.{LeavesNumber, LeavesFirst, Since, Keeps, Rises, Decides, Settled, IsReady, WholeFile, init_past, looked, WritesOnce, AfterWrite, AfterFailure, WriteStopped, LookStopped, StartStopped};
 
 use crate::slots::{next_number, next_place, slot_number, slot_of};
 use crate::{BootFault, DeviceFault, Disk};
 
-/// Writes a boot file on which a gateway can be founded: both slots have the number 0, and after Ok
-/// a crash leaves them so. After the Err `Device` any bytes may be in their place; no call was made
+/// Writes a boot file above a number: both slots have it, and after Ok a crash leaves them so. The
+/// first start's number is the next one; above 2^64 - 1 there is none. Only on a file above 0 can a
+/// pair be founded. After the Err `Device` any bytes may be in the slots' place; no call was made
 /// after the one that failed.
-pub fn init<D: Disk>(disk: &mut D) -> Result<(), BootFault>
+pub fn init<D: Disk>(disk: &mut D, above: u64) -> Result<(), BootFault>
     ensures only_device { IfErr result IsDevice }
     ensures bytes { D.honest disk.old
-        → OnOk result (take 32 (bytes_of (D.now disk.new)) ≡ zero_file) }
-    ensures left { D.honest disk.old → OnOk result (LeavesFirst zero_file (D.now disk.new)) }
-    ensures zero { D.honest disk.old → OnOk result (LeavesNumber 0 (D.now disk.new)) }
+        → OnOk result (take 32 (bytes_of (D.now disk.new)) ≡ new_file above) }
+    ensures left { D.honest disk.old
+        → OnOk result (LeavesFirst (new_file above) (D.now disk.new)) }
+    ensures zero { D.honest disk.old → OnOk result (LeavesNumber above (D.now disk.new)) }
     ensures end { D.honest disk.old
-        → OnOk result (D.now disk.new ≡ synced (written 0 zero_file (D.now disk.old))) }
+        → OnOk result (D.now disk.new ≡ synced (written 0 (new_file above) (D.now disk.old))) }
     ensures passes { D.honest disk.old
-        → OnOk result (D.past disk.new ≡ D.past disk.old ++ zero_past (D.now disk.old)) }
+        → OnOk result (D.past disk.new ≡ D.past disk.old ++ init_past above (D.now disk.old)) }
     ensures named { D.honest disk.old → OnOk result (D.named disk.new) }
     ensures behind { D.honest disk.old
         → OnErr result (StillKept (drop 32 (D.now disk.old)) (drop 32 (D.now disk.new))) }
@@ -29,21 +31,19 @@ pub fn init<D: Disk>(disk: &mut D) -> Result<(), BootFault>
     ensures ok { OnOk result (D.failures disk.new ≡ D.failures disk.old) }
     ensures device { OnErr result (D.failures disk.new ≡ D.failures disk.old + 1) }
     ensures stops { D.honest disk.old → OnErr result (Since (D.past disk.old) (D.past disk.new)
-        (WriteStopped 0 zero_file (D.now disk.old) (D.now disk.new))) }
-    ensures asked { IsInited D.writes D.syncs disk.old result disk.new }
+        (WriteStopped 0 (new_file above) (D.now disk.old) (D.now disk.new))) }
+    ensures asked { IsInited above D.writes D.syncs disk.old result disk.new }
 {
-    disk.write_at(0, &zero_file())?;
+    disk.write_at(0, &new_file(above))?;
     disk.sync()?;
     Ok(())
 }
 
-/// Returns the 32 bytes of a boot file on which a gateway can be founded: both slots have the
-/// number 0.
-#[tactic(auto, unfolding(crate::specs::BootFile::slot_bytes))]
-pub fn zero_file() -> [u8; 32]
-    ensures { result ≡ zero_file }
+/// Returns the 32 bytes of a boot file above a number: both slots have it.
+pub fn new_file(above: u64) -> [u8; 32]
+    ensures { result ≡ new_file above }
 {
-    let slot = slot_of(0);
+    let slot = slot_of(above);
     let mut file = [0; 32];
     file[..16].copy_from_slice(&slot);
     file[16..].copy_from_slice(&slot);

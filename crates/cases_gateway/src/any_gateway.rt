@@ -11,7 +11,7 @@ use gateway::{Event, Gateway, NoMemory, Out, Outcome, Secrets};
 use journal::{EventLog, Format, Mappings, Sink};
 use nat_types::{GatewayId, Key};
 use reports::{GatewayReport, Page, Sides};
-use rounds::{Options, run_rounds, serve};
+use rounds::{Ending, Identity, Options, RoundState, Watch, run_rounds, serve};
 use settings::Settings;
 use sockets::Wire;
 use std::alloc::Global;
@@ -58,6 +58,22 @@ pub(crate) trait AnyGateway: Sized {
     /// Returns the page of entries after a key.
     fn page_behind(&self, last: Option<Key>) -> Page;
 
+    /// Returns the time of the gateway's clock.
+    fn time(&self) -> u64;
+
+    /// Returns the state of a box that begins with the gateway, or None where there is no memory.
+    fn state(&self, alloc: Global, identity: Identity, watch: Watch) -> Option<RoundState>;
+
+    /// Takes the place of a gateway whose clock showed `moment`, in a box of this state.
+    fn take_place<W: Wire>(
+        &self,
+        identity: Identity,
+        moment: u64,
+        wire: &mut W,
+        state: &mut RoundState,
+        lines: Lines<'_>,
+    );
+
     /// Runs the gateway's rounds on a wire, to its end where `orders` says so.
     fn run<W: Wire>(
         &mut self,
@@ -67,16 +83,20 @@ pub(crate) trait AnyGateway: Sized {
         manager: &mut CountingManager,
         lines: Lines<'_>,
         orders: Orders,
-        options: &Options,
-    ) -> Result<(), NoMemory>;
+        state: &mut RoundState,
+    ) -> Ending;
 
     /// Drops the gateway, and frees its memory.
     fn end(self);
 }
 
-/// The way in which a box ends.
+/// The way in which a box runs and ends.
 #[derive(Clone, Copy)]
 pub(crate) struct Orders {
+    /// The most rounds; None for any number.
+    pub(crate) rounds: Option<u32>,
+    /// Whether a carrier's word counts.
+    pub(crate) track: bool,
     /// After how many rounds the end signal comes, if it does.
     pub(crate) told: Option<u32>,
     /// Whether the gateway is stopped after its rounds.
@@ -94,7 +114,7 @@ impl AnyGateway for Gateway {
         boot: u64,
         found: bool,
     ) -> Option<Gateway> {
-        if boot == 0 || (found && id == GatewayId::One) {
+        if boot == 0 {
             return None;
         }
         Gateway::new(alloc, settings, id, boot, found, secrets).ok()
@@ -149,6 +169,26 @@ impl AnyGateway for Gateway {
         rounds::page_after(self, last)
     }
 
+    fn time(&self) -> u64 {
+        self.moment()
+    }
+
+    fn state(&self, alloc: Global, identity: Identity, watch: Watch) -> Option<RoundState> {
+        RoundState::new(alloc, self, identity, watch).ok()
+    }
+
+    fn take_place<W: Wire>(
+        &self,
+        identity: Identity,
+        moment: u64,
+        wire: &mut W,
+        state: &mut RoundState,
+        lines: Lines<'_>,
+    ) {
+        let mut log = EventLog::new(Sink::new(lines, Format::Text), false, None);
+        state.found(self, identity, moment, wire, &mut log);
+    }
+
     fn run<W: Wire>(
         &mut self,
         alloc: Global,
@@ -157,9 +197,13 @@ impl AnyGateway for Gateway {
         manager: &mut CountingManager,
         lines: Lines<'_>,
         orders: Orders,
-        options: &Options,
-    ) -> Result<(), NoMemory> {
+        state: &mut RoundState,
+    ) -> Ending {
         let mut until = EndAfter(orders.told);
+        let mut options = Options {
+            rounds: orders.rounds,
+            track: orders.track,
+        };
         let mappings = if orders.mapped {
             Mappings::new(alloc).ok()
         } else {
@@ -168,12 +212,14 @@ impl AnyGateway for Gateway {
         let mut log = EventLog::new(Sink::new(lines, Format::Text), false, mappings);
         if orders.stops {
             serve(
-                alloc, self, wire, clock, &mut until, manager, &mut log, options,
+                self, wire, clock, &mut until, manager, state, &mut log, &mut options,
             )
         } else {
-            run_rounds(
-                alloc, self, wire, clock, &mut until, manager, &mut log, options,
-            )
+            let ending = run_rounds(
+                self, wire, clock, &mut until, manager, state, &mut log, &mut options,
+            );
+            log.finish(self.moment());
+            ending
         }
     }
 

@@ -51,16 +51,33 @@ impl<G: AnyGateway> Boxes<G> {
     ///   carriers of its interfaces, or doesn't; or logs mappings
     /// - `serves N M`, `serves - M`, with `told K` after it: the box runs N such rounds, or any number of them, until
     ///   the end signal comes after K; then it ends
+    /// - `founds N`: the box, which is to found the pair, does so in boot N; `stays WHY`: it can't, and goes on as it was
     /// - all else prepares the next rounds (`TestBox::prepare`)
     fn happen(&mut self, id: GatewayId, case: &mut Case) {
         match case.word() {
             "box" => self.start(id, case),
             "off" => self.put(id, None),
             "rounds" | "serves" => self.run(id, case),
+            "founds" => self.found(id, case),
+            "stays" => match self.at(id).as_mut() {
+                Some(found) => found.stay(case),
+                None => case.fault(),
+            },
             _ => match self.at(id).as_mut() {
                 Some(found) => found.prepare(case),
                 None => case.fault(),
             },
+        }
+    }
+
+    fn found(&mut self, id: GatewayId, case: &mut Case) {
+        let found = match id {
+            GatewayId::Zero => self.zero.as_mut(),
+            GatewayId::One => self.one.as_mut(),
+        };
+        match found {
+            Some(found) => found.found(&self.settings, case),
+            None => case.fault(),
         }
     }
 

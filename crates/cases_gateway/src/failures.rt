@@ -57,7 +57,7 @@ fn fail<G: AnyGateway>(found: &mut TestBox<G>, case: &mut Case) {
 /// Runs a first round, after which both sides are Active, and lets three frames come.
 fn make_ready<G: AnyGateway>(found: &mut TestBox<G>, case: &mut Case) {
     let lines = RefCell::new(Vec::new(case.alloc));
-    case.keep(found.go_on(Run::endless(1, 360), &lines));
+    let _ending = found.go_on(Run::endless(1, 360), &lines);
     found.bring(Place::Side(Side::Inside), &OUT, case);
     found.bring(Place::Side(Side::Outside), &BACK, case);
     found.bring(Place::Side(Side::Inside), &SHORT, case);
@@ -66,10 +66,10 @@ fn make_ready<G: AnyGateway>(found: &mut TestBox<G>, case: &mut Case) {
 /// Four rounds, 360 centiseconds apart, and the end. Where a send fails, a datagram is missing; where a receive fails,
 /// the input comes later.
 const RUN: Run = Run {
-    rounds: Some(4),
     pace: 360,
-    track: true,
     orders: Orders {
+        rounds: Some(4),
+        track: true,
         told: None,
         stops: true,
         mapped: false,

@@ -2,7 +2,7 @@
 
 use addresses::Protocol;
 use cases_words::Case;
-use control::Reply;
+use control::{PeerOffRefusal, Reply};
 use journal::{Cause, Origin};
 use nat_types::EntryState;
 use packet_rules::Reason;
@@ -13,7 +13,12 @@ use std::fmt::Display;
 pub(crate) fn show_reply(bytes: &[u8], case: &mut Case) {
     match Reply::read(bytes) {
         Some(Reply::Heard) => case.tell("answer heard"),
+        Some(Reply::Refused(PeerOffRefusal::PeerSeen(sighting))) => {
+            case.say("  answer peer-off 6 PeerSeen: ", sighting);
+            case.end();
+        }
         Some(Reply::Refused(refusal)) => tell_refused(case, refusal),
+        Some(Reply::NoBoot(refusal)) => tell_refused(case, refusal),
         Some(Reply::Report(bytes)) => show_report_of(bytes, case),
         Some(Reply::Page(bytes)) => show_page_of(bytes, case),
         None => {
@@ -58,6 +63,9 @@ fn show_report(report: &Report, case: &mut Case) {
     show_ports(&report.gateway, case);
     show_counts(report, case);
     case.say("    lines left out ", report.lines_left_out);
+    case.say("\n    named ", report.gateway.peer.named);
+    case.say(" foundings ", report.foundings);
+    case.say(" ends ", report.peer_ends);
     case.end();
 }
 

@@ -5,14 +5,17 @@ use crate::lines::Lines;
 use crate::managers::CountingManager;
 use crate::wires::{Datagram, Limit, MemoryWire, Outage, StepClock};
 use cases_words::Case;
+use control::BootRefusal;
 use gateway::Secrets;
-use nat_types::{GatewayId, NoMemory, Side};
-use rounds::{Identity, Options};
+use journal::{EventLog, Format, NotFounded, Sink};
+use nat_types::{GatewayId, Side};
+use rounds::{Ending, Identity, RoundState, Watch};
 use settings::Settings;
 use sockets::Place;
 use std::alloc::Global;
 use std::cell::RefCell;
-use std::io::{self, ErrorKind, Write};
+use std::io::{self, Write};
+use std::mem;
 
 /// The digest of the settings that a box in memory reports.
 const DIGEST: u64 = 7;
@@ -21,6 +24,7 @@ const DIGEST: u64 = 7;
 pub(crate) struct TestBox<G> {
     gateway: G,
     identity: Identity,
+    state: RoundState,
     pub(crate) wire: MemoryWire,
     clock: StepClock,
     manager: CountingManager,
@@ -29,11 +33,8 @@ pub(crate) struct TestBox<G> {
 /// The way in which a box is run.
 #[derive(Clone, Copy)]
 pub(crate) struct Run {
-    /// The most rounds; None for any number.
-    pub(crate) rounds: Option<u32>,
     /// The time from one round to the next, in centiseconds.
     pub(crate) pace: u64,
-    pub(crate) track: bool,
     pub(crate) orders: Orders,
 }
 
@@ -41,10 +42,10 @@ impl Run {
     /// So many rounds, after which the box can go on.
     pub(crate) fn endless(rounds: u32, pace: u64) -> Run {
         Run {
-            rounds: Some(rounds),
             pace,
-            track: true,
             orders: Orders {
+                rounds: Some(rounds),
+                track: true,
                 told: None,
                 stops: false,
                 mapped: false,
@@ -64,14 +65,21 @@ impl<G: AnyGateway> TestBox<G> {
         found: bool,
     ) -> Option<TestBox<G>> {
         let gateway = G::begun(alloc, settings, Secrets::fixed(), id, boot, found)?;
+        let identity = Identity {
+            id,
+            boot,
+            founded: found,
+            values: settings.values(),
+            digest: DIGEST,
+        };
+        let Some(state) = gateway.state(alloc, identity, Watch::of(settings, id)) else {
+            gateway.end();
+            return None;
+        };
         Some(TestBox {
             gateway,
-            identity: Identity {
-                id,
-                boot,
-                values: settings.values(),
-                digest: DIGEST,
-            },
+            identity,
+            state,
             wire: MemoryWire::new(alloc),
             clock: StepClock { now: 0, pace: 0 },
             manager: CountingManager::new(),
@@ -83,11 +91,13 @@ impl<G: AnyGateway> TestBox<G> {
         let TestBox {
             gateway,
             identity: _,
+            state,
             wire,
             clock,
             manager,
         } = self;
         gateway.end();
+        drop(state);
         drop(wire);
         drop(clock);
         drop(manager);
@@ -155,26 +165,30 @@ impl<G: AnyGateway> TestBox<G> {
     fn run_on(&mut self, case: &mut Case) {
         let run = endless_in(case);
         let lines = RefCell::new(Vec::new(case.alloc));
-        case.keep(self.go_on(run, &lines));
+        let ending = self.go_on(run, &lines);
         self.wire.show(case);
         case.text(lines.into_inner().as_slice());
+        tell_founding(ending, case);
     }
 
     /// Runs the rounds, and keeps the lines of the log.
-    pub(crate) fn go_on(&mut self, run: Run, lines: &RefCell<Vec<u8>>) -> Result<(), NoMemory> {
-        let gone = self.run_with(run, 0, open(lines));
+    pub(crate) fn go_on(&mut self, run: Run, lines: &RefCell<Vec<u8>>) -> Ending {
+        let ending = self.run_with(run, 0, open(lines));
         self.wire.outages.clear();
-        gone
+        ending
     }
 
     fn run_to_end(&mut self, case: &mut Case) {
         let run = run_in(case);
         let lines = RefCell::new(Vec::new(case.alloc));
-        let mut output = Vec::new(case.alloc);
-        case.keep(self.serve(run, 0, open(&lines), &mut output));
+        self.manager.begin();
+        let ending = self.run_with(run, 0, open(&lines));
         self.wire.show(case);
         case.text(lines.into_inner().as_slice());
-        case.text(output.as_slice());
+        tell_founding(ending, case);
+        if ending == Ending::Ended {
+            case.put("end\n");
+        }
         self.manager.show(case);
     }
 
@@ -187,19 +201,12 @@ impl<G: AnyGateway> TestBox<G> {
         output: &mut O,
     ) -> io::Result<()> {
         self.manager.begin();
-        if self.run_with(run, failing, lines).is_err() {
-            return Err(io::Error::from(ErrorKind::OutOfMemory));
-        }
+        let _ended = self.run_with(run, failing, lines);
         output.write_all(b"end\n")?;
         output.flush()
     }
 
-    fn run_with(&mut self, run: Run, failing: u64, lines: Lines<'_>) -> Result<(), NoMemory> {
-        let options = Options {
-            identity: self.identity,
-            rounds: run.rounds,
-            track: run.track,
-        };
+    fn run_with(&mut self, run: Run, failing: u64, lines: Lines<'_>) -> Ending {
         self.clock.pace = run.pace;
         self.wire.begin(failing);
         self.gateway.run(
@@ -209,8 +216,64 @@ impl<G: AnyGateway> TestBox<G> {
             &mut self.manager,
             lines,
             run.orders,
-            &options,
+            &mut self.state,
         )
+    }
+
+    /// Goes on with a gateway that founds the pair in this boot, as it was told.
+    pub(crate) fn found(&mut self, settings: &Settings, case: &mut Case) {
+        let (alloc, id, boot) = (case.alloc, self.identity.id, case.number());
+        let Some(founder) = G::begun(alloc, settings, Secrets::fixed(), id, boot, true) else {
+            return case.fault();
+        };
+        let moment = self.gateway.time();
+        mem::replace(&mut self.gateway, founder).end();
+        self.identity.boot = boot;
+        self.identity.founded = true;
+        self.clock.now = 0;
+        self.wire.begin(0);
+        let lines = RefCell::new(Vec::new(alloc));
+        self.gateway.take_place(
+            self.identity,
+            moment,
+            &mut self.wire,
+            &mut self.state,
+            open(&lines),
+        );
+        self.wire.show(case);
+        case.text(lines.into_inner().as_slice());
+    }
+
+    /// Goes on as before, since no gateway founds the pair: for want of keys, or since the boot file refuses a number.
+    pub(crate) fn stay(&mut self, case: &mut Case) {
+        let (why, refusal) = case.pick(&REFUSALS, (NotFounded::NoMemory, None));
+        let lines = RefCell::new(Vec::new(case.alloc));
+        let log = EventLog::new(Sink::new(open(&lines), Format::Text), false, None);
+        self.wire.begin(0);
+        let moment = self.gateway.time();
+        self.state.stay(why, refusal, moment, &mut self.wire, &log);
+        drop(log);
+        self.wire.show(case);
+        case.text(lines.into_inner().as_slice());
+    }
+}
+
+/// Why no gateway founds the pair, by name.
+const REFUSALS: [(&str, (NotFounded, Option<BootRefusal>)); 5] = [
+    ("no-keys", (NotFounded::NoKeys, None)),
+    ("no-memory", (NotFounded::NoMemory, None)),
+    ("device", (NotFounded::NoBoot, Some(BootRefusal::Device))),
+    ("damaged", (NotFounded::NoBoot, Some(BootRefusal::Damaged))),
+    (
+        "used-up",
+        (NotFounded::NoBoot, Some(BootRefusal::BootsUsedUp)),
+    ),
+];
+
+/// Prints that the box is to found the pair, if it is.
+fn tell_founding(ending: Ending, case: &mut Case) {
+    if ending == Ending::Founds {
+        case.tell("is to found the pair");
     }
 }
 
@@ -229,7 +292,7 @@ fn endless_in(case: &mut Case) -> Run {
     let mut run = Run::endless(rounds, pace);
     if case.left() != 0 {
         let untracked = case.is_first("untracked", "mapped");
-        run.track = !untracked;
+        run.orders.track = !untracked;
         run.orders.mapped = !untracked;
     }
     run
@@ -241,16 +304,13 @@ fn run_in(case: &mut Case) -> Run {
     let rounds = rounds_in(case);
     let pace = case.number();
     let orders = Orders {
+        rounds,
+        track: true,
         told: told_in(case),
         stops: true,
         mapped: false,
     };
-    Run {
-        rounds,
-        pace,
-        track: true,
-        orders,
-    }
+    Run { pace, orders }
 }
 
 /// Reads a number of rounds, or `-` for any.

@@ -39,6 +39,7 @@ pub(crate) fn blank() -> Report {
                 boot: 0,
                 heard: None,
                 serves: false,
+                named: 0,
             },
             pairs: PairCounts::new(),
             ports: PortCounts {
@@ -61,6 +62,8 @@ pub(crate) fn blank() -> Report {
         lines_left_out: 0,
         apart: ApartReport::new(),
         settings: SettingsReport::new(OWN),
+        foundings: 0,
+        peer_ends: 0,
     }
 }
 
@@ -107,6 +110,7 @@ impl Actor for Reports {
 /// - `lines COUNT`: how many lines of the log were left out
 /// - `apart yes|no MOMENT`: whether the gateway is apart at that time
 /// - `made COUNT`: it notes so many pairs that it has made alone
+/// - `eras FOUNDINGS ENDS`: how often the pair was founded, and the other box's end was taken
 /// - `values ZERO ONE INSIDE OUTSIDE PREFIX PREFIX`: the other box says these values, each range as two ports
 /// - a line of `set_gateway`
 fn set(report: &mut Report, case: &mut Case) {
@@ -118,6 +122,10 @@ fn set(report: &mut Report, case: &mut Case) {
         "lines" => report.lines_left_out = case.number(),
         "apart" => apart(&mut report.apart, case),
         "made" => make(&mut report.apart, case),
+        "eras" => {
+            report.foundings = case.number();
+            report.peer_ends = case.number();
+        }
         "values" => hear(&mut report.settings, case),
         _ => set_gateway(&mut report.gateway, case),
     }
@@ -189,7 +197,7 @@ fn count(counters: &mut Counters, case: &mut Case) {
 /// Sets a part of the gateway's state.
 ///
 /// - `clock MOMENT`, `table synced|unsynced`, `turn away|here`
-/// - `peer BOOT serves|idle`, `heard CENTISECONDS`: how long ago
+/// - `peer BOOT serves|idle`, `heard CENTISECONDS`: how long ago; `named BOOT`: the own boot that it named last
 /// - `pairs PROTOCOL STATE COUNT`: adds so many entries
 /// - `ports OWNED ICMP TCP UDP`, `waiting PAIR HOP`
 /// - `fragments SIDE INCOMPLETE TAKEN WHOLE LATE CROWDED_OUT CONTRADICTED CUT`
@@ -204,6 +212,7 @@ fn set_gateway(state: &mut GatewayReport, case: &mut Case) {
             state.peer.serves = case.is_first("serves", "idle");
         }
         "heard" => state.peer.heard = Some(case.number()),
+        "named" => state.peer.named = case.number(),
         "pairs" => count_pairs(&mut state.pairs, case),
         "ports" => state.ports = ports(case),
         "waiting" => {

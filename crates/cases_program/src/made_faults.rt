@@ -3,7 +3,7 @@
 use boot_file::FileFault;
 use boot_store::{BootFault, DeviceFault};
 use cases_words::Case;
-use control::{AskFault, ControlPath, NoSocket, PeerOffRefusal};
+use control::{AskFault, BootRefusal, ControlPath, NoSocket, PeerOffRefusal, Sighting, Sign};
 use faults::{Fault, FileRefusal, report};
 use journal::FilterFault;
 use reports::ReadFault;
@@ -44,6 +44,9 @@ fn fault_named(rt: &HostRuntime, name: &str) -> Option<Fault> {
     if let Some(refusal) = refusal_named(name) {
         return Some(Fault::PeerOff(refusal));
     }
+    if let Some(refusal) = boot_refusal_named(name) {
+        return Some(Fault::not_founded(alloc, "boot0", refusal));
+    }
     match name {
         "unread" => Some(file(alloc, FileRefusal::NoFile(ErrorKind::PermissionDenied))),
         "no-folder" => Some(file(alloc, FileRefusal::NotWritten(ErrorKind::NotADirectory))),
@@ -53,6 +56,7 @@ fn fault_named(rt: &HostRuntime, name: &str) -> Option<Fault> {
         )),
         "busy" => Some(file(alloc, FileRefusal::NoFile(ErrorKind::ResourceBusy))),
         "not-synced" => Some(Fault::NotSynced),
+        "start-seen" => Some(Fault::PeerSeen(seen(Sign::Datagram))),
         "no-text" => Some(Fault::filter(alloc, FilterFault::NotText)),
         "other-version" => Some(Fault::NoReport(ReadFault::OtherVersion(9))),
         "bad-bytes" => Some(Fault::NoReport(ReadFault::BadBytes)),
@@ -96,11 +100,27 @@ fn device_named(name: &str) -> Option<DeviceFault> {
 /// Returns why a box refuses the word that the other one is off, by its name.
 fn refusal_named(name: &str) -> Option<PeerOffRefusal> {
     match name {
-        "not-synced-box" => Some(PeerOffRefusal::NotSynced),
         "no-peer" => Some(PeerOffRefusal::NoPeer),
         "past-boot" => Some(PeerOffRefusal::PastBoot),
         "unknown-boot" => Some(PeerOffRefusal::UnknownBoot),
         "peer-heard" => Some(PeerOffRefusal::PeerHeard),
+        "peer-seen" => Some(PeerOffRefusal::PeerSeen(seen(Sign::Datagram))),
+        "peer-advertises" => Some(PeerOffRefusal::PeerSeen(seen(Sign::Advertisement))),
+        _ => None,
+    }
+}
+
+/// Returns what was seen 40 centiseconds ago.
+fn seen(sign: Sign) -> Sighting {
+    Sighting { sign, ago: 40 }
+}
+
+/// Returns what a boot file refuses to a box that is to found the pair, by its name.
+fn boot_refusal_named(name: &str) -> Option<BootRefusal> {
+    match name {
+        "unfounded-device" => Some(BootRefusal::Device),
+        "unfounded-damaged" => Some(BootRefusal::Damaged),
+        "unfounded-used-up" => Some(BootRefusal::BootsUsedUp),
         _ => None,
     }
 }

@@ -24,7 +24,8 @@ impl BlockFile {
     /// - `reads COUNT whole|stuck` sets how many bytes a read gives at most, and whether the folder can be synced
     /// - `trouble CALLS once|before|within|short BYTES` sets what goes wrong after CALLS good calls, and what a torn
     ///   write leaves; `short` is a write that fails by its count
-    /// - `init`, `start`, `found` make a boot file, start, and start as the founder
+    /// - `init`, `init ABOVE`, `start`, `found` make a boot file, make one above a number, start, and start as the
+    ///   founder
     fn change(&mut self, case: &mut Case) {
         case.back();
         match case.word() {

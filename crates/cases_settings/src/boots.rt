@@ -18,7 +18,7 @@ fn slot(number: u64) -> [u8; 16] {
 /// Makes a boot file with these bytes in its first slot, cut at a length. Its mode is 0600, whatever the mask of new
 /// files is.
 fn make_one(rt: &HostRuntime, path: &str, first: &[u8], length: u64) -> Result<()> {
-    boot_file::create(rt, path)?;
+    boot_file::create(rt, path, 0)?;
     let mut file = OpenOptions::new().write(true).open(rt, path)?;
     file.write_all(first)?;
     file.set_len(length)?;

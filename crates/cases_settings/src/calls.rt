@@ -1,13 +1,13 @@
 //! Boot files in the working folder, one call a line.
 
-use crate::disks::started;
+use crate::disks::{above, started};
 use boot_file::{create, open};
 use cases_words::{Actor, Case};
 use std::fs;
 use std::os::unix::fs::PermissionsExt;
 
 /// The cases whose lines are calls of a boot file: a line is the name of the call and what the call
-/// takes.
+/// takes. `init FILE` makes a file, `init FILE ABOVE` makes one above a number.
 #[derive(Drop)]
 pub(crate) struct Calls {
     pub(crate) rt: HostRuntime,
@@ -37,7 +37,7 @@ fn answer(rt: &HostRuntime, case: &mut Case) {
 
 fn make(rt: &HostRuntime, case: &mut Case) {
     let path = case.name();
-    match create(rt, path.as_str()) {
+    match create(rt, path.as_str(), above(case)) {
         Ok(_) => show(rt, path.as_str(), "made", case),
         Err(fault) => case.refused(fault),
     }

@@ -71,7 +71,7 @@ impl Actor for Disks {
 
 /// Does a call of the disk, and prints its answer:
 ///
-/// - `init`, `start`, `found` make a boot file, start, and start as the founder
+/// - `init`, `init ABOVE`, `start`, `found` make a boot file, make one above a number, start, and start as the founder
 /// - all else changes the disk
 fn call(disk: &mut ModelDisk, case: &mut Case) {
     case.back();
@@ -104,9 +104,14 @@ fn change(disk: &mut ModelDisk, case: &mut Case) {
     }
 }
 
+/// Reads the number above which a boot file is made, which is 0 where no word is left.
+pub(crate) fn above(case: &mut Case) -> u64 {
+    if case.left() == 0 { 0 } else { case.number() }
+}
+
 /// Makes a boot file on a disk, and prints `made` or the fault.
 pub(crate) fn made<D: Disk>(disk: &mut D, case: &mut Case) {
-    match init(disk) {
+    match init(disk, above(case)) {
         Ok(()) => case.put("made"),
         Err(fault) => case.put(fault),
     }

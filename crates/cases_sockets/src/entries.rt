@@ -1,7 +1,7 @@
 //! The words of a line about a box's records, and what they mean.
 
 use cases_words::Case;
-use journal::{Cause, Entry, Format, Mapping, Origin, PeerState};
+use journal::{Cause, Entry, Format, Mapping, NoTable, NotFounded, Origin};
 use nat_types::NoteKind;
 use vrrp_states::State;
 
@@ -20,11 +20,10 @@ const ROLES: [(&str, State); 3] = [
     ("Active", State::Active),
 ];
 
-const PEER_STATES: [(&str, PeerState); 4] = [
-    ("silent", PeerState::Silent),
-    ("not-serving", PeerState::NotServing),
-    ("serving", PeerState::Serving),
-    ("other-settings", PeerState::OtherSettings),
+const NOT_FOUNDED: [(&str, NotFounded); 3] = [
+    ("no-keys", NotFounded::NoKeys),
+    ("no-boot", NotFounded::NoBoot),
+    ("no-memory", NotFounded::NoMemory),
 ];
 
 /// Returns the format of records that the next word names.
@@ -76,7 +75,10 @@ pub(crate) fn entry_in(case: &mut Case) -> Entry {
         "fails" => Entry::Fails(origin_in(case)),
         "works" => Entry::Works(origin_in(case)),
         "too-long" => Entry::TooLong(origin_in(case)),
-        "no-table" => Entry::NoTable(case.pick(&PEER_STATES, PeerState::Silent)),
+        "no-table" => Entry::NoTable(no_table_in(case)),
+        "founded" => Entry::Founded,
+        "not-founded" => Entry::NotFounded(case.pick(&NOT_FOUNDED, NotFounded::NoKeys)),
+        "peer-ended" => Entry::PeerEnded,
         "mapping-begins" => Entry::MappingBegins(Mapping::of(&case.pair())),
         "mapping-ends" => Entry::MappingEnds(Mapping::of(&case.pair())),
         _ => {
@@ -84,6 +86,14 @@ pub(crate) fn entry_in(case: &mut Case) -> Entry {
             Entry::Away
         }
     }
+}
+
+/// Returns why a box has no table, as in `same 3 4 silent`: whether the other box runs on the same settings, the boot that it named,
+/// the own one, and whether it is heard.
+fn no_table_in(case: &mut Case) -> NoTable {
+    let is_other = case.is_first("other", "same");
+    let (named, boot) = (case.number(), case.number());
+    NoTable::of(is_other, named, boot, case.is_first("heard", "silent"))
 }
 
 /// Returns what a gateway notes: `used`, `released` or `retaken` and a pair, or `synced`.

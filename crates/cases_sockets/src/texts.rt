@@ -3,17 +3,40 @@
 use crate::boxes::ways_in;
 use anyhow::Result;
 use cases_words::{Actor, Case};
-use control::{ControlPath, PathFault, PeerOffRefusal, Reply, Word, refusal_bytes};
+use control::{
+    BootRefusal, ControlPath, PathFault, PeerOffRefusal, Reply, Sighting, Sign, Word,
+    boot_refusal_bytes, refusal_bytes,
+};
 use sockets::{End, Ends, Way};
 use std::alloc::Global;
 
-/// The refusals, in the order of their numbers.
-const REFUSALS: [(&str, PeerOffRefusal); 5] = [
-    ("1", PeerOffRefusal::NotSynced),
+/// The refusals, in the order of their numbers; what was seen came 40 centiseconds ago.
+const REFUSALS: [(&str, PeerOffRefusal); 6] = [
     ("2", PeerOffRefusal::NoPeer),
     ("3", PeerOffRefusal::PastBoot),
     ("4", PeerOffRefusal::UnknownBoot),
     ("5", PeerOffRefusal::PeerHeard),
+    (
+        "6-datagram",
+        PeerOffRefusal::PeerSeen(Sighting {
+            sign: Sign::Datagram,
+            ago: 40,
+        }),
+    ),
+    (
+        "6-advertisement",
+        PeerOffRefusal::PeerSeen(Sighting {
+            sign: Sign::Advertisement,
+            ago: 40,
+        }),
+    ),
+];
+
+/// What a boot file refuses, in the order of the numbers.
+const BOOT_REFUSALS: [(&str, BootRefusal); 3] = [
+    ("1", BootRefusal::Device),
+    ("2", BootRefusal::Damaged),
+    ("3", BootRefusal::BootsUsedUp),
 ];
 
 /// The cases of texts, words and replies.
@@ -30,7 +53,7 @@ impl Actor for Texts {
     /// - `off N`, `off N forced`, `off known`, `side SIDE UP CARRIER`, `status`, `pairs`, `pairs PROTOCOL PORT`: the
     ///   bytes of a word
     /// - `answer HEX`: the reply of these bytes
-    /// - `refusal N`: the bytes of a refusal, and its text
+    /// - `refusal N`: the bytes of a refusal, and its text; `no-boot N`: the same of a boot file's
     fn act(&mut self, case: &mut Case) {
         case.title("", "\n");
         match case.word() {
@@ -44,6 +67,7 @@ impl Actor for Texts {
             "pairs" => pairs(case),
             "answer" => reply(case),
             "refusal" => refusal(case),
+            "no-boot" => no_boot(case),
             _ => case.fault(),
         }
     }
@@ -167,8 +191,18 @@ fn reply(case: &mut Case) {
 }
 
 fn refusal(case: &mut Case) {
-    let refusal = case.pick(&REFUSALS, PeerOffRefusal::NotSynced);
-    case.hex("  ", &refusal_bytes(refusal));
+    let refusal = case.pick(&REFUSALS, PeerOffRefusal::NoPeer);
+    case.hex("  ", refusal_bytes(refusal).as_slice());
+    case.say(" ", refusal);
+    if let PeerOffRefusal::PeerSeen(sighting) = refusal {
+        case.say(": ", sighting);
+    }
+    case.end();
+}
+
+fn no_boot(case: &mut Case) {
+    let refusal = case.pick(&BOOT_REFUSALS, BootRefusal::Device);
+    case.hex("  ", boot_refusal_bytes(refusal).as_slice());
     case.say(" ", refusal);
     case.end();
 }

@@ -6,17 +6,15 @@ use Rattle.command_line.specs.Tasks.{AreWrong, IsFaulty, IsTask, RefusesAs, Refu
 use Rattle.command_line.specs.declared.faults.LineFault.{LineFault}
 use Rattle.command_line.specs.declared.faults.LineFault.TheVariants.{Refused, Values, NoMemory}
 use Rattle.command_line.specs.declared.faults.ValueFault.{ValueFault}
-use Rattle.command_line.specs.declared.faults.ValueFault.TheVariants.{FoundNeedsIdZero, NoFilter, NoSide, NoStatus}
+use Rattle.command_line.specs.declared.faults.ValueFault.TheVariants.{NoFilter, NoSide, NoStatus}
 use Rattle.command_line.specs.declared.tasks.Task.{Task}
 
 -- the fault that is about a command
 abbrev fault_at : Text → ValueFault
 fault_at name =
-    if bytes_eq name (codes "gate") then FoundNeedsIdZero else if bytes_eq name (codes "side") then NoSide
-    else if bytes_eq name (codes "status") then NoStatus else NoFilter
+    if bytes_eq name (codes "side") then NoSide else if bytes_eq name (codes "status") then NoStatus else NoFilter
 
 fault_back : (why : ValueFault) → fault_at (command_at why) ≡ why
-fault_back FoundNeedsIdZero = refl
 fault_back NoSide = refl
 fault_back NoStatus = refl
 fault_back NoFilter = refl

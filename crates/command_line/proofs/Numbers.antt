@@ -18,7 +18,7 @@ use Rattle.nat_types.specs.declared.gateways.GatewayId.{GatewayId}
 use Rattle.nat_types.specs.declared.gateways.GatewayId.TheVariants.{Zero, One}
 use Rattle.command_line.specs.Line.{Takes, entered_by, line_app}
 use Rattle.command_line.specs.Tasks.{HasNumbers, Numbered, wants_id}
-use Rattle.command_line.specs.Values.{HasId, HasIdIf, HasNumberIf, IsRead, IsReadFrom, IsReadIf, number_of}
+use Rattle.command_line.specs.Values.{HasId, HasIdIf, HasNumberIf, HasNumberUpTo, IsRead, IsReadFrom, IsReadIf, number_of}
 use Rattle.command_line.proofs.Entering.{Each, found_each, neither}
 use Rattle.command_line.proofs.Passing.{AllFit, IsOption, RuleFits, Wants, level_reads, level_reads_if}
 
@@ -70,11 +70,12 @@ gateway_of (suc zero) least = (One, refl)
 gateway_of (suc (suc n)) least = absurd (omega arith)
 
 -- the same of a parser of natural numbers
-unsigned_number : (bits least most : ℕ) (t : Text) → most < 2 ^ bits → IsUnsignedIn least most t → (n : ℕ) × IsRead bits (without_leading_plus t) n
+unsigned_number : (bits least most : ℕ) (t : Text) → most < 2 ^ bits → IsUnsignedIn least most t
+    → (n : ℕ) × IsRead bits (without_leading_plus t) n × (n ≤ most)
 unsigned_number bits least most t fits passed =
     let highest : digits_value 10 (without_leading_plus t) ≤ most = passed.3 in
     let below : digits_value 10 (without_leading_plus t) < 2 ^ bits = omega arith in
-    (digits_value 10 (without_leading_plus t), ((passed.0, below), refl))
+    (digits_value 10 (without_leading_plus t), ((passed.0, below), refl), highest)
 
 -- ---- the numbers of a level
 
@@ -85,6 +86,10 @@ one_bit = Signed (pos 0) (pos 1)
 -- what passes a parser is read as a number of so many bits
 abbrev ReadBy : ℕ → ValueParser → Type 0
 ReadBy bits q = (t : Text) → Accepts false q t → (n : ℕ) × IsReadFrom bits (Some (read_as (reading_of q) t)) n
+
+-- and that is no greater than `most`
+abbrev ReadUpTo : ℕ → ℕ → ValueParser → Type 0
+ReadUpTo bits most q = (t : Text) → Accepts false q t → (n : ℕ) × IsReadFrom bits (Some (read_as (reading_of q) t)) n × (n ≤ most)
 
 module _ (s : Shape) (words : List Text) (none : level_fault s [] nothing_held words false [] ≡ []) where
   number_there : (bits : ℕ) (name : Text) (q : ValueParser) → ReadBy bits q → AllFit name q s.rules → HasNumberIf bits name (rows_after s.rules [] words)
@@ -98,6 +103,19 @@ module _ (s : Shape) (words : List Text) (none : level_fault s [] nothing_held w
       go (inr got) =
           let read = reads got.0 got.2 in
           (Some read.0, subst (λ o. IsReadIf bits o (Some read.0)) (sym got.1) read.1)
+
+  number_up_to : (bits most : ℕ) (name : Text) (q : ValueParser) → ReadUpTo bits most q → AllFit name q s.rules
+      → HasNumberUpTo bits most name (rows_after s.rules [] words)
+  number_up_to bits most name q reads all = go (level_reads_if name q s all words none)
+    where
+      at : Option Text
+      at = one_of name (rows_after s.rules [] words)
+
+      go : (at ≡ None) ⊎ ((v : Text) × (at ≡ Some (read_as (reading_of q) v)) × Accepts false q v) → HasNumberUpTo bits most name (rows_after s.rules [] words)
+      go (inl left_out) = (None, subst (λ o. IsReadIf bits o None) (sym left_out) tt, tt)
+      go (inr got) =
+          let read = reads got.0 got.2 in
+          (Some read.0, subst (λ o. IsReadIf bits o (Some read.0)) (sym got.1) read.1, read.2)
 
   -- the gateway of a text that passed
   gateway_read : (v : Text) → Accepts false one_bit v → (id : GatewayId) × IsReadFrom 8 (Some (without_minus v)) (number_of id)
@@ -140,6 +158,9 @@ seconds_parser = Unsigned 0 4294967295
 abbrev port_parser : ValueParser
 port_parser = Unsigned 1 65535
 
+abbrev above_parser : ValueParser
+above_parser = Unsigned 0 18446744073709551614
+
 read_rounds : ReadBy 32 rounds_parser
 read_rounds t passed =
     let most : 4294967295 < 2 ^ 32 = omega arith in
@@ -149,17 +170,25 @@ read_rounds t passed =
 read_boot : ReadBy 64 boot_parser
 read_boot t passed =
     let most : 18446744073709551615 < 2 ^ 64 = omega arith in
-    unsigned_number 64 0 18446744073709551615 t most passed
+    let read = unsigned_number 64 0 18446744073709551615 t most passed in
+    (read.0, read.1)
 
 read_seconds : ReadBy 32 seconds_parser
 read_seconds t passed =
     let most : 4294967295 < 2 ^ 32 = omega arith in
-    unsigned_number 32 0 4294967295 t most passed
+    let read = unsigned_number 32 0 4294967295 t most passed in
+    (read.0, read.1)
 
 read_port : ReadBy 16 port_parser
 read_port t passed =
     let most : 65535 < 2 ^ 16 = omega arith in
-    unsigned_number 16 1 65535 t most passed
+    let read = unsigned_number 16 1 65535 t most passed in
+    (read.0, read.1)
+
+read_above : ReadUpTo 64 18446744073709551614 above_parser
+read_above t passed =
+    let most : 18446744073709551614 < 2 ^ 64 = omega arith in
+    unsigned_number 64 0 18446744073709551614 t most passed
 
 -- the rules of a name
 abbrev named : Text → List Rule → List Rule
@@ -184,8 +213,9 @@ Gives s = (words : List Text) → level_fault s [] nothing_held words false [] �
 -- a command with these options, of which it may want `--id`
 gives : (s : Shape) → Each (IsOption one_bit) (named (codes "id") s.rules) → Each (IsOption rounds_parser) (named (codes "rounds") s.rules)
     → Each (IsOption boot_parser) (named (codes "boot") s.rules) → Each (IsOption seconds_parser) (named (codes "seconds") s.rules)
-    → Each (IsOption port_parser) (named (codes "port") s.rules) → (wants_id s.name ≡ true → Wants (codes "id") s.rules) → Gives s
-gives s ids rounds boots seconds ports wants words none =
+    → Each (IsOption port_parser) (named (codes "port") s.rules) → Each (IsOption above_parser) (named (codes "above") s.rules)
+    → (wants_id s.name ≡ true → Wants (codes "id") s.rules) → Gives s
+gives s ids rounds boots seconds ports aboves wants words none =
     let id = fits_named (codes "id") one_bit s.rules ids in (
       record {
         id = id_there_if s words none id;
@@ -193,6 +223,7 @@ gives s ids rounds boots seconds ports wants words none =
         boot = number_there s words none 64 (codes "boot") boot_parser read_boot (fits_named (codes "boot") boot_parser s.rules boots);
         seconds = number_there s words none 32 (codes "seconds") seconds_parser read_seconds (fits_named (codes "seconds") seconds_parser s.rules seconds);
         port = number_there s words none 16 (codes "port") port_parser read_port (fits_named (codes "port") port_parser s.rules ports);
+        above = number_up_to s words none 64 18446744073709551614 (codes "above") above_parser read_above (fits_named (codes "above") above_parser s.rules aboves);
       },
       λ is. id_there s words none id (wants is),
     )
@@ -203,28 +234,28 @@ never e = cc
 
 all_give : Each Gives (built line_app).subs
 all_give = (
-  gives _ tt tt tt tt tt (λ e. never e),
+  gives _ tt tt tt tt tt (record { parser = refl; ignore_case = refl; action = refl; least = refl; defaults = refl }, tt) (λ e. never e),
   (
-    gives _ (record { parser = refl; ignore_case = refl; action = refl; least = refl; defaults = refl }, tt) tt tt tt tt (λ e. never e),
+    gives _ (record { parser = refl; ignore_case = refl; action = refl; least = refl; defaults = refl }, tt) tt tt tt tt tt (λ e. never e),
     (
       gives _ (record { parser = refl; ignore_case = refl; action = refl; least = refl; defaults = refl }, tt)
-          (record { parser = refl; ignore_case = refl; action = refl; least = refl; defaults = refl }, tt) tt tt tt (λ _. inr (inl (refl, refl))),
+          (record { parser = refl; ignore_case = refl; action = refl; least = refl; defaults = refl }, tt) tt tt tt tt (λ _. inr (inl (refl, refl))),
       (
         gives _ (record { parser = refl; ignore_case = refl; action = refl; least = refl; defaults = refl }, tt) tt tt
-            (record { parser = refl; ignore_case = refl; action = refl; least = refl; defaults = refl }, tt) tt (λ _. inr (inl (refl, refl))),
+            (record { parser = refl; ignore_case = refl; action = refl; least = refl; defaults = refl }, tt) tt tt (λ _. inr (inl (refl, refl))),
         (
           gives _ (record { parser = refl; ignore_case = refl; action = refl; least = refl; defaults = refl }, tt) tt tt tt
-              (record { parser = refl; ignore_case = refl; action = refl; least = refl; defaults = refl }, tt) (λ _. inr (inl (refl, refl))),
+              (record { parser = refl; ignore_case = refl; action = refl; least = refl; defaults = refl }, tt) tt (λ _. inr (inl (refl, refl))),
           (
-            gives _ (record { parser = refl; ignore_case = refl; action = refl; least = refl; defaults = refl }, tt) tt tt tt tt (λ _. inr (inl (refl, refl))),
+            gives _ (record { parser = refl; ignore_case = refl; action = refl; least = refl; defaults = refl }, tt) tt tt tt tt tt (λ _. inr (inl (refl, refl))),
             (
               gives _ (record { parser = refl; ignore_case = refl; action = refl; least = refl; defaults = refl }, tt) tt
-                  (record { parser = refl; ignore_case = refl; action = refl; least = refl; defaults = refl }, tt) tt tt (λ _. inr (inl (refl, refl))),
+                  (record { parser = refl; ignore_case = refl; action = refl; least = refl; defaults = refl }, tt) tt tt tt (λ _. inr (inl (refl, refl))),
               (
-                gives _ (record { parser = refl; ignore_case = refl; action = refl; least = refl; defaults = refl }, tt) tt tt tt tt (λ _. inr (inl (refl, refl))),
+                gives _ (record { parser = refl; ignore_case = refl; action = refl; least = refl; defaults = refl }, tt) tt tt tt tt tt (λ _. inr (inl (refl, refl))),
                 (
-                  gives _ tt tt tt tt tt (λ e. never e),
-                  (gives _ tt tt tt tt tt (λ e. never e), tt),
+                  gives _ tt tt tt tt tt tt (λ e. never e),
+                  (gives _ tt tt tt tt tt tt (λ e. never e), tt),
                 ),
               ),
             ),

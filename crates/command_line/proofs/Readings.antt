@@ -1,5 +1,5 @@
 -- What the getters of the matches read, by the rows.
-use Rattle.std.proofs.Common.{◌≡◌, ℕ, Option, Some, None, Result, Ok, Err, List, refl, sym, ap, subst}
+use Rattle.std.proofs.Common.{◌≡◌, ◌≤◌, ℕ, Option, Some, None, IfSome, Result, Ok, Err, List, refl, sym, ap, subst, arith}
 use Rattle.std.specs.Option.{option_map, unwrap_or}
 use Rattle.std.specs.Borrow.{Bor}
 use Rattle.std.specs.Str.Parse.{ParsesUnsigned}
@@ -7,7 +7,7 @@ use Rattle.clap.specs.Words.{ReadsOne, Row, Text, one_of, one_text, rows_of}
 use Rattle.clap.specs.declared.parser.matches.Found.{Found}
 use Rattle.clap.proofs.WalkLemmas.{one_text-rows}
 use Rattle.nat_types.specs.declared.gateways.GatewayId.{GatewayId}
-use Rattle.command_line.specs.Values.{HasIdIf, HasNumberIf, IsIdIf, IsReadFrom, IsReadIf, ReadsId, ReadsNumber}
+use Rattle.command_line.specs.Values.{HasIdIf, HasNumberIf, IsIdIf, IsReadFrom, IsReadIf, IsReadOr, ReadsId, ReadsNumber}
 
 -- the text of a value, or of a default
 pub text_or : (o : Option (Bor Text)) (d : Bor Text) (x : Option Text) → option_map (λ s. s.now) o ≡ x → (unwrap_or o d).now ≡ unwrap_or x d.now
@@ -55,6 +55,21 @@ read_if bits name rows r has reads = go (one_of name rows) r has (from_rows bits
     go (Some t) (Some n) there is = is
     go (Some t) None (None, bad) is = bad
     go (Some t) None (Some n, number) is = is n number
+
+-- the number that is read, or another where nothing stands
+pub read_or : (bits other : ℕ) (o : Option Text) (r : Option ℕ) → IsReadIf bits o r → IsReadOr bits other o (unwrap_or r other)
+read_or bits other None None is = refl
+read_or bits other None (Some n) is = absurd is
+read_or bits other (Some t) None is = absurd is
+read_or bits other (Some t) (Some n) is = is
+
+-- which is no greater than what is no less than both
+pub most_or : (bits most other : ℕ) (o : Option Text) (n r : Option ℕ) → IsReadIf bits o n → IfSome n (λ number. number ≤ most)
+    → IsReadIf bits o r → other ≤ most → unwrap_or r other ≤ most
+most_or bits most other o n None there up_to is low = low
+most_or bits most other None n (Some m) there up_to is low = absurd is
+most_or bits most other (Some t) None (Some m) there up_to is low = absurd there
+most_or bits most other (Some t) (Some n) (Some m) there up_to is low = omega (arith, there.1, is.1, up_to)
 
 -- the gateway that is read where one is named, or where `--id` is left out
 pub id_if : (rows : List Row) (r : Option GatewayId) → HasIdIf rows → ReadsId rows r → IsIdIf rows r

@@ -47,9 +47,9 @@ flag_rule name = record (new_rule name) { long = Some name; action = Some SetTru
 abbrev pub way_rule : List ℕ → Rule
 way_rule name = record (text_rule name) { defaults = codes "loopback" ∷ [] }
 
--- `init FILE`
+-- `init FILE [--above N]`
 abbrev pub init_app : App
-init_app = with_rule (new_app (codes "init")) (file_rule (codes "FILE"))
+init_app = with_rule (with_rule (new_app (codes "init")) (file_rule (codes "FILE"))) (number_rule (codes "above") 0 18446744073709551614)
 
 -- `[--id I] [--strict]`
 abbrev pub with_strict : App → App

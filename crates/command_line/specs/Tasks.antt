@@ -1,5 +1,5 @@
 -- The task that words ask for.
-use Rattle.std.specs.Prelude.{◌≡◌, ◌≢◌, ◌⊎◌, Bool, true, not, List, [], ◌∷◌, codes, Option, Some, None, option_map, string_bytes}
+use Rattle.std.specs.Prelude.{◌≡◌, ◌≢◌, ◌≤◌, ◌⊎◌, Bool, true, not, List, [], ◌∷◌, codes, Option, Some, None, option_map, string_bytes}
 use Rattle.std.specs.List.{list_any}
 use Rattle.std.specs.Str.{bytes_eq}
 use Rattle.clap.specs.Kinds.{IsAmong}
@@ -7,14 +7,14 @@ use Rattle.clap.specs.Words.{Row, Text, first_of, kind_of, one_of}
 use Rattle.clap.specs.declared.error.kind.ErrorKind.TheVariants.{DisplayVersion}
 use Rattle.command_line.specs.Filters.{IsAddressIf, IsPortIf, LacksFilter, LacksStatus, entry_state_in, form_in, protocol_in, wait_in}
 use Rattle.command_line.specs.Line.{AskVersion, MayAskVersion, Takes, entered_by, faults_of}
-use Rattle.command_line.specs.Values.{HasId, HasIdIf, HasNumberIf, IsId, IsIdIf, IsReadIf, flag_of, side_in, state_in, word_of}
+use Rattle.command_line.specs.Values.{HasId, HasIdIf, HasNumberIf, HasNumberUpTo, IsId, IsIdIf, IsReadIf, IsReadOr, flag_of, side_in, state_in, word_of}
 use Rattle.command_line.specs.declared.faults.LineFault.{LineFault}
 use Rattle.command_line.specs.declared.faults.LineFault.TheVariants.{Refused, Values, NoMemory}
 use Rattle.command_line.specs.declared.faults.ValueFault.{ValueFault}
-use Rattle.command_line.specs.declared.faults.ValueFault.TheVariants.{FoundNeedsIdZero, NoSide, NoStatus, NoFilter}
-use Rattle.nat_types.specs.declared.gateways.GatewayId.TheVariants.{One}
+use Rattle.command_line.specs.declared.faults.ValueFault.TheVariants.{NoSide, NoStatus, NoFilter}
 use Rattle.command_line.specs.declared.words.CheckWords.{CheckWords}
 use Rattle.command_line.specs.declared.words.GateWords.{GateWords}
+use Rattle.command_line.specs.declared.words.InitWords.{InitWords}
 use Rattle.command_line.specs.declared.words.PairsWords.{PairsWords}
 use Rattle.command_line.specs.declared.words.PeerOffWords.{PeerOffWords}
 use Rattle.command_line.specs.declared.words.RunWords.{RunWords}
@@ -30,6 +30,12 @@ pub record AreFiles (rows : List Row) (files : RunWords) : Type 0 where
   pub settings : string_bytes files.settings ≡ word_of (codes "SETTINGS") rows
   pub script : string_bytes files.script ≡ word_of (codes "SCRIPT") rows
   pub capture : option_map string_bytes files.capture ≡ first_of (codes "capture") rows
+
+-- the file, and the number above which its boots are to be: that at `--above`, or 0; above it there is a number
+pub record IsInit (rows : List Row) (init : InitWords) : Type 0 where
+  pub file : string_bytes init.file ≡ word_of (codes "FILE") rows
+  pub above : IsReadOr 64 0 (one_of (codes "above") rows) init.above
+  pub most : init.above ≤ 18446744073709551614
 
 pub record IsCheck (rows : List Row) (check : CheckWords) : Type 0 where
   pub settings : string_bytes check.settings ≡ word_of (codes "SETTINGS") rows
@@ -86,7 +92,7 @@ pub record IsPeerOff (rows : List Row) (word : PeerOffWords) : Type 0 where
 
 -- the task of a command, by the values that the words give it; the version is no command's
 abbrev pub IsTask : Text → List Row → Task → Type 0
-IsTask name rows (task.Init file) = (name ≡ codes "init") × (string_bytes file ≡ word_of (codes "FILE") rows)
+IsTask name rows (task.Init words) = (name ≡ codes "init") × IsInit rows words
 IsTask name rows (task.Check words) = (name ≡ codes "check") × IsCheck rows words
 IsTask name rows (task.Gate words) = (name ≡ codes "gate") × IsGate rows words
 IsTask name rows (task.Status words) = (name ≡ codes "status") × IsStatus rows words
@@ -131,6 +137,7 @@ pub record HasNumbers (rows : List Row) : Type 0 where
   pub boot : HasNumberIf 64 (codes "boot") rows
   pub seconds : HasNumberIf 32 (codes "seconds") rows
   pub port : HasNumberIf 16 (codes "port") rows
+  pub above : HasNumberUpTo 64 18446744073709551614 (codes "above") rows
 
 -- so it is with the command that was entered; and where it wants `--id`, that names a gateway
 abbrev pub Numbered : Option (Text × List Row) → Type 0
@@ -139,24 +146,18 @@ Numbered (Some entered) = HasNumbers entered.1 × (wants_id entered.0 ≡ true �
 
 -- ---- why words are no task
 
--- `--found` stands beside `--id 1`
-abbrev pub FoundsAtOne : List Row → Type 0
-FoundsAtOne rows = (flag_of (codes "found") rows ≡ true) × IsId rows One
-
 -- the words of `side` name no side, or don't say whether it is up or down
 abbrev pub LacksSide : List Row → Type 0
 LacksSide rows = (side_in rows ≡ None) ⊎ (state_in rows ≡ None)
 
 -- the command whose values a fault is about
 abbrev pub command_at : ValueFault → Text
-command_at FoundNeedsIdZero = codes "gate"
 command_at NoSide = codes "side"
 command_at NoStatus = codes "status"
 command_at NoFilter = codes "pairs"
 
 -- the values don't go together so
 abbrev pub AreWrong : List Row → ValueFault → Type 0
-AreWrong rows FoundNeedsIdZero = FoundsAtOne rows
 AreWrong rows NoSide = LacksSide rows
 AreWrong rows NoStatus = LacksStatus rows
 AreWrong rows NoFilter = LacksFilter rows

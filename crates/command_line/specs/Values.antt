@@ -1,5 +1,5 @@
 -- What the values of a command say.
-use Rattle.std.specs.Prelude.{◌≡◌, ◌<◌, ◌^◌, ℕ, Bool, true, false, List, [], codes, Option, Some, None, unwrap_or, if◌then◌else◌}
+use Rattle.std.specs.Prelude.{◌≡◌, ◌<◌, ◌≤◌, ◌^◌, ℕ, Bool, true, false, List, [], codes, Option, Some, None, IfSome, unwrap_or, if◌then◌else◌}
 use Rattle.std.specs.Str.{bytes_eq}
 use Rattle.std.specs.Str.Parse.{IsNumeral, digits_value, without_leading_plus}
 use Rattle.std.specs.Option.{option_map_or}
@@ -55,6 +55,15 @@ IsReadIf bits (Some text) (Some n) = IsRead bits (without_leading_plus text) n
 -- a number of so many bits stands there, or nothing
 abbrev pub HasNumberIf : ℕ → Text → List Row → Type 0
 HasNumberIf bits name rows = (n : Option ℕ) × IsReadIf bits (one_of name rows) n
+
+-- a number of so many bits, no greater than `most`, stands there, or nothing
+abbrev pub HasNumberUpTo : ℕ → ℕ → Text → List Row → Type 0
+HasNumberUpTo bits most name rows = (n : Option ℕ) × IsReadIf bits (one_of name rows) n × IfSome n (λ number. number ≤ most)
+
+-- n is the number of the text, one of so many bits, or `other` where there is none
+abbrev pub IsReadOr : ℕ → ℕ → Option Text → ℕ → Type 0
+IsReadOr bits other None n = n ≡ other
+IsReadOr bits other (Some text) n = IsRead bits (without_leading_plus text) n
 
 -- ---- the gateway
 

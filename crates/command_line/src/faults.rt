@@ -8,9 +8,6 @@ use thiserror::Error;
 /// A fault of a command's values, each of which `clap` accepts.
 #[derive(Clone, Copy, Debug, Error)]
 pub enum ValueFault {
-    /// `gate` has `--found` beside `--id 1`: only gateway 0 founds the pair.
-    #[error("found needs id 0")]
-    FoundNeedsIdZero,
     /// `side` has a word for no side, or neither `up` nor `down`.
     #[error("side needs inside or outside, and up or down")]
     NoSide,

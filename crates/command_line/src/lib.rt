@@ -17,5 +17,6 @@ pub use helps::help;
 pub use tasks::{Task, command};
 pub use versions::VERSION;
 pub use words::{
-    CheckWords, GateWords, PairsWords, PeerOffWords, RunWords, StatusFormat, StatusWords, WayWords,
+    CheckWords, GateWords, InitWords, PairsWords, PeerOffWords, RunWords, StatusFormat,
+    StatusWords, WayWords,
 };

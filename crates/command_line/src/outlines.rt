@@ -19,6 +19,13 @@ pub(crate) struct Outline<'a> {
     pub(crate) arguments: &'a [Argument<'a>],
 }
 
+/// The text below the options in the help of `init`.
+const INIT_HELP: &str =
+    "A box whose boot file is lost gets a new one above all its boots so far. `natpair status` of the other box says the
+greatest that it knows; add 1000 to that, for boots of which it never heard.
+
+Example: natpair init boot0";
+
 /// The text below the options in the help of `gate`.
 const GATE_HELP: &str = "A way is one of
   loopback                          the ports of the settings, on this machine
@@ -30,6 +37,13 @@ A filter is directives with commas between them, as in --log warn,natpair::link=
 environment's NATPAIR_LOG, or info.
 
 Example: natpair gate S.toml --id 0";
+
+/// The text below the options in the help of `peer-off`.
+const PEER_OFF_HELP: &str =
+    "A gateway that has no table founds the pair again by this word, as the next boot of its box; so it must be true. It
+refuses the word while it hears the peer or sees its advertisements.
+
+Example: natpair peer-off S.toml --id 0 --boot 7";
 
 /// The parser of a gateway's number, 0 or 1.
 const GATEWAY_NUMBER: ValueParser<'static> = ValueParser::Signed(0, 1);
@@ -76,12 +90,19 @@ static COMMANDS: [Outline<'static>; 10] = [
     Outline {
         name: "init",
         about: "Creates a boot file; one that exists is left as it is and refused",
-        after_help: "Example: natpair init boot0",
-        arguments: &[Argument {
-            kind: ArgumentKind::Positional,
-            name: "FILE",
-            help: "The boot file to create, as in boot0",
-        }],
+        after_help: INIT_HELP,
+        arguments: &[
+            Argument {
+                kind: ArgumentKind::Positional,
+                name: "FILE",
+                help: "The boot file to create, as in boot0",
+            },
+            Argument {
+                kind: ArgumentKind::Number(ValueParser::Unsigned(0, 18_446_744_073_709_551_614)),
+                name: "above",
+                help: "At least each boot number that this box ever had, as in --above 1007; left out, it is 0",
+            },
+        ],
     },
     Outline {
         name: "check",
@@ -141,7 +162,7 @@ static COMMANDS: [Outline<'static>; 10] = [
             Argument {
                 kind: ArgumentKind::Flag,
                 name: "found",
-                help: "Founds the pair: once, at gateway 0, with a new boot file",
+                help: "Founds the pair, unless the other box is seen first: once, with a new boot file",
             },
             Argument {
                 kind: ArgumentKind::Way,
@@ -262,7 +283,7 @@ static COMMANDS: [Outline<'static>; 10] = [
     Outline {
         name: "peer-off",
         about: "Tells a running gateway that a boot of its peer has ended for good",
-        after_help: "Example: natpair peer-off S.toml --id 0 --boot 7",
+        after_help: PEER_OFF_HELP,
         arguments: &[
             SETTINGS,
             ID,
@@ -274,7 +295,7 @@ static COMMANDS: [Outline<'static>; 10] = [
             Argument {
                 kind: ArgumentKind::Flag,
                 name: "force",
-                help: "Takes a boot above the one that it knows, too",
+                help: "Takes a boot above the one that it knows, too, and where only the peer's advertisements were seen",
             },
         ],
     },

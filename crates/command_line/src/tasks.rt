@@ -2,14 +2,14 @@
 ghost use Rattle.std.specs.Prelude.{◌≡◌, codes, string_bytes, map, option_map, true, IfOk, IfErr, OnOk};
 ghost use Rattle.clap.specs.Words.{found_of, rows_of, subcommand_rows_of};
 ghost use Rattle.command_line.specs.Line.{Takes, entered_by};
-ghost use Rattle.command_line.specs.Values.{HasId, IsId};
-ghost use Rattle.command_line.specs.Tasks.{AreFiles, AreWays, AreWrong, Asks, Enters, HasNumbers, IsCheck, IsEntered, IsEnteredFaulty, IsFaulty, IsGate, IsPeerOff, IsTask, Numbered, Refuses, RefusesAs, RefusesEntered, RefusesValues, RefusesWords, is_named, wants_id};
+ghost use Rattle.command_line.specs.Values.{HasId};
+ghost use Rattle.command_line.specs.Tasks.{AreFiles, AreWays, AreWrong, Asks, Enters, HasNumbers, IsCheck, IsEntered, IsEnteredFaulty, IsFaulty, IsGate, IsInit, IsPeerOff, IsTask, Numbered, Refuses, RefusesAs, RefusesEntered, RefusesValues, RefusesWords, is_named, wants_id};
 ghost use Rattle.command_line.specs.declared.faults.ValueFault.{ValueFault as Why};
-ghost use Rattle.command_line.specs.declared.faults.ValueFault.TheVariants.{FoundNeedsIdZero, NoFilter, NoSide, NoStatus};
+ghost use Rattle.command_line.specs.declared.faults.ValueFault.TheVariants.{NoFilter, NoSide, NoStatus};
 
 use crate::faults::{LineFault, ValueFault};
 use crate::words::{
-    CheckWords, GateWords, PairsWords, PeerOffWords, RunWords, StatusWords, WayWords,
+    CheckWords, GateWords, InitWords, PairsWords, PeerOffWords, RunWords, StatusWords, WayWords,
 };
 use crate::{commands, filters, values};
 use clap::ArgMatches;
@@ -21,7 +21,7 @@ use std::alloc::{AllocError, Global};
 #[derive(Debug, Drop)]
 pub enum Task {
     /// Create a boot file.
-    Init(String),
+    Init(InitWords),
     /// Check settings, or compare them with others.
     Check(CheckWords),
     /// Run one gateway.
@@ -118,9 +118,9 @@ fn task_of(alloc: Global, name: &str, matches: &ArgMatches<'_>) -> Result<Task, 
     ensures err { IfErr result (RefusesValues name.now (rows_of (found_of matches.now))) }
 {
     match name {
-        "init" => Ok(Task::Init(values::word(alloc, matches, "FILE")?)),
+        "init" => Ok(Task::Init(init(alloc, matches)?)),
         "check" => Ok(Task::Check(check(alloc, matches)?)),
-        "gate" => gate(alloc, matches),
+        "gate" => Ok(Task::Gate(gate(alloc, matches)?)),
         "status" => status(alloc, matches),
         "pairs" => pairs(alloc, matches),
         "stop" => {
@@ -133,6 +133,17 @@ fn task_of(alloc: Global, name: &str, matches: &ArgMatches<'_>) -> Result<Task, 
         "loop" => Ok(Task::Loop(run_words(alloc, matches)?)),
         _ => unreachable!(),
     }
+}
+
+/// Returns the values of `init`.
+fn init(alloc: Global, matches: &ArgMatches<'_>) -> Result<InitWords, AllocError>
+    requires { HasNumbers (rows_of (found_of matches.now)) }
+    ensures words { IfOk result (IsInit (rows_of (found_of matches.now))) }
+{
+    Ok(InitWords {
+        file: values::word(alloc, matches, "FILE")?,
+        above: values::above(matches),
+    })
 }
 
 /// Returns the values of `check`.
@@ -151,33 +162,11 @@ fn check(alloc: Global, matches: &ArgMatches<'_>) -> Result<CheckWords, AllocErr
     })
 }
 
-/// Returns the task of `gate`. Only gateway 0 founds the pair.
-fn gate(alloc: Global, matches: &ArgMatches<'_>) -> Result<Task, LineFault>
+/// Returns the values of `gate`.
+fn gate(alloc: Global, matches: &ArgMatches<'_>) -> Result<GateWords, AllocError>
     requires numbers { HasNumbers (rows_of (found_of matches.now)) }
     requires id { HasId (rows_of (found_of matches.now)) }
-    ensures ok { IfOk result (IsTask (codes "gate") (rows_of (found_of matches.now))) }
-    ensures sound { OnOk result (¬ (AreWrong (rows_of (found_of matches.now)) FoundNeedsIdZero)) }
-    ensures err { IfErr result (RefusesAs FoundNeedsIdZero (rows_of (found_of matches.now))) }
-{
-    let id = values::required_id(matches);
-    let found = values::flag(matches, "found");
-    if found && id == GatewayId::One {
-        return Err(LineFault::Values(ValueFault::FoundNeedsIdZero));
-    }
-    let gate = gate_words(alloc, matches, id)?;
-    Ok(Task::Gate(gate))
-}
-
-/// Returns the values of `gate` for this gateway.
-fn gate_words(
-    alloc: Global,
-    matches: &ArgMatches<'_>,
-    id: GatewayId,
-) -> Result<GateWords, AllocError>
-    requires numbers { HasNumbers (rows_of (found_of matches.now)) }
-    requires id { IsId (rows_of (found_of matches.now)) id }
     ensures words { IfOk result (IsGate (rows_of (found_of matches.now))) }
-    ensures id { IfOk result (λ gate. gate.id ≡ id) }
 {
     Ok(GateWords {
         ways: ways(alloc, matches)?,
@@ -186,7 +175,7 @@ fn gate_words(
         capture: values::optional_word(alloc, matches, "capture")?,
         notify: values::optional_word(alloc, matches, "notify")?,
         stop_on: values::optional_word(alloc, matches, "stop-on")?,
-        id,
+        id: values::required_id(matches),
         rounds: values::optional_u32(matches, "rounds"),
         until_eof: values::flag(matches, "until-eof"),
         found: values::flag(matches, "found"),

@@ -1,7 +1,7 @@
 //! The values that `clap` finds for the arguments of a command, by their names.
-ghost use Rattle.std.specs.Prelude.{◌≡◌, option_map, string_bytes, IfOk};
+ghost use Rattle.std.specs.Prelude.{◌≡◌, ◌≤◌, codes, option_map, string_bytes, IfOk};
 ghost use Rattle.clap.specs.Words.{first_of, found_of, one_of, rows_of};
-ghost use Rattle.command_line.specs.Values.{word_of, flag_of, side_in, state_in, HasId, HasIdIf, HasNumberIf, IsId, IsIdIf, IsReadIf, ReadsNumber, ReadsId};
+ghost use Rattle.command_line.specs.Values.{word_of, flag_of, side_in, state_in, HasId, HasIdIf, HasNumberIf, HasNumberUpTo, IsId, IsIdIf, IsReadIf, IsReadOr, ReadsNumber, ReadsId};
 
 use clap::ArgMatches;
 use nat_types::{GatewayId, Side};
@@ -91,6 +91,16 @@ pub(crate) fn optional_u64(matches: &ArgMatches<'_>, name: &str) -> Option<u64>
     ensures { IsReadIf 64 (one_of name.now (rows_of (found_of matches.now))) result }
 {
     matches.get_one::<u64>(name)
+}
+
+/// Returns the number at `--above`, or 0 where that is left out. A boot file above it has a first boot number.
+pub(crate) fn above(matches: &ArgMatches<'_>) -> u64
+    requires { HasNumberUpTo 64 18446744073709551614 (codes "above")
+        (rows_of (found_of matches.now)) }
+    ensures read { IsReadOr 64 0 (one_of (codes "above") (rows_of (found_of matches.now))) result }
+    ensures most { result ≤ 18446744073709551614 }
+{
+    optional_u64(matches, "above").unwrap_or(0)
 }
 
 /// Returns the gateway at `--id`, or None where `--id` names no gateway.

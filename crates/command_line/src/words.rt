@@ -2,6 +2,14 @@
 use addresses::{Ip, Port, Protocol};
 use nat_types::{EntryState, GatewayId};
 
+/// The boot file that `init` makes.
+#[derive(Debug, Drop)]
+pub struct InitWords {
+    pub file: String,
+    /// The number that is at least each boot number of the box so far, or 0 where none is given.
+    pub above: u64,
+}
+
 /// The files of `sim` and `loop`.
 #[derive(Debug, Drop)]
 pub struct RunWords {

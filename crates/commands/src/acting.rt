@@ -58,7 +58,7 @@ fn carry_out<
     E: Write,
 >(rt: &R, task: &Task, output: &mut O, errors: &mut E, is_terminal: bool) -> Result<u8, Fault> {
     match task {
-        Task::Init(path) => create_boot_file(rt, path.as_str())?,
+        Task::Init(words) => create_boot_file(rt, words)?,
         Task::Check(words) => return check(rt, words, output, errors),
         Task::Gate(words) => gate::run(rt, &start_of(words), output)?,
         Task::Status(words) => status(rt, words, output)?,

@@ -3,7 +3,7 @@
 use crate::meters::Meter;
 use boot_file::create;
 use checks::{CheckOptions, compare};
-use command_line::{CheckWords, RunWords};
+use command_line::{CheckWords, InitWords, RunWords};
 use faults::{Fault, TextFile, read_settings_text, read_text};
 use std::fs::{File, Files};
 use std::io::Write;
@@ -13,9 +13,10 @@ use std::rt::Clock;
 /// Makes the boot file of a box.
 pub(crate) fn create_boot_file<R: Files<File = File> + AllocGlobal>(
     rt: &R,
-    path: &str,
+    words: &InitWords,
 ) -> Result<(), Fault> {
-    create(rt, path).map_err(|fault| Fault::boot_file(rt.alloc(), path, fault))
+    let path = words.file.as_str();
+    create(rt, path, words.above).map_err(|fault| Fault::boot_file(rt.alloc(), path, fault))
 }
 
 /// Checks settings, or compares them with others, and returns the exit status.

@@ -1,13 +1,13 @@
 //! The commands that say a word to a running box: `peer-off`, `stop` and `side`.
 
 use command_line::PeerOffWords;
-use control::{ControlPath, NoSocket, Reply, Word};
+use control::{BootRefusal, ControlPath, NoSocket, Reply, Word};
 use faults::{Fault, read_settings};
 use nat_types::{GatewayId, Side};
 use std::fs::Files;
 use std::net::Net;
 
-/// How many bytes of a reply are read at most. The longest reply is a report with 1,301 bytes.
+/// How many bytes of a reply are read at most. The longest reply is a report with 1,370 bytes.
 pub(crate) const MAX_REPLY: usize = 4_096;
 
 /// Returns the path of a box's control socket, by the settings at a path.
@@ -46,8 +46,7 @@ pub(crate) fn other_reply<R: AllocGlobal>(rt: &R, path: &ControlPath) -> Fault {
     Fault::no_control(rt.alloc(), path, NoSocket::OtherReply)
 }
 
-/// Says to a box that a boot of the other one is off: the boot of a number, or the one that the box knows. Only a boot with a
-/// number can be forced.
+/// Says to a box that a boot of the other one is off: the boot of a number, or the one that the box knows.
 pub(crate) fn peer_off<R: Files + Net + AllocGlobal>(
     rt: &R,
     words: &PeerOffWords,
@@ -55,13 +54,25 @@ pub(crate) fn peer_off<R: Files + Net + AllocGlobal>(
     let path = control_path(rt, words.settings.as_str(), words.id)?;
     let word = Word::PeerOff {
         boot: words.boot,
-        forced: words.force && words.boot.is_some(),
+        forced: words.force,
     };
     match ask(rt, &path, word, &mut [0; MAX_REPLY])? {
         Reply::Heard => Ok(()),
         Reply::Refused(refusal) => Err(Fault::PeerOff(refusal)),
+        Reply::NoBoot(refusal) => Err(no_boot(rt, words, refusal)?),
         _ => Err(other_reply(rt, &path)),
     }
+}
+
+/// Returns the fault of a box whose boot file gives no number for a gateway that founds the pair.
+fn no_boot<R: Files + AllocGlobal>(
+    rt: &R,
+    words: &PeerOffWords,
+    refusal: BootRefusal,
+) -> Result<Fault, Fault> {
+    let settings = read_settings(rt, words.settings.as_str())?;
+    let path = settings.gateway(words.id).boot_file.as_str();
+    Ok(Fault::not_founded(rt.alloc(), path, refusal))
 }
 
 /// Says to a box that it is to end, which it does after its next tick.

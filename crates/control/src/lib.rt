@@ -9,6 +9,9 @@ mod words;
 
 pub use client::{AskFault, NoSocket, ask, say};
 pub use paths::{ControlPath, MAX_BOOT_FILE_LENGTH, MAX_PATH_LENGTH, PathFault};
-pub use replies::{HEARD, PAGE, PeerOffRefusal, REPORT, Reply, refusal_bytes};
+pub use replies::{
+    BootRefusal, HEARD, PAGE, PeerOffRefusal, REPORT, RefusalBytes, Reply, Sighting, Sign,
+    boot_refusal_bytes, refusal_bytes,
+};
 pub use server::Control;
 pub use words::{Word, WordBytes};

@@ -12,7 +12,8 @@ pub enum Word {
     /// word is forced, and then the number, if there is one, in 8 bytes.
     PeerOff {
         boot: Option<u64>,
-        /// Whether the box takes the word for a boot above the known one, too.
+        /// Whether the box takes the word for a boot above the known one, too, and where only advertisements of the peer
+        /// were seen.
         forced: bool,
     },
     /// The box is to end. The bytes are `NE`.

@@ -3,7 +3,7 @@
 use crate::{BootCause, Fault, FileRefusal};
 use boot_file::FileFault;
 use boot_store::BootFault;
-use control::{AskFault, ControlPath, NoSocket};
+use control::{AskFault, BootRefusal, ControlPath, NoSocket};
 use settings::Settings;
 use settings_file::{Explainer, Key, SettingFault, explain_missing_port};
 use std::alloc::Global;
@@ -207,6 +207,14 @@ impl Fault {
     fn no_boot(alloc: Global, path: &str, fault: BootFault, cause: BootCause) -> Fault {
         let why = format!(in alloc; "{path}: {cause}").ok();
         Fault::Boot { fault, why }
+    }
+
+    /// Returns the fault of a box that was to found the pair, and has no number from the boot file at a path.
+    pub fn not_founded(alloc: Global, path: &str, refusal: BootRefusal) -> Fault {
+        match String::from_str(alloc, path) {
+            Ok(path) => Fault::NotFounded { refusal, path },
+            Err(_) => Fault::NoMemory,
+        }
     }
 
     /// Returns the fault with the path of the boot file that a start without a number had, and why the file gives none;

@@ -3,7 +3,7 @@
 use crate::boot_causes::DeviceCause;
 use crate::files::MAX_SETTINGS;
 use crate::{Fault, FileRefusal};
-use control::{MAX_BOOT_FILE_LENGTH, NoSocket};
+use control::{BootRefusal, MAX_BOOT_FILE_LENGTH, NoSocket};
 use sockets::SocketCause;
 use std::fmt::{self, Display, Formatter};
 use std::io::ErrorKind;
@@ -28,6 +28,9 @@ impl Display for Reason<'_> {
             Fault::BadLine { path, line, why } => writeln!(f, "  {path}, line {line}: {why}"),
             Fault::NoFilter { why, .. } => writeln!(f, "  {why}"),
             Fault::NotSynced => f.write_str("  the box answers, but has no table yet\n"),
+            Fault::NotFounded { refusal, path } => {
+                writeln!(f, "  {path}: {}", not_founded_text(*refusal))
+            }
             Fault::InUse(path) => writeln!(f, "  {path}: another gate runs on it"),
             Fault::NotLocked { path, cause } => {
                 writeln!(f, "  {path}: the system can't lock it: {}", Cause(*cause))
@@ -52,8 +55,21 @@ impl Display for Reason<'_> {
             Fault::NoControl { path, cause } => write_no_control(path.as_str(), *cause, f),
             Fault::LongPath(length) => write_long_path(*length, f),
             Fault::NotAnswered { is_word } => write_not_answered(*is_word, f),
-            Fault::Words | Fault::NoMemory | Fault::PeerOff(_) | Fault::NoReport(_) => Ok(()),
+            Fault::Words
+            | Fault::NoMemory
+            | Fault::PeerSeen(_)
+            | Fault::PeerOff(_)
+            | Fault::NoReport(_) => Ok(()),
         }
+    }
+}
+
+/// Returns why a boot file gives no number to a box that runs.
+fn not_founded_text(refusal: BootRefusal) -> &'static str {
+    match refusal {
+        BootRefusal::Device => "the system can't read it, write it or sync it",
+        BootRefusal::Damaged => "neither of its two numbers is valid",
+        BootRefusal::BootsUsedUp => "its number is the greatest that there is",
     }
 }
 

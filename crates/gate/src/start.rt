@@ -14,7 +14,7 @@ pub struct Start<'a> {
     pub id: GatewayId,
     /// How many rounds the box has at most (`--rounds`); without a number it runs until its operator ends it.
     pub rounds: Option<u32>,
-    /// Whether the box founds the pair (`--found`). It counts for gateway 0 only.
+    /// Whether the box founds the pair (`--found`), unless it sees the other one first.
     pub found: bool,
     pub ways: WayTexts<'a>,
     /// Whether a side counts as down while its interface reports no carrier; false with `--no-track`.

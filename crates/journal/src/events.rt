@@ -79,6 +79,12 @@ impl<L: Journal> EventLog<L> {
         }
     }
 
+    /// Begins anew at timestamp 0, for a gateway that takes the place of one at this timestamp.
+    pub fn begin_anew(&mut self, timestamp: u64) {
+        self.finish(timestamp);
+        self.limiter = Limiter::new(0);
+    }
+
     /// Writes how many others the current second had, when the box ends before that second does.
     pub fn finish(&self, timestamp: u64) {
         self.write_others(timestamp, &self.limiter);

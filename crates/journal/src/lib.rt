@@ -13,7 +13,7 @@ mod mappings;
 mod records;
 mod sink;
 
-pub use entries::{Cause, Entry, Origin, PeerState, reason_name, role_name};
+pub use entries::{Cause, Entry, NoTable, NotFounded, Origin, reason_name, role_name};
 pub use events::EventLog;
 pub use filters::{FILTER_VARIABLE, FilterFault, environment_filter, filter};
 pub use mappings::{Mapping, Mappings};

@@ -4,11 +4,11 @@ use arrayvec::ArrayVec;
 use std::fmt::{self, Display, Formatter};
 
 /// The version of the bytes of reports and pages, which is their first byte.
-pub const VERSION: u8 = 6;
+pub const VERSION: u8 = 7;
 
 /// How many bytes a report or a page has at most: those of a report where the other box was heard, and runs on other
 /// settings. A page has 3 bytes before its entries, and 10 for each, so at most 1,283.
-pub const MAX_REPORT_BYTES: usize = 1_344;
+pub const MAX_REPORT_BYTES: usize = 1_368;
 
 /// The bytes of a report or a page.
 pub type ReportBytes = ArrayVec<u8, MAX_REPORT_BYTES>;

@@ -4,8 +4,8 @@ use crate::names::{PROTOCOLS, dropped, left_out, origin_name};
 use crate::other_settings::rows;
 use crate::units::Seconds;
 use crate::{
-    Counter, Counters, FragmentReport, GatewayReport, PairCounts, PeerReport, Report,
-    SettingsReport, SideReport,
+    Counter, Counters, FragmentReport, GatewayReport, PairCounts, Report, SettingsReport,
+    SideReport,
 };
 use addresses::Protocol;
 use journal::{Cause, Origin, reason_name, role_name};
@@ -22,10 +22,11 @@ impl Display for JsonText<'_> {
         let report = self.0;
         let (gateway, sides, counters) = (&report.gateway, &report.sides, &report.counters);
         write_box(f, report)?;
+        write_eras(f, report)?;
         write_other_settings(f, &report.settings)?;
         write_side(f, "inside", &sides.inside, gateway.uptime)?;
         write_side(f, "outside", &sides.outside, gateway.uptime)?;
-        write_peer(f, &gateway.peer)?;
+        write_peer(f, report)?;
         write_apart(f, report)?;
         write_pairs(f, &gateway.pairs)?;
         write_ports(f, gateway)?;
@@ -63,6 +64,18 @@ fn write_box<W: fmt::Write>(f: &mut Formatter<W>, report: &Report) -> fmt::Resul
         f,
         ",\"synced\":{synced},\"away\":{away},\"digest\":\"{digest:016x}\""
     )
+}
+
+/// Writes how often the box founded the pair; and why it has no table and for how long, or null.
+fn write_eras<W: fmt::Write>(f: &mut Formatter<W>, report: &Report) -> fmt::Result {
+    write!(f, ",\"foundings\":{},\"no_table\":", report.foundings)?;
+    match report.no_table() {
+        Some(why) => {
+            let (name, uptime) = (why.name(), Seconds(report.gateway.uptime));
+            write!(f, "{{\"why\":\"{name}\",\"for_seconds\":{uptime}}}")
+        }
+        None => f.write_str("null"),
+    }
 }
 
 /// Writes whether the other box runs on other settings, how many datagrams had such, and each value that differs.
@@ -104,14 +117,15 @@ fn write_side<W: fmt::Write>(
     write!(f, ",\"since_seconds\":{since},\"up\":{up}}}")
 }
 
-fn write_peer<W: fmt::Write>(f: &mut Formatter<W>, peer: &PeerReport) -> fmt::Result {
-    let (boot, serves) = (peer.boot, peer.serves);
+fn write_peer<W: fmt::Write>(f: &mut Formatter<W>, report: &Report) -> fmt::Result {
+    let peer = &report.gateway.peer;
+    let (boot, serves, named, ends) = (peer.boot, peer.serves, peer.named, report.peer_ends);
     write!(f, ",\"peer\":{{\"boot\":{boot},\"heard_seconds\":")?;
     match peer.heard {
         Some(heard) => write!(f, "{}", Seconds(heard))?,
         None => f.write_str("null")?,
     }
-    write!(f, ",\"serves\":{serves}}}")
+    write!(f, ",\"serves\":{serves},\"named\":{named},\"ends\":{ends}}}")
 }
 
 /// Writes whether the box is apart, the time since when and in all, and how many pairs are private and were made alone.

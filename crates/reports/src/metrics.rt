@@ -25,6 +25,7 @@ impl Display for MetricsText<'_> {
         write_box(f, report)?;
         write_sides(f, &report.sides, gateway.uptime)?;
         write_peer(f, &gateway.peer)?;
+        write_eras(f, report)?;
         write_apart(f, report)?;
         write_pairs(f, &gateway.pairs)?;
         write_ports(f, gateway)?;
@@ -153,12 +154,9 @@ fn write_sides<W: fmt::Write>(f: &mut Formatter<W>, sides: &Sides, now: u64) -> 
     )
 }
 
-/// How long ago the other box was heard at most, in centiseconds, to count as heard.
-const HEARD_WITHIN: u64 = 300;
-
 /// Writes the other box. How long ago it was heard is left out where it wasn't.
 fn write_peer<W: fmt::Write>(f: &mut Formatter<W>, peer: &PeerReport) -> fmt::Result {
-    let is_heard = u64::from(peer.heard.is_some_and(|ago| ago <= HEARD_WITHIN));
+    let is_heard = u64::from(peer.is_heard());
     let help = "Number of the other box's start, or 0 where none is known.";
     write_gauge(f, "natpair_peer_boot", help, &[("", peer.boot)])?;
     let help = "Whether the other box was heard in the last 3 seconds.";
@@ -175,6 +173,21 @@ fn write_peer<W: fmt::Write>(f: &mut Formatter<W>, peer: &PeerReport) -> fmt::Re
     let serves = u64::from(peer.serves);
     let help = "Whether the other box serves.";
     write_gauge(f, "natpair_peer_serves", help, &[("", serves)])
+}
+
+/// Writes how often the pair was founded and the other box's end was taken, and the boot that the other box named last.
+fn write_eras<W: fmt::Write>(f: &mut Formatter<W>, report: &Report) -> fmt::Result {
+    let (named, foundings, ends) = (
+        report.gateway.peer.named,
+        report.foundings,
+        report.peer_ends,
+    );
+    let help = "Number of this box's start that the other box named last, or 0.";
+    write_gauge(f, "natpair_named_boot", help, &[("", named)])?;
+    let help = "Times that the box founded the pair.";
+    write_counter(f, "natpair_foundings_total", help, &[("", foundings)])?;
+    let help = "Ends of the other box that were taken.";
+    write_counter(f, "natpair_peer_ends_total", help, &[("", ends)])
 }
 
 /// Writes whether the box is apart and for how long it was, and how many pairs are private and were made alone.

@@ -22,6 +22,7 @@ impl Display for PlainText<'_> {
         let (gateway, sides) = (&report.gateway, &report.sides);
         write_box(f, report)?;
         write_other_settings(f, &report.settings)?;
+        write_no_table(f, report)?;
         write_side(f, "inside   ", &sides.inside, gateway.uptime)?;
         write_side(f, "outside  ", &sides.outside, gateway.uptime)?;
         write_peer(f, &gateway.peer)?;
@@ -67,6 +68,14 @@ fn write_other_settings<W: fmt::Write>(
         }
     }
     Ok(())
+}
+
+/// Writes why the box has no table and for how long, where it has none.
+fn write_no_table<W: fmt::Write>(f: &mut Formatter<W>, report: &Report) -> fmt::Result {
+    match report.no_table() {
+        Some(why) => writeln!(f, "table    none for {}: {why}", Span(report.gateway.uptime)),
+        None => Ok(()),
+    }
 }
 
 fn write_side<W: fmt::Write>(

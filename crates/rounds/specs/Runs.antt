@@ -5,8 +5,10 @@ use Rattle.sockets.specs.Wires.{Message, Passes, nothing, received, sent}
 use Rattle.sockets.specs.declared.wire.Place.{Place}
 use Rattle.sockets.specs.declared.wire.Place.TheVariants as place
 use Rattle.spec_step.specs.declared.events.Event.{Event}
-use Rattle.spec_step.specs.declared.events.Event.TheVariants.{Datagram, Frame, PeerOff, Side, Stop, Tick}
+use Rattle.spec_step.specs.declared.events.Event.TheVariants.{Datagram, End, Frame, PeerOff, Side, Tick}
 use Rattle.packet_rules.specs.declared.networks.Networks.{Networks}
+use Rattle.rounds.specs.declared.rounds.Ending.{Ending}
+use Rattle.rounds.specs.declared.rounds.Ending.TheVariants.{Ended, Founds}
 use Rattle.spec_gateway.specs.Sendings.{all_pieces}
 use Rattle.spec_gateway.specs.State.{GatewayState}
 use Rattle.spec_gateway.specs.Steps.{IsGatewayStep}
@@ -90,8 +92,9 @@ AreTurns {W = W} passes (suc turns) g w g2 w2 =
 abbrev pub HasTurned : {W : Type 0} → Passes W → GatewayState → W → GatewayState → W → Type 0
 HasTurned passes g w g2 w2 = (turns : ℕ) × AreTurns passes turns g w g2 w2
 
--- A whole run: turns, and then a Stop. So the gateway was stepped by just what was received and by ticks, and just what its
--- steps told was sent, in order.
-abbrev pub RunsTo : {W : Type 0} → Passes W → GatewayState → W → GatewayState → W → Type 0
-RunsTo {W = W} passes g w g2 w2 =
-    (before : GatewayState) × ((middle : W) × (HasTurned passes g w before middle × Takes passes Stop before middle g2 w2))
+-- A whole run: turns, and then an End; or turns alone, where a gateway that founds the pair is to take this one's place. So
+-- the gateway was stepped by just what was received and by ticks, and just what its steps told was sent, in order.
+abbrev pub RunsTo : {W : Type 0} → Passes W → Ending → GatewayState → W → GatewayState → W → Type 0
+RunsTo {W = W} passes Ended g w g2 w2 =
+    (before : GatewayState) × ((middle : W) × (HasTurned passes g w before middle × Takes passes End before middle g2 w2))
+RunsTo passes Founds g w g2 w2 = HasTurned passes g w g2 w2

@@ -27,6 +27,7 @@ pub fn gateway_report(gateway: &Gateway) -> Result<GatewayReport, NoMemory> {
             boot: gateway.known_peer(),
             heard: gateway.heard().map(|heard| now.saturating_sub(heard)),
             serves: gateway.peer_serves(),
+            named: gateway.named(),
         },
         pairs: pairs_of(gateway),
         ports: PortCounts {

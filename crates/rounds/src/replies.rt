@@ -5,8 +5,8 @@ ghost use Rattle.sockets.specs.Wires.{nothing};
 
 use crate::gateway_reports::{gateway_report, page_after};
 use crate::messages::{Request, Response};
-use crate::rounds::{Identity, RoundState};
-use control::{HEARD, PAGE, REPORT, refusal_bytes};
+use crate::states::RoundState;
+use control::{BootRefusal, HEARD, PAGE, REPORT, boot_refusal_bytes, refusal_bytes};
 use gateway::Gateway;
 use journal::{EventLog, Journal, Origin};
 use nat_types::{NoMemory, Side};
@@ -26,7 +26,8 @@ pub(crate) fn reply<W: Wire>(
     match response {
         None => {}
         Some(Response::Later(request)) => state.request = Some(request),
-        Some(Response::Refused(refusal)) => answer(&refusal_bytes(refusal), wire, state),
+        Some(Response::Founding) => state.is_founding = true,
+        Some(Response::Refused(refusal)) => answer(refusal_bytes(refusal).as_slice(), wire, state),
         Some(Response::Ending) => {
             state.is_ending = true;
             answer(HEARD, wire, state);
@@ -44,11 +45,28 @@ fn answer<W: Wire>(bytes: &[u8], wire: &mut W, state: &mut RoundState)
     state.counters.count(Origin::Own, Counter::Sent);
 }
 
+/// Answers the word to found the pair: it is taken.
+pub(crate) fn answer_founded<W: Wire>(wire: &mut W, state: &mut RoundState) {
+    answer(HEARD, wire, state);
+}
+
+/// Answers the word to found the pair: the boot file refuses a number, or else there are no keys or no memory, and the answer
+/// is empty.
+pub(crate) fn answer_unfounded<W: Wire>(
+    refusal: Option<BootRefusal>,
+    wire: &mut W,
+    state: &mut RoundState,
+) {
+    match refusal {
+        Some(refusal) => answer(boot_refusal_bytes(refusal).as_slice(), wire, state),
+        None => answer(&[], wire, state),
+    }
+}
+
 /// Answers the request of this round, if there is one. The answer is empty where there is no memory for it.
 pub(crate) fn answer_request<W: Wire, L: Journal>(
     gateway: &Gateway,
     wire: &mut W,
-    identity: Identity,
     buffer: &mut [u8; MAX_DATAGRAM],
     state: &mut RoundState,
     log: &EventLog<L>,
@@ -59,7 +77,7 @@ pub(crate) fn answer_request<W: Wire, L: Journal>(
         return;
     };
     let count = match request {
-        Request::Status => match report_of(gateway, wire, identity, state, log) {
+        Request::Status => match report_of(gateway, wire, state, log) {
             Ok(report) => put(REPORT, report.bytes().as_slice(), buffer),
             Err(NoMemory) => 0,
         },
@@ -83,20 +101,25 @@ fn put(head: [u8; 2], bytes: &[u8], buffer: &mut [u8; MAX_DATAGRAM]) -> usize
 fn report_of<W: Wire, L: Journal>(
     gateway: &Gateway,
     wire: &W,
-    identity: Identity,
     state: &RoundState,
     log: &EventLog<L>,
 ) -> Result<Report, NoMemory> {
+    let now = gateway.moment();
+    let mut reported = gateway_report(gateway)?;
+    let heard = state.sightings.heard(gateway);
+    reported.peer.heard = heard.map(|heard| now.saturating_sub(heard));
     Ok(Report {
-        id: identity.id,
-        boot: identity.boot,
-        digest: identity.digest,
-        gateway: gateway_report(gateway)?,
+        id: state.identity.id,
+        boot: state.identity.boot,
+        digest: state.identity.digest,
+        gateway: reported,
         sides: state.sides,
         counters: with_losses(state.counters, wire),
         lines_left_out: log.lines_left_out(),
         apart: state.apart,
         settings: state.settings.report,
+        foundings: state.foundings,
+        peer_ends: state.peer_ends,
     })
 }
 

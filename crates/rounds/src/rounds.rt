@@ -1,51 +1,45 @@
 //! The rounds of a box.
-ghost use Rattle.std.specs.Prelude.{◌≡◌, OnErr, OnOk};
-ghost use Rattle.memory.specs.Memory.{WasRefused};
 ghost use Rattle.rounds.specs.Runs.{HasTurned, IsTurn, RunsTo};
 
-use crate::gateway_reports::{sides_of, update_sides};
-use crate::messages::Request;
-use crate::missing_tables::MissingTable;
-use crate::other_settings::OtherSettings;
-use crate::outages::Outages;
+use crate::gateway_reports::update_sides;
 use crate::replies::answer_request;
+use crate::states::RoundState;
 use crate::steps::{take_event, take_message};
-use fragments::Cutter;
-use gateway::{Event, Gateway, NoMemory, Out};
-use journal::{EventLog, Journal};
-use nat_types::GatewayId;
+use gateway::{Event, Gateway};
+use journal::{EventLog, Journal, NoTable};
 use platform::CentisecondClock;
-use reports::{ApartReport, Counters, Sides};
-use settings::Values;
 use sockets::{MAX_DATAGRAM, Wire, WireFault};
-use std::alloc::Global;
 use std::time::Duration;
 
 /// The most messages that a round takes, so that a flood doesn't delay its tick. The next round takes the others.
 const MAX_MESSAGES_PER_ROUND: usize = 256;
 
 /// For how many milliseconds a round waits for its first message.
-const FIRST_MESSAGE_TIMEOUT: u64 = 10;
+pub(crate) const FIRST_MESSAGE_TIMEOUT: u64 = 10;
 
-/// What a report says of the box itself.
-#[derive(Clone, Copy, Debug, PartialEq, Eq)]
-pub struct Identity {
-    pub id: GatewayId,
-    /// The number of the box's start.
-    pub boot: u64,
-    /// The values of the settings that both boxes have to run on, and a digest of them.
-    pub values: Values,
-    pub digest: u64,
-}
+/// For how many centiseconds a box that is to end waits at most for the other one.
+const MAX_LAST_WAIT: u64 = 200;
+
+/// The most rounds of that wait, where the clock doesn't go on.
+const MAX_LAST_ROUNDS: u32 = 100_000;
 
 /// How a box is run.
 #[derive(Clone, Copy, Debug)]
 pub struct Options {
-    pub identity: Identity,
-    /// The most rounds; without a number the box runs until it is told to end.
+    /// How many rounds are left; without a number the box runs until it is told to end.
     pub rounds: Option<u32>,
     /// Whether a carrier's word, that a side is up or down, counts.
     pub track: bool,
+}
+
+/// How rounds ended.
+#[derive(Clone, Copy, Debug, PartialEq, Eq)]
+pub enum Ending {
+    /// The box was told to end, or has had its rounds.
+    Ended,
+    /// The box has no table, and was told that the other one is off: a gateway that founds the pair is to take this one's place.
+    /// Whoever said so awaits the answer (`RoundState::found`, `RoundState::stay`).
+    Founds,
 }
 
 /// What ends a box, beside the word at its control socket.
@@ -87,113 +81,76 @@ impl<M: Manager> Manager for Option<M> {
     }
 }
 
-/// What a box keeps beside its gateway from one round to the next.
-#[derive(Drop)]
-pub(crate) struct RoundState {
-    /// What the gateway's last step told.
-    pub(crate) out: Out,
-    /// Cuts the frames of a step that are too long for their side.
-    pub(crate) cutter: Cutter,
-    pub(crate) counters: Counters,
-    pub(crate) sides: Sides,
-    pub(crate) apart: ApartReport,
-    pub(crate) settings: OtherSettings,
-    outages: Outages,
-    missing_table: MissingTable,
-    /// The request that is answered at the round's end.
-    pub(crate) request: Option<Request>,
-    /// Whether this round is the last one.
-    pub(crate) is_ending: bool,
-}
-
-impl RoundState {
-    fn new(alloc: Global, gateway: &Gateway, identity: Identity) -> Result<RoundState, NoMemory>
-        ensures refused { OnErr result (WasRefused 1514) }
-    {
-        let cutter = Cutter::new(alloc)?;
-        Ok(RoundState {
-            out: Out::new(alloc),
-            cutter,
-            counters: Counters::new(),
-            sides: sides_of(gateway),
-            apart: ApartReport::new(),
-            settings: OtherSettings::new(identity),
-            outages: Outages::none(),
-            missing_table: MissingTable::new(),
-            request: None,
-            is_ending: false,
-        })
+/// Runs a box until it is told to end, or has had its rounds, and then ends its gateway. A round takes what comes on the
+/// wire, and then one tick; what the gateway tells is sent at once. The log gets each event that is dropped, and each change
+/// that an operator watches for. The manager is notified after each round in which a second began, and before the box ends.
+/// Where the other box is being loaded then, or doesn't know all pairs yet, rounds go on for up to 200 centiseconds.
+///
+/// A box that is told to found the pair returns first, and its gateway goes on: the caller gives it another gateway or not, and
+/// calls again.
+///
+/// A send that fails is a lost datagram. An event that runs out of memory changes nothing.
+pub fn serve<W: Wire, C: CentisecondClock, U: EndSignal, M: Manager, L: Journal>(
+    gateway: &mut Gateway,
+    wire: &mut W,
+    clock: &mut C,
+    until: &mut U,
+    manager: &mut M,
+    state: &mut RoundState,
+    log: &mut EventLog<L>,
+    options: &mut Options,
+) -> Ending
+    ensures run { RunsTo W.passes result gateway.old wire.old gateway.new wire.new }
+{
+    match run_rounds(gateway, wire, clock, until, manager, state, log, options) {
+        Ending::Founds => Ending::Founds,
+        Ending::Ended => {
+            manager.ending();
+            last_rounds(gateway, wire, clock, manager, state, log, options);
+            take_event(gateway, Event::End, wire, state, log);
+            log.finish(gateway.moment());
+            Ending::Ended
+        }
     }
 }
 
-/// Runs a box until it is told to end, or has had its rounds, and then stops its gateway. A round takes what comes on the
-/// wire, and then one tick; what the gateway tells is sent at once. The log gets each event that is dropped, and each change
-/// that an operator watches for. The manager is notified after each round in which a second began, and before the gateway is
-/// stopped.
-///
-/// A send that fails is a lost datagram. An event that runs out of memory changes nothing.
-///
-/// # Errors
-///
-/// Where there is no memory for a fragment as it is sent: nothing is run then.
-pub fn serve<W: Wire, C: CentisecondClock, U: EndSignal, M: Manager, L: Journal>(
-    alloc: Global,
-    gateway: &mut Gateway,
-    wire: &mut W,
-    clock: &mut C,
-    until: &mut U,
-    manager: &mut M,
-    log: &mut EventLog<L>,
-    options: &Options,
-) -> Result<(), NoMemory>
-    ensures run { OnOk result (RunsTo W.passes gateway.old wire.old gateway.new wire.new) }
-    ensures err { OnErr result (gateway.new ≡ gateway.old) }
-    ensures unsent { OnErr result (wire.new ≡ wire.old) }
-    ensures refused { OnErr result (WasRefused 1514) }
-{
-    let mut state = RoundState::new(alloc, gateway, options.identity)?;
-    all_rounds(
-        gateway, wire, clock, until, manager, &mut state, log, options,
-    );
-    manager.ending();
-    take_event(gateway, Event::Stop, wire, &mut state, log);
-    log.finish(gateway.moment());
-    Ok(())
-}
-
-/// Runs the rounds of [`serve`] alone: the gateway isn't stopped, and can go on.
-///
-/// # Errors
-///
-/// Those of [`serve`].
+/// Runs the rounds of [`serve`] alone: the gateway isn't ended, and can go on.
 pub fn run_rounds<W: Wire, C: CentisecondClock, U: EndSignal, M: Manager, L: Journal>(
-    alloc: Global,
     gateway: &mut Gateway,
     wire: &mut W,
     clock: &mut C,
     until: &mut U,
     manager: &mut M,
+    state: &mut RoundState,
     log: &mut EventLog<L>,
-    options: &Options,
-) -> Result<(), NoMemory>
-    ensures rounds { OnOk result (HasTurned W.passes gateway.old wire.old gateway.new wire.new) }
-    ensures err { OnErr result (gateway.new ≡ gateway.old) }
-    ensures unsent { OnErr result (wire.new ≡ wire.old) }
-    ensures refused { OnErr result (WasRefused 1514) }
+    options: &mut Options,
+) -> Ending
+    ensures rounds { HasTurned W.passes gateway.old wire.old gateway.new wire.new }
 {
-    let mut state = RoundState::new(alloc, gateway, options.identity)?;
-    all_rounds(
-        gateway, wire, clock, until, manager, &mut state, log, options,
-    );
-    log.finish(gateway.moment());
-    Ok(())
+    let mut buffer = [0; MAX_DATAGRAM];
+    let mut last = 0;
+    // A loop without an end that is proved to end.
+    for _ in 0..u64::MAX {
+        if state.is_ending || options.rounds == Some(0) || until.has_come() {
+            return Ending::Ended;
+        }
+        if let Some(left) = options.rounds {
+            options.rounds = Some(left.saturating_sub(1));
+        }
+        round(gateway, wire, clock, &mut buffer, state, log, options);
+        last = tell_alive(manager, last, gateway.moment());
+        if state.is_founding && !state.is_ending {
+            return Ending::Founds;
+        }
+    }
+    Ending::Ended
 }
 
-fn all_rounds<W: Wire, C: CentisecondClock, U: EndSignal, M: Manager, L: Journal>(
+/// Runs the rounds of a box that is to end, as long as the other one awaits something of it and the limit hasn't passed.
+fn last_rounds<W: Wire, C: CentisecondClock, M: Manager, L: Journal>(
     gateway: &mut Gateway,
     wire: &mut W,
     clock: &mut C,
-    until: &mut U,
     manager: &mut M,
     state: &mut RoundState,
     log: &mut EventLog<L>,
@@ -202,18 +159,30 @@ fn all_rounds<W: Wire, C: CentisecondClock, U: EndSignal, M: Manager, L: Journal
     ensures rounds { HasTurned W.passes gateway.old wire.old gateway.new wire.new }
 {
     let mut buffer = [0; MAX_DATAGRAM];
-    let mut last = 0;
-    for _ in 0..options.rounds.map_or(u64::MAX, u64::from) {
-        if state.is_ending || until.has_come() {
+    let start = gateway.moment();
+    let mut last = start;
+    for _ in 0..MAX_LAST_ROUNDS {
+        let waited = gateway.moment().saturating_sub(start);
+        if MAX_LAST_WAIT <= waited || !is_awaited(gateway) {
             return;
         }
         round(gateway, wire, clock, &mut buffer, state, log, options);
-        let now = gateway.moment();
-        if last / 100 < now / 100 {
-            manager.alive();
-        }
-        last = now;
+        last = tell_alive(manager, last, gateway.moment());
     }
+}
+
+/// Whether the other box is being loaded, or doesn't know all pairs yet.
+fn is_awaited(gateway: &Gateway) -> bool {
+    let loads = gateway.synced() && gateway.hears_peer() && gateway.has_unacknowledged();
+    loads || gateway.alone_count() > 0
+}
+
+/// Notifies the manager if a second began between two times, and returns the later one.
+fn tell_alive<M: Manager>(manager: &mut M, last: u64, now: u64) -> u64 {
+    if last / 100 < now / 100 {
+        manager.alive();
+    }
+    now
 }
 
 fn round<W: Wire, C: CentisecondClock, L: Journal>(
@@ -231,12 +200,26 @@ fn round<W: Wire, C: CentisecondClock, L: Journal>(
     take_event(gateway, Event::Tick(clock.now()), wire, state, log);
     update_sides(&mut state.sides, gateway);
     state.apart.update(gateway.is_apart(), gateway.moment());
-    answer_request(gateway, wire, options.identity, buffer, state, log);
+    answer_request(gateway, wire, buffer, state, log);
     let now = gateway.moment();
     state.outages.log(wire, now, log);
-    let is_other = state.settings.report.other.is_some();
-    state.missing_table.log(gateway, is_other, log);
+    log_missing_table(gateway, state, log);
     log.advance_to(now);
+}
+
+/// Logs why the gateway has no table, if it has none and a record is due.
+fn log_missing_table<L: Journal>(gateway: &Gateway, state: &mut RoundState, log: &EventLog<L>) {
+    if gateway.synced() {
+        return;
+    }
+    let is_heard = state.sightings.is_heard(gateway);
+    let why = NoTable::of(
+        state.settings.are_other(),
+        gateway.named(),
+        state.identity.boot,
+        is_heard,
+    );
+    state.missing_table.log(why, gateway.moment(), log);
 }
 
 /// Takes the messages that have come, at most [`MAX_MESSAGES_PER_ROUND`]. Waits for the first one.

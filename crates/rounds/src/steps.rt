@@ -8,13 +8,15 @@ ghost use Rattle.spec_gateway.specs.Steps.{IsGatewayStep};
 ghost use Rattle.rounds.specs.Runs.{AreSent, Takes, TakesAny, TakesReplied, all_sent, frames_sent};
 
 use crate::changes::{cause_of, log_step, origin_of};
-use crate::messages::{Message, read_message};
+use crate::messages::{Knowledge, Message, read_message};
 use crate::replies::reply;
-use crate::rounds::RoundState;
+use crate::sightings::Said;
+use crate::states::RoundState;
 use crate::views::View;
 use fragments::Cutter;
 use gateway::{Event, Gateway, NoMemory, Out, Outcome};
-use journal::{EventLog, Journal, Origin};
+use journal::{Entry, EventLog, Journal, Origin};
+use nat_types::NoteKind;
 use output::Frame;
 use reports::{Counter, Counters};
 use sockets::{Place, Wire};
@@ -33,7 +35,8 @@ pub(crate) fn take_message<W: Wire, L: Journal>(
         gateway.new wire.new }
 {
     state.counters.count(origin_at(place), Counter::Received);
-    let Message { event, response } = read_message(&View::of(gateway), place, bytes, track);
+    let known = Knowledge::of(gateway, &state.sightings);
+    let Message { event, response } = read_message(&known, place, bytes, track);
     let is_done = take_any(gateway, event, wire, state, log);
     reply(response, is_done, wire, state);
 }
@@ -66,6 +69,7 @@ pub(crate) fn take_event<W: Wire, L: Journal>(
     ensures taken { Takes W.passes event.entry gateway.old wire.old gateway.new wire.new }
 {
     let before = View::of(gateway);
+    let said = state.sightings.look(&event, gateway);
     let outcome = step(gateway, event, &mut state.out);
     send_all(
         wire,
@@ -81,10 +85,45 @@ pub(crate) fn take_event<W: Wire, L: Journal>(
             .count(origin_of(&event), Counter::Lost(cause));
     }
     log_step(log, &event, cause, &before, &View::of(gateway));
-    state.settings.hear(&event, cause, gateway.moment(), log);
+    hear(gateway, said, cause.is_none(), state, log);
+    note_founding(gateway, state, log);
     log.write_mappings(state.out.notes());
     state.apart.count(state.out.notes());
     outcome.is_ok()
+}
+
+/// Takes note of what a datagram of the other box says, taken or not: the settings that the other
+/// box runs on, and that it ends. A gateway with a table goes on alone then.
+fn hear<L: Journal>(
+    gateway: &Gateway,
+    said: Option<Said>,
+    is_taken: bool,
+    state: &mut RoundState,
+    log: &EventLog<L>,
+) {
+    let Some(said) = said else {
+        return;
+    };
+    let now = gateway.moment();
+    state.settings.hear(said.values, now, log);
+    if !is_taken {
+        return;
+    }
+    state.sightings.take(&said);
+    if said.ends && said.named == state.identity.boot && gateway.synced() {
+        state.peer_ends = state.peer_ends.saturating_add(1);
+        log.write(now, Entry::PeerEnded);
+    }
+}
+
+/// Counts and logs that the gateway founded the pair by its last step, if it did.
+fn note_founding<L: Journal>(gateway: &Gateway, state: &mut RoundState, log: &EventLog<L>) {
+    for note in state.out.notes() {
+        if matches!(note.what, NoteKind::Founded) {
+            state.foundings = state.foundings.saturating_add(1);
+            log.write(gateway.moment(), Entry::Founded);
+        }
+    }
 }
 
 /// Steps the gateway. Afterwards `out` has what this step tells, and nothing else.

@@ -1,16 +1,7 @@
 use Rattle.clap.specs.Words.{found_of, rows_of}
-use Rattle.command_line.specs.declared.faults.ValueFault.TheVariants.{FoundNeedsIdZero, NoFilter, NoSide, NoStatus}
+use Rattle.command_line.specs.declared.faults.ValueFault.TheVariants.{NoFilter, NoSide, NoStatus}
 use Rattle.command_line.proofs.Judged.{none_else, refuses_as, task_as}
 use Rattle.command_line.proofs.tasks.task_of.Goals as goal
-
-pub returns-in-gate-clause-ok : goal.returns-in-gate-clause-ok
-returns-in-gate-clause-ok c = task_as _ _ (rows_of (found_of c.args.matches.now)) _ c.in-gate.is c.gate.ensures.ok
-
-pub returns-in-gate-clause-sound : goal.returns-in-gate-clause-sound
-returns-in-gate-clause-sound c = none_else _ (rows_of (found_of c.args.matches.now)) FoundNeedsIdZero _ c.in-gate.is c.gate.ensures.sound
-
-pub returns-in-gate-clause-err : goal.returns-in-gate-clause-err
-returns-in-gate-clause-err c = refuses_as _ (rows_of (found_of c.args.matches.now)) FoundNeedsIdZero _ c.in-gate.is c.gate.ensures.err
 
 pub returns-in-status-clause-ok : goal.returns-in-status-clause-ok
 returns-in-status-clause-ok c = task_as _ _ (rows_of (found_of c.args.matches.now)) _ c.in-status.is c.status.ensures.ok
