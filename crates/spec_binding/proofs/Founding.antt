@@ -1,9 +1,8 @@
 -- A gateway that founds the pair in its present life, as an act of the machine.
-use Rattle.std.proofs.Common.{◌≡◌, ℕ, suc, ◌+◌, ◌-◌, ◌≤◌, ◌==◌, true, false, cond, Option, Some, None, List, [], ◌∷◌, ◌++◌, length, refl, sym, ap, subst, ◌∙◌, arith}
+use Rattle.std.proofs.Common.{◌≡◌, ℕ, suc, ◌+◌, ◌-◌, ◌≤◌, ◌==◌, true, false, cond, Option, Some, None, List, [], ◌∷◌, ◌++◌, length, refl, ap, subst, ◌∙◌, arith}
 use Rattle.std.proofs.lemmas.Bool.{both_ways, cond-false, ne_eqb}
 use Rattle.std.proofs.lemmas.List.{length-map, map-append}
 use Rattle.nat_types.specs.declared.gateways.GatewayId.TheVariants.{Zero}
-use Rattle.nat_types.specs.declared.notes.Note.{Note}
 use Rattle.nat_types.specs.declared.records.Record.{Record}
 use Rattle.bindings.specs.Ports.{in_bounds}
 use Rattle.bindings.specs.Runs.{runs_of}

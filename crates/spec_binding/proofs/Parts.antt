@@ -13,7 +13,7 @@ use Rattle.link.specs.Letters.{IsLetter}
 use Rattle.link.specs.Link.{Link, Agrees, IsTaken, acknowledged_to, handed_count, is_ending, is_restart, met, with_fed}
 use Rattle.link.proofs.Offered.{met_same, passes, goes_on, pushed_agrees, fed_agrees}
 use Rattle.spec_pair.specs.Acts.{Act, Send, HandIn, MayAct, MaySend, SaysMore, box_after, act_notes, letters_by}
-use Rattle.spec_pair.specs.Box.{Box, IsLacking, Letter, In, AreSame, last_letter, letter}
+use Rattle.spec_pair.specs.Box.{Box, Letter, In, AreSame, last_letter, letter}
 use Rattle.spec_pair.specs.Mapped.{machine_record}
 use Rattle.spec_pair.specs.Ownership.{Ranges, moving}
 use Rattle.spec_pair.specs.Step.{IsStep, ReadsOnly, WasSent}

@@ -10,7 +10,7 @@ use Rattle.output.specs.Output.{Output, Sent}
 use Rattle.fragments.specs.Bytes.{AreBytes}
 use Rattle.fragments.specs.Gathered.{Gathered}
 use Rattle.spec_step.specs.declared.events.Event.{Event}
-use Rattle.spec_step.specs.declared.events.Event.TheVariants.{Frame, Datagram, Tick, Stop, PeerOff, Side as SideIs}
+use Rattle.spec_step.specs.declared.events.Event.TheVariants.{Frame, Datagram, Tick, Stop, End, PeerOff, Side as SideIs}
 use Rattle.spec_step.specs.Machine.{HasBytes}
 use Rattle.spec_step.specs.OwnAnswers.{SaysJust}
 use Rattle.spec_step.specs.PassedOn.{TellsAll}
@@ -65,6 +65,7 @@ stands-for s (Frame side bytes) whole is = by (arrival s side bytes.now).frame i
 stands-for s (Datagram bytes) whole is = inl (cc)
 stands-for s (Tick now) whole is = inl (cc)
 stands-for s Stop whole is = inl (cc)
+stands-for s End whole is = inl (cc)
 stands-for s (PeerOff boot) whole is = inl (cc)
 stands-for s (SideIs side up) whole is = inl (cc)
 
@@ -77,6 +78,7 @@ whole-bytes s (Frame side bytes) whole is has keeps = by (arrival s side bytes.n
 whole-bytes s (Datagram bytes) whole is has keeps = subst HasBytes (let e : Datagram bytes ≡ whole = cc in e) has
 whole-bytes s (Tick now) whole is has keeps = subst HasBytes (let e : Tick now ≡ whole = cc in e) tt
 whole-bytes s Stop whole is has keeps = subst HasBytes (let e : Stop ≡ whole = cc in e) tt
+whole-bytes s End whole is has keeps = subst HasBytes (let e : End ≡ whole = cc in e) tt
 whole-bytes s (PeerOff boot) whole is has keeps = subst HasBytes (let e : PeerOff boot ≡ whole = cc in e) tt
 whole-bytes s (SideIs side up) whole is has keeps = subst HasBytes (let e : SideIs side up ≡ whole = cc in e) tt
 

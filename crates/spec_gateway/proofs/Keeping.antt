@@ -10,7 +10,7 @@ use Rattle.fragments.specs.Bytes.{AreBytes, HaveBytes, KeepsBytes}
 use Rattle.fragments.specs.Gathered.{Gathered, IsKept, after, of_side, taken, there_of}
 use Rattle.fragments.proofs.Offered.{after-bytes, kept-after, kept-without_old, none_there-bytes, taken-bytes, without_old-bytes}
 use Rattle.spec_step.specs.declared.events.Event.{Event}
-use Rattle.spec_step.specs.declared.events.Event.TheVariants.{Frame, Datagram, Tick, Stop, PeerOff, Side as SideIs}
+use Rattle.spec_step.specs.declared.events.Event.TheVariants.{Frame, Datagram, Tick, Stop, End, PeerOff, Side as SideIs}
 use Rattle.spec_step.specs.Machine.{HasBytes}
 use Rattle.spec_step.specs.Shown.{is_up, station_on}
 use Rattle.spec_step.specs.Steps.{clock_after}
@@ -58,6 +58,7 @@ kept-step grammar s told event s2 told2 step kept = subst IsKept (sym step.gathe
     by (Datagram bytes) = kept
     by (Tick now) = kept-without_old (clock_after s.shown.moment now) s.gathered kept
     by Stop = kept
+    by End = kept
     by (PeerOff boot) = kept
     by (SideIs side up) = kept
 
@@ -82,6 +83,7 @@ bytes-step s told event s2 told2 step has keeps = subst KeepsBytes (sym step.gat
     by (Datagram bytes) has = keeps
     by (Tick now) has = without_old-bytes (clock_after s.shown.moment now) s.gathered keeps
     by Stop has = keeps
+    by End has = keeps
     by (PeerOff boot) has = keeps
     by (SideIs side up) has = keeps
 

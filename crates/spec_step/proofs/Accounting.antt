@@ -7,6 +7,7 @@ use Rattle.addresses.specs.declared.ethernet.Mac.{Mac}
 use Rattle.nat_types.specs.declared.gateways.GatewayId.{GatewayId}
 use Rattle.nat_types.specs.declared.gateways.Side.{Side}
 use Rattle.nat_types.specs.declared.gateways.Side.TheVariants.{Inside, Outside}
+use Rattle.nat_types.specs.declared.notes.NoteKind.TheVariants.{Crashed}
 use Rattle.nat_types.specs.declared.notes.Note.{Note}
 use Rattle.nat_types.specs.declared.pairs.Endpoint.{Endpoint}
 use Rattle.nat_types.specs.declared.pairs.Key.{Key}
@@ -16,17 +17,19 @@ use Rattle.arp.specs.declared.packets.ArpPacket.{ArpPacket}
 use Rattle.bindings.specs.Lives.{idle_keys_in}
 use Rattle.link.specs.declared.datagrams.Datagram.{Datagram}
 use Rattle.link.specs.declared.faults.LinkFault.{LinkFault}
-use Rattle.link.specs.Grammar.{IsWellFormed, IsWellFormedRecord}
-use Rattle.link.specs.Link.{Link, after_take, closed_at, is_due_on_tick, is_restart, records_taken, refusal, sent_on_answer, sent_on_tick, wanted}
+use Rattle.link.specs.declared.datagrams.Status.TheVariants.{Ending}
+use Rattle.link.specs.Grammar.{IsWellFormed, IsWellFormedRecord, spelling}
+use Rattle.link.specs.Link.{Link, after_take, closed_at, is_due_on_tick, is_restart, records_taken, refusal, sent_on_answer, sent_on_tick, wanted, datagram_of, left_by}
 use Rattle.link.specs.Reading.{reading}
 use Rattle.link.proofs.Offered.{all_taken, reading_takes}
 use Rattle.resync.specs.Loading.{Load, loaded}
+use Rattle.spec_pair.specs.Talk.{note}
 use Rattle.spec_binding.specs.Books.{Book, emptied, is_lone, is_synced, IsBook, load_of}
-use Rattle.spec_binding.specs.Ledgers.{Ledger, lone_ledger, ledger_after, release_all, may_ask, restarted_ledger, rests_for, taken_ledger, go_on_all, sought_keys}
-use Rattle.spec_binding.specs.Resets.{back_in, begun_anew, restart_link, restart_notes, restarted, retaken}
+use Rattle.spec_binding.specs.Ledgers.{Ledger, lone_ledger, ledger_after, release_all, may_ask, restarted_ledger, rests_for, taken_ledger, go_on_all, sought_keys, founded_ledger}
+use Rattle.spec_binding.specs.Resets.{back_in, begun_anew, restart_link, restart_notes, restarted, retaken, founding_link, founding_note}
 use Rattle.spec_binding.specs.Rows.{after, answered, load_taken, noted_by, row_of, taken_answer, taken_book, taken_ended, taken_what, unsynced_after, idle_row, alone_row, is_full}
 use Rattle.spec_binding.specs.Uses.{Accounts}
-use Rattle.spec_binding.proofs.Offered.{lone-keeps, fed-keeps, idle-keeps, restart-keeps, taken-keeps, change-leaves, lone-accounts, fed-accounts, later-accounts, let-go-accounts, restarted-accounts, taken-accounts, alone-row-keeps, go-on-accounts}
+use Rattle.spec_binding.proofs.Offered.{lone-keeps, fed-keeps, idle-keeps, restart-keeps, taken-keeps, change-leaves, lone-accounts, fed-accounts, later-accounts, let-go-accounts, restarted-accounts, taken-accounts, alone-row-keeps, go-on-accounts, founding-accounts, founding-keeps}
 use Rattle.waiting.specs.declared.waits.Ended.TheVariants.{AllPairs, One}
 use Rattle.waiting.specs.declared.waits.WaitsFor.TheVariants as wait
 use Rattle.packet_rules.specs.declared.readings.Reading.{Reading}
@@ -40,9 +43,9 @@ use Rattle.vrrp_states.specs.declared.Action.{Action}
 use Rattle.vrrp_states.specs.Table as table
 use Rattle.vrrp_states.specs.Table.{Event as RouterEvent}
 use Rattle.spec_step.specs.declared.events.Event.{Event}
-use Rattle.spec_step.specs.declared.events.Event.TheVariants.{Frame, Datagram as Comes, Tick, Stop, PeerOff, Side as SideIs}
+use Rattle.spec_step.specs.declared.events.Event.TheVariants.{Frame, Datagram as Comes, Tick, Stop, End, PeerOff, Side as SideIs}
 use Rattle.spec_step.specs.Machine.{AreBytes, HasBytes, KeepsBytes}
-use Rattle.spec_step.specs.Parts.{acted, all_framed, all_idle_done, answered_by, arp_taken, datagram_in, datagram_read, framed, frames_of, handed_in, has_synced, heard_by, heard_unless, idle_done, idle_taken, link_answered, link_ticked, old_dropped, record_done, record_shown, record_told, records_done, released, reset, started, wait_ended, with_link, word_taken, all_sought_done, alone_taken, gone_alone, peer_told, sought_done, waits_for_sender, is_taught, record_taken}
+use Rattle.spec_step.specs.Parts.{acted, all_framed, all_idle_done, answered_by, arp_taken, datagram_in, datagram_read, framed, frames_of, handed_in, has_synced, heard_by, heard_unless, idle_done, idle_taken, link_answered, link_ticked, old_dropped, record_done, record_shown, record_told, records_done, released, reset, started, wait_ended, with_link, word_taken, all_sought_done, alone_taken, gone_alone, peer_told, sought_done, waits_for_sender, is_taught, record_taken, link_ended, met_by, pair_founded}
 use Rattle.spec_step.specs.Rests.{AreBy, Rests}
 use Rattle.spec_step.specs.Shown.{GatewayAndOutput, Shown, id_of, is_running, scene, station_on, with_notes, with_station, is_apart}
 use Rattle.spec_step.specs.Routers.{BothAct, RouterActs}
@@ -57,6 +60,7 @@ use Rattle.spec_step.proofs.Plain.{let-go-stays-plain, restarted-stays-plain, re
 use Rattle.spec_step.proofs.Resting.{Rested, Resting, by-join, flow-rests, framed-rests, noted-own, released-rests, resting-noted, resting-nothing, resting-then, resting-unseen, echo-rests, error-rests, refused-rests, asking-rests}
 use Rattle.spec_step.proofs.Stepping.{begun_on}
 use Rattle.spec_step.proofs.Ahead.{record-behind, record_alone}
+use Rattle.spec_step.proofs.Heard.{heard-leads, restarted-id, taken_in}
 
 -- ---- interfaces
 
@@ -160,13 +164,6 @@ restart-own b now = at (is_synced b.stage)
     at true = retaken-own b.id now (back_in b.entries)
     at false = tt
 
-pub restarted-id : (b : Book) → (restarted b).id ≡ b.id
-restarted-id b = at (is_synced b.stage)
-  where
-    at : (t : Bool) → (let x : Book = cond t (begun_anew b) (emptied b) in x).id ≡ b.id
-    at true = refl
-    at false = refl
-
 link-rests : (s : GatewayAndOutput) (e : Link) → Resting s (with_link s e)
 link-rests s e = resting-unseen s (with_link s e) refl refl refl (λ k. k)
 
@@ -180,28 +177,6 @@ reset-rests reads s =
     (λ before is a. restarted-accounts g.moment g.ledger before is a) in
     resting-then s mid (reset s) first (released-rests reads mid AllPairs)
 
-heard-rests : Reads → (s : GatewayAndOutput) (d : Datagram) → IsWellFormed d → Resting s (heard_by s d)
-heard-rests reads s d fits = at (is_restart s.shown.link d)
-  where
-    at : (b : Bool) → Resting s (let e = s.shown.link in let after = with_link s (after_take e d s.shown.moment) in records_done (let x : GatewayAndOutput = cond b (reset after) after in x) (records_taken e d))
-    at true =
-        let heard = with_link s (after_take s.shown.link d s.shown.moment) in
-        resting-then s (reset heard) _
-        (resting-then s heard (reset heard) (link-rests s (after_take s.shown.link d s.shown.moment)) (reset-rests reads heard))
-        (records-rest reads (reset heard) (records_taken s.shown.link d) (all_taken s.shown.link d fits))
-    at false =
-        let heard = with_link s (after_take s.shown.link d s.shown.moment) in
-        resting-then s heard _ (link-rests s (after_take s.shown.link d s.shown.moment))
-        (records-rest reads heard (records_taken s.shown.link d) (all_taken s.shown.link d fits))
-
-datagram-rests : Reads → (s : GatewayAndOutput) (bytes : List ℕ) (r : Result Datagram LinkFault) → reading bytes ≡ r → AreBytes bytes → Resting s (datagram_read s r)
-datagram-rests reads s bytes (Ok d) read are = at (refusal s.shown.link d)
-  where
-    at : (o : Option LinkFault) → Resting s (heard_unless s d o)
-    at None = heard-rests reads s d (reading_takes bytes d are read).0
-    at (Some fault) = resting-nothing s
-datagram-rests reads s bytes (Err fault) read are = resting-nothing s
-
 taken-rests : Reads → (s : GatewayAndOutput) (n : ℕ) → is_synced s.shown.ledger.book.stage ≡ true → Resting s (word_taken s n)
 taken-rests reads s n synced =
     let g = s.shown in let b = g.ledger.book in
@@ -211,6 +186,32 @@ taken-rests reads s n synced =
     (retaken-own b.id g.moment (back_in b.entries)) (record { alone = refl; plain = λ never. retaken-are-plain b.id g.moment (back_in b.entries) }) refl (λ is. lone-keeps b is synced)
     (λ before is a. lone-accounts g.moment g.ledger before is a) in
     resting-then s mid (word_taken s n) first (released-rests reads mid AllPairs)
+
+founded-rests : (s : GatewayAndOutput) → is_synced s.shown.ledger.book.stage ≡ false → Resting s (pair_founded s)
+founded-rests s unsynced =
+    let g = s.shown in let b = g.ledger.book in
+    let g2 : Shown = record g { ledger = founded_ledger g.ledger; link = founding_link b g.link } in
+    let told = with_notes s.told (founding_note b.id g.moment ∷ []) in
+    let first : Resting s (scene g2 told) = resting-noted s (founded_ledger g.ledger) (founding_link b g.link) (founding_note b.id g.moment ∷ [])
+    ((refl, refl), tt) (record { alone = refl; plain = λ never. (tt, tt) }) refl (λ is. founding-keeps b is)
+    (λ before is a. founding-accounts g.moment g.ledger before unsynced a) in
+    resting-then s (scene g2 told) (pair_founded s) first (routed-rests g2.moment g2 told (has_synced g g2 && is_running g2))
+
+heard-rests : Reads → (s : GatewayAndOutput) (d : Datagram) → IsWellFormed d → Resting s (heard_by s d)
+heard-rests reads s d fits = heard-leads s d (λ x. Resting s x)
+    (link-rests s (after_take s.shown.link d s.shown.moment))
+    (λ is x. resting-then s (taken_in s d) (reset (taken_in s d)) x (reset-rests reads (taken_in s d)))
+    (λ y is x. resting-then s y (pair_founded y) x (founded-rests y is.unsynced))
+    (λ x. resting-then s (met_by s d) _ x (records-rest reads (met_by s d) (records_taken s.shown.link d) (all_taken s.shown.link d fits)))
+    (λ y is x. resting-then s y (word_taken y d.boot) x (taken-rests reads y d.boot is))
+
+datagram-rests : Reads → (s : GatewayAndOutput) (bytes : List ℕ) (r : Result Datagram LinkFault) → reading bytes ≡ r → AreBytes bytes → Resting s (datagram_read s r)
+datagram-rests reads s bytes (Ok d) read are = at (refusal s.shown.link d)
+  where
+    at : (o : Option LinkFault) → Resting s (heard_unless s d o)
+    at None = heard-rests reads s d (reading_takes bytes d are read).0
+    at (Some fault) = link-rests s (left_by s.shown.link (Ok d))
+datagram-rests reads s bytes (Err fault) read are = resting-nothing s
 
 word-rests : Reads → (s : GatewayAndOutput) (n : ℕ) (o : Option Reason) → word_refusal s.shown n ≡ o → Resting s (word_by s n o)
 word-rests reads s n None is = taken-rests reads s n (at (is_synced s.shown.ledger.book.stage) _ is)
@@ -328,6 +329,10 @@ does-rest reads s Stop done does has =
     let middle = does.0 in
     subst (λ (x : GatewayAndOutput). Resting s x) (sym does.2)
     (resting-then s middle (stopped middle) (both-rest s table.Stop middle does.1) (stopped-rests middle))
+does-rest reads s End done does has =
+    let middle = does.0 in
+    subst (λ (x : GatewayAndOutput). Resting s x) (sym does.2)
+    (resting-then s middle (stopped middle) (both-rest s table.Stop middle does.1) (stopped-rests middle))
 does-rest reads s (PeerOff n) done does has =
     subst (λ (x : GatewayAndOutput). Resting s x) (sym does) (word-rests reads s n (word_refusal s.shown n) refl)
 does-rest reads s (SideIs side up) done does has =
@@ -364,11 +369,28 @@ ticked-ends s = resting-then s (scene (handed_in s.shown) s.told) (link_ticked s
     at g true = resting-unseen (scene g s.told) _ refl refl refl (λ k. k)
     at g false = resting-nothing (scene g s.told)
 
+-- the ledger accounts for the gateway's own crash, which is no use
+crashed-accounts : (now : ℕ) (l : Ledger) (h : List Note) → Accounts now l h → Accounts now l (note l.book.id now Crashed ∷ h)
+crashed-accounts now l h a = record { uses = record { alike = a.uses.alike; known = a.uses.known; rested = a.uses.rested }; none = a.none; idle = (tt, a.idle) }
+
+-- the last datagram and the last note of a gateway that ends
+last-ends : (s : GatewayAndOutput) → Resting s (link_ended s)
+last-ends s =
+    let mid = scene (handed_in s.shown) s.told in
+    let g = handed_in s.shown in
+    let sent = scene (record g { link = sent_on_answer g.link }) (with_datagram s.told (spelling (datagram_of Ending g.link))) in
+    resting-then s mid (link_ended s) (fed-rests s)
+    (resting-then mid sent (link_ended s) (resting-unseen mid sent refl refl refl (λ k. k))
+    (resting-noted sent g.ledger (sent_on_answer g.link) (note (id_of g) g.moment Crashed ∷ [])
+    ((refl, refl), tt) (record { alone = refl; plain = λ never. (tt, tt) }) refl (λ is. is)
+    (λ before is a. crashed-accounts g.moment g.ledger before a)))
+
 end-rests : (event : Event) (done : GatewayAndOutput) → Resting done (ended_on event done)
 end-rests (Frame side bytes) done = answered-ends done
 end-rests (Comes bytes) done = answered-ends done
 end-rests (Tick now) done = ticked-ends done
 end-rests Stop done = answered-ends done
+end-rests End done = last-ends done
 end-rests (PeerOff n) done = answered-ends done
 end-rests (SideIs side up) done = resting-nothing done
 
@@ -400,6 +422,7 @@ begun-leads s (Tick now) = record {
   accounts = λ before a. later-accounts s.shown.moment (clock_after s.shown.moment now) s.shown.ledger before (no-earlier s.shown.moment now) a;
 }
 begun-leads s Stop = leads-here s
+begun-leads s End = leads-here s
 begun-leads s (PeerOff n) = leads-here s
 begun-leads s (SideIs side up) = leads-here s
 

@@ -4,7 +4,7 @@ use Rattle.std.proofs.Common.{◌≡◌, ℕ, Bool, true, false, cond, List, [],
 use Rattle.std.specs.List.{AllByRecursion}
 use Rattle.std.proofs.lemmas.List.{reverse-append}
 use Rattle.nat_types.specs.declared.gateways.GatewayId.{GatewayId}
-use Rattle.nat_types.specs.declared.notes.NoteKind.TheVariants.{Crashed, Booted}
+use Rattle.nat_types.specs.declared.notes.NoteKind.TheVariants.{Founded, Crashed, Booted}
 use Rattle.nat_types.specs.declared.notes.Note.{Note}
 use Rattle.nat_types.specs.Same.{same}
 use Rattle.nat_types.proofs.Offered.{same-true}
@@ -37,12 +37,15 @@ step-apart s s2 g before x apart theirs a =
     (by-other (id_of s.shown) (id_of g) s2.shown.moment (reverse x.notes) apart (by-reverse (id_of s.shown) s2.shown.moment x.notes x.own))
     (x.accounts before theirs).idle a
 
--- the ledger accounts for a crash, and for a boot, of the other gateway
+-- the ledger accounts for a crash, for a boot and for a founding of the other gateway
 pub crash-apart : (g : Shown) (by : GatewayId) (at : ℕ) (before : List Note) → same (id_of g) by ≡ false → AccountsOn g before → AccountsOn g (note by at Crashed ∷ before)
 crash-apart g by at before apart a = foreign-accounts g.moment g.ledger before (note by at Crashed ∷ []) (apart, tt) (tt, a.idle) a
 
 pub boot-apart : (g : Shown) (by : GatewayId) (at number : ℕ) (before : List Note) → same (id_of g) by ≡ false → AccountsOn g before → AccountsOn g (note by at (Booted number) ∷ before)
 boot-apart g by at number before apart a = foreign-accounts g.moment g.ledger before (note by at (Booted number) ∷ []) (apart, tt) (tt, a.idle) a
+
+pub founding-apart : (g : Shown) (by : GatewayId) (at : ℕ) (before : List Note) → same (id_of g) by ≡ false → AccountsOn g before → AccountsOn g (note by at Founded ∷ before)
+founding-apart g by at before apart a = foreign-accounts g.moment g.ledger before (note by at Founded ∷ []) (apart, tt) (tt, a.idle) a
 
 -- at its own boot a gateway's earlier uses are forgotten
 forgotten : (b : Bool) (uses : List ℕ) → b ≡ true → cond b [] uses ≡ []
@@ -55,7 +58,15 @@ boot-accounts settings id boot at before idle =
     begun-accounts 0 (empty_book id (bounds_of settings.ports.zero) (bounds_of settings.ports.one) (rules_of settings)) settings.inward_refresh Fixed (note id at (Booted boot) ∷ before) refl
     (λ p. forgotten (same id id) (uses_of id before p) (same-true id id refl)) (tt, idle)
 
-pub founded-accounts : (settings : Settings) (boot : ℕ) → AccountsOn (founded settings boot) []
+-- as the world begins
+pub founded-accounts : (settings : Settings) (id : GatewayId) (boot : ℕ) → AccountsOn (founded settings id boot) []
 unfolding founded begun
-founded-accounts settings boot =
-    begun-accounts 0 (founded_book (bounds_of settings.ports.zero) (bounds_of settings.ports.one) (rules_of settings)) settings.inward_refresh Fixed [] refl (λ p. refl) tt
+founded-accounts settings id boot =
+    begun-accounts 0 (founded_book id (bounds_of settings.ports.zero) (bounds_of settings.ports.one) (rules_of settings)) settings.inward_refresh Fixed [] refl (λ p. refl) tt
+
+-- as a gateway founds the pair where it boots
+pub boot-founds : (settings : Settings) (id : GatewayId) (boot at : ℕ) (before : List Note) → Idle before → AccountsOn (founded settings id boot) (note id at Founded ∷ note id at (Booted boot) ∷ before)
+unfolding founded begun
+boot-founds settings id boot at before idle =
+    begun-accounts 0 (founded_book id (bounds_of settings.ports.zero) (bounds_of settings.ports.one) (rules_of settings)) settings.inward_refresh Fixed (note id at Founded ∷ note id at (Booted boot) ∷ before) refl
+    (λ p. forgotten (same id id) (uses_of id before p) (same-true id id refl)) (tt, (tt, idle))

@@ -22,24 +22,24 @@ pub begun-room : (settings : Settings) (id : GatewayId) (boot : ℕ) → (begun 
 unfolding begun
 begun-room settings id boot = refl
 
-pub founded-stands : (settings : Settings) (boot : ℕ) → HasRanges settings → IsStanding (founded settings boot) []
+pub founded-stands : (settings : Settings) (id : GatewayId) (boot : ℕ) → HasRanges settings → IsStanding (founded settings id boot) []
 unfolding founded begun
-founded-stands settings boot has = record {
-  book = founded-keeps (bounds_of settings.ports.zero) (bounds_of settings.ports.one) (rules_of settings) has.zero has.one has.highest_zero has.highest_one;
+founded-stands settings id boot has = record {
+  book = founded-keeps id (bounds_of settings.ports.zero) (bounds_of settings.ports.one) (rules_of settings) has.zero has.one has.highest_zero has.highest_one;
   lone = λ t. inl refl;
   kept = tt;
   pushed = record { counted = omega arith; coming = refl; behind = refl };
 }
 
-pub founded-room : (settings : Settings) (boot : ℕ) → (founded settings boot).link.capacity ≡ link_places (bounds_of settings.ports.zero) (bounds_of settings.ports.one)
+pub founded-room : (settings : Settings) (id : GatewayId) (boot : ℕ) → (founded settings id boot).link.capacity ≡ link_places (bounds_of settings.ports.zero) (bounds_of settings.ports.one)
 unfolding founded begun
-founded-room settings boot = refl
+founded-room settings id boot = refl
 
 -- a gateway as it begins has sent no frame of its own
 pub begun-within : (settings : Settings) (id : GatewayId) (boot : ℕ) → AreWithin (begun settings id boot)
 unfolding begun new_station
 begun-within settings id boot = (none-within 0, none-within 0)
 
-pub founded-within : (settings : Settings) (boot : ℕ) → AreWithin (founded settings boot)
+pub founded-within : (settings : Settings) (id : GatewayId) (boot : ℕ) → AreWithin (founded settings id boot)
 unfolding founded begun new_station
-founded-within settings boot = (none-within 0, none-within 0)
+founded-within settings id boot = (none-within 0, none-within 0)

@@ -10,7 +10,7 @@ use Rattle.nat_types.specs.declared.gateways.GatewayId.{GatewayId}
 use Rattle.nat_types.specs.declared.gateways.Side.{Side}
 use Rattle.nat_types.specs.declared.gateways.Side.TheVariants.{Inside, Outside}
 use Rattle.nat_types.specs.declared.notes.NoteKind.{NoteKind}
-use Rattle.nat_types.specs.declared.notes.NoteKind.TheVariants.{Retaken}
+use Rattle.nat_types.specs.declared.notes.NoteKind.TheVariants.{Crashed, Retaken}
 use Rattle.nat_types.specs.declared.notes.Note.{Note}
 use Rattle.nat_types.specs.declared.pairs.Endpoint.{Endpoint}
 use Rattle.nat_types.specs.declared.pairs.Key.{Key}
@@ -27,13 +27,13 @@ use Rattle.bindings.specs.Revivals.{comes_back}
 use Rattle.link.specs.declared.datagrams.Datagram.{Datagram}
 use Rattle.link.specs.declared.faults.LinkFault.{LinkFault}
 use Rattle.link.specs.Grammar.{IsWellFormed}
-use Rattle.link.specs.Link.{Link, after_take, closed_at, free_places, is_beginning, is_due_on_tick, is_restart, met, records_taken, refusal, sent_on_tick, takeable, untaken}
+use Rattle.link.specs.Link.{Link, closed_at, free_places, is_beginning, is_due_on_tick, is_over, is_restart, met, records_taken, refusal, sent_on_tick, takeable, untaken}
 use Rattle.link.specs.Reading.{reading}
 use Rattle.link.proofs.Offered.{length-takeable, reading_takes}
 use Rattle.spec_binding.specs.declared.changes.Transition.{Transition}
 use Rattle.spec_binding.specs.Books.{Book, is_lone, is_synced}
-use Rattle.spec_binding.specs.Ledgers.{Ledger, lone_ledger, may_ask, restarted_ledger, rests_for, taken_ledger, sought_keys}
-use Rattle.spec_binding.specs.Resets.{back_in, restart_link, restart_notes, retaken}
+use Rattle.spec_binding.specs.Ledgers.{Ledger, founded_ledger, lone_ledger, may_ask, restarted_ledger, rests_for, taken_ledger, sought_keys}
+use Rattle.spec_binding.specs.Resets.{back_in, founding_link, founding_note, restart_link, restart_notes, retaken}
 use Rattle.spec_binding.specs.Rows.{answered, carry_row, idle_row, is_full, noted_by, taken_answer, taken_ended, taken_what, wish_of, alone_row, noted_with}
 use Rattle.waiting.specs.declared.waits.Ended.{Ended}
 use Rattle.waiting.specs.declared.waits.Ended.TheVariants.{AllPairs, One}
@@ -57,11 +57,11 @@ use Rattle.output.specs.Output.{Output, with_datagram}
 use Rattle.vrrp_states.specs.Table as table
 use Rattle.vrrp_states.specs.Table.{Event as RouterEvent}
 use Rattle.spec_step.specs.declared.events.Event.{Event}
-use Rattle.spec_step.specs.declared.events.Event.TheVariants.{Frame, Datagram as Comes, Tick, Stop, PeerOff, Side as SideIs}
+use Rattle.spec_step.specs.declared.events.Event.TheVariants.{Frame, Datagram as Comes, Tick, Stop, End, PeerOff, Side as SideIs}
 use Rattle.spec_step.specs.declared.plans.Plan.{Plan}
 use Rattle.spec_step.specs.declared.plans.Plan.TheVariants.{Send, Ask, AskAgain, Wait as WaitFor}
 use Rattle.spec_step.specs.Machine.{AreBytes, HasBytes}
-use Rattle.spec_step.specs.Parts.{all_framed, all_idle_done, all_taken, answered_by, arp_taken, asked_again, by_plan, by_row, by_verdict, carried_all, carried_by, datagram_in, datagram_read, flags_in, flow_taken, framed, frames_of, handed_in, has_synced, heard_by, heard_unless, idle_done, idle_taken, keeping, link_answered, link_ticked, old_dropped, record_done, record_shown, record_told, records_done, released, renewed_behind, request_by, reset, retaken_by, started, taken_again, wait_ended, waiting, wanted_by, wanted_for, with_link, word_taken, by_error_plan, by_error_verdict, error_taken, echo_taken, size_in, refused, all_sought_done, alone_taken, gone_alone, peer_told, sought_done, waits_for_sender, is_taught, record_taken}
+use Rattle.spec_step.specs.Parts.{all_framed, all_idle_done, all_taken, answered_by, arp_taken, asked_again, by_plan, by_row, by_verdict, carried_all, carried_by, datagram_in, datagram_read, flags_in, flow_taken, framed, frames_of, handed_in, has_synced, heard_by, heard_unless, idle_done, idle_taken, keeping, link_answered, link_ticked, old_dropped, record_done, record_shown, record_told, records_done, released, renewed_behind, request_by, reset, retaken_by, started, taken_again, wait_ended, waiting, wanted_by, wanted_for, with_link, word_taken, by_error_plan, by_error_verdict, error_taken, echo_taken, size_in, refused, all_sought_done, alone_taken, gone_alone, peer_told, sought_done, waits_for_sender, is_taught, record_taken, does_found, link_ended, met_by, pair_founded, routers_started}
 use Rattle.spec_step.specs.Rests.{most_notes}
 use Rattle.spec_step.specs.Shown.{GatewayAndOutput, Shown, id_of, is_apart, is_running, scene, station_on, with_notes, with_station}
 use Rattle.spec_step.specs.Routers.{BothAct, RouterActs}
@@ -75,6 +75,9 @@ use Rattle.icmp.specs.declared.packets.ErrorFlow.{ErrorFlow}
 use Rattle.spec_step.proofs.Behind.{asked_behind}
 use Rattle.spec_binding.specs.Uses.{carried_notes, use_counts}
 use Rattle.spec_step.proofs.Ahead.{Keeps, record-behind, record_alone, row-behind}
+use Rattle.spec_step.proofs.Growing.{entries_of, record-grows, released-grows, restarted-few}
+use Rattle.spec_step.proofs.Heard.{taken_in}
+use Rattle.spec_pair.specs.Talk.{note}
 
 -- from one scene to another at most `n` notes are added, and at most `k` packets more are kept
 record Adds (n k : ℕ) (s s2 : GatewayAndOutput) : Type 0 where
@@ -456,33 +459,90 @@ reset-within c s =
     (within-adds c (length b.entries) s mid (adds-noted (length b.entries) s mid notes (few-restart b g.moment) refl refl))
     (released-within c mid AllPairs)
 
-heard-within : (c : ℕ) (s : GatewayAndOutput) (d : Datagram) → IsWellFormed d → Within c (length s.shown.ledger.book.entries + 3 * c + 64 * (1 + 3 * c)) s (heard_by s d)
-heard-within c s d fits = at (is_restart s.shown.link d)
-  where
-    at : (b : Bool) → Within c (length s.shown.ledger.book.entries + 3 * c + 64 * (1 + 3 * c)) s (let e = s.shown.link in let after = with_link s (after_take e d s.shown.moment) in records_done (let x : GatewayAndOutput = cond b (reset after) after in x) (records_taken e d))
-    at true =
-        let heard = with_link s (after_take s.shown.link d s.shown.moment) in
-        let m = length s.shown.ledger.book.entries + 3 * c in
-        within-then c m (64 * (1 + 3 * c)) s (reset heard) (records_done (reset heard) (records_taken s.shown.link d))
-        (within-after c m s heard (reset heard) (adds-none s heard refl refl) (reset-within c heard))
-        (records-within c 64 (reset heard) (records_taken s.shown.link d) (few-taken s.shown.link d fits))
-    at false =
-        let heard = with_link s (after_take s.shown.link d s.shown.moment) in
-        let m = length s.shown.ledger.book.entries + 3 * c in
-        within-then c m (64 * (1 + 3 * c)) s heard (records_done heard (records_taken s.shown.link d))
-        (within-fewer c 0 m s heard (omega arith) (within-adds c 0 s heard (adds-none s heard refl refl)))
-        (records-within c 64 heard (records_taken s.shown.link d) (few-taken s.shown.link d fits))
+-- where at most c packets are kept, at most n notes are made, no more packets are kept, and at most m entries come
+abbrev Growing : ℕ → ℕ → ℕ → GatewayAndOutput → GatewayAndOutput → Type 0
+Growing c n m s s2 = length s.shown.kept ≤ c → (length s2.told.notes ≤ length s.told.notes + n) × (length s2.shown.kept ≤ c) × (entries_of s2 ≤ entries_of s + m)
 
-abbrev most : ℕ → ℕ → ℕ
-most entries c = entries + 3 * c + 64 * (1 + 3 * c) + 3
+growing-then : (c n m k j : ℕ) (a b d : GatewayAndOutput) → Growing c n m a b → Growing c k j b d → Growing c (n + k) (m + j) a d
+growing-then c n m k j a b d x y = λ le.
+    let one = x le in
+    let two = y one.1 in
+    (omega (arith, one.0, two.0), two.1, omega (arith, one.2, two.2))
 
-datagram-within : (c : ℕ) (s : GatewayAndOutput) (bytes : List ℕ) (r : Result Datagram LinkFault) → reading bytes ≡ r → AreBytes bytes → Within c (most (length s.shown.ledger.book.entries) c) s (datagram_read s r)
-datagram-within c s bytes (Ok d) read are = at (refusal s.shown.link d)
+-- routers that start leave the packets and the ledger
+routed-same : (b : Bool) (g : Shown) → (let x : Shown = cond b (routers_started g) g in (x.kept ≡ g.kept) × (x.ledger ≡ g.ledger))
+routed-same true g = (refl, refl)
+routed-same false g = (refl, refl)
+
+reset-grows : (c : ℕ) (s : GatewayAndOutput) → Growing c (entries_of s + 3 * c) c s (reset s)
+reset-grows c s = λ le.
+    let g = s.shown in let b = g.ledger.book in
+    let mid = scene (record g { ledger = restarted_ledger g.ledger; link = restart_link b g.link }) (with_notes s.told (restart_notes b g.moment)) in
+    let within = reset-within c s le in
+    (within.0, within.1, omega (arith, released-grows c mid AllPairs le, restarted-few b))
+
+ended-grows : (c : ℕ) (s : GatewayAndOutput) (o : Option Endpoint) → length s.shown.kept ≤ c → entries_of (wait_ended o s) ≤ entries_of s + c
+ended-grows c s None le = omega arith
+ended-grows c s (Some e) le = released-grows c s (One (wait.Pair e)) le
+
+record-all : (c : ℕ) (s : GatewayAndOutput) (r : Record) → Growing c (1 + 3 * c) (1 + c) s (record_done s r)
+record-all c s r = λ le.
+    let g = s.shown in
+    let g2 : Shown = record_taken g r in
+    let s3 = scene (record_shown g r) (record_told g r s.told) in
+    let same = routed-same (has_synced g g2 && is_running g2) g2 in
+    let kept : length s3.shown.kept ≤ c = omega (arith, le, ap (λ (ws : List HeldPacket). length ws) same.0) in
+    let within = record-within c s r le in
+    (
+      within.0,
+      within.1,
+      omega (
+        arith,
+        ended-grows c s3 (taken_ended g.ledger.book (rests_for g.moment g.ledger r) r) kept,
+        ap (λ (l : Ledger). length l.book.entries) same.1,
+        record-grows g r s.told,
+      ),
+    )
+
+records-all : (c n : ℕ) (s : GatewayAndOutput) (rs : List Record) → length rs ≤ n → Growing c (n * (1 + 3 * c)) (n * (1 + c)) s (records_done s rs)
+records-all c n s [] few = λ le. (omega arith, le, omega arith)
+records-all c zero s (r ∷ rs) few = absurd (omega (arith, few))
+records-all c (suc n) s (r ∷ rs) few =
+    let more : suc n * (1 + 3 * c) ≡ (1 + 3 * c) + n * (1 + 3 * c) = omega arith in
+    let most_of : suc n * (1 + c) ≡ (1 + c) + n * (1 + c) = omega arith in
+    subst (λ (k : ℕ). Growing c k (suc n * (1 + c)) s (records_done s (r ∷ rs))) (sym more)
+    (subst (λ (k : ℕ). Growing c ((1 + 3 * c) + n * (1 + 3 * c)) k s (records_done s (r ∷ rs))) (sym most_of)
+    (growing-then c (1 + 3 * c) (1 + c) (n * (1 + 3 * c)) (n * (1 + c)) s (record_done s r) (records_done s (r ∷ rs)) (record-all c s r)
+    (records-all c n (record_done s r) rs (omega (arith, few)))))
+
+-- a founding makes one note, of a table that is empty then
+founded-grows : (c : ℕ) (s : GatewayAndOutput) → Growing c 1 0 s (pair_founded s)
+founded-grows c s = λ le.
+    let g = s.shown in
+    let g2 : Shown = record g { ledger = founded_ledger g.ledger; link = founding_link g.ledger.book g.link } in
+    let same = routed-same (has_synced g g2 && is_running g2) g2 in
+    (
+      omega (arith, length-append s.told.notes (founding_note (id_of g) g.moment ∷ [])),
+      omega (arith, le, ap (λ (ws : List HeldPacket). length ws) same.0),
+      omega (arith, ap (λ (l : Ledger). length l.book.entries) same.1),
+    )
+
+met-grows : (c : ℕ) (s : GatewayAndOutput) (d : Datagram) → Growing c (entries_of s + 3 * c + 1) c s (met_by s d)
+met-grows c s d = at (is_restart s.shown.link d) (does_found s.shown d)
   where
-    at : (o : Option LinkFault) → Within c (length s.shown.ledger.book.entries + 3 * c + 64 * (1 + 3 * c) + 3) s (heard_unless s d o)
-    at None = within-fewer c (length s.shown.ledger.book.entries + 3 * c + 64 * (1 + 3 * c)) (most (length s.shown.ledger.book.entries) c) s (heard_by s d) (omega arith) (heard-within c s d (reading_takes bytes d are read).0)
-    at (Some fault) = nothing-within c _ s
-datagram-within c s bytes (Err fault) read are = nothing-within c _ s
+    start : Bool → GatewayAndOutput
+    start b = cond b (reset (taken_in s d)) (taken_in s d)
+
+    starts : (b : Bool) → Growing c (entries_of s + 3 * c) c s (start b)
+    starts true = reset-grows c (taken_in s d)
+    starts false = λ le. (omega arith, le, omega arith)
+
+    at : (b f : Bool) → Growing c (entries_of s + 3 * c + 1) c s (let x : GatewayAndOutput = cond b (reset (taken_in s d)) (taken_in s d) in let y : GatewayAndOutput = cond f (pair_founded x) x in y)
+    at b true = λ le.
+        let first = starts b le in
+        let second = founded-grows c (start b) first.1 in
+        (omega (arith, first.0, second.0), second.1, omega (arith, first.2, second.2))
+    at b false = λ le. let first = starts b le in (omega (arith, first.0), first.1, first.2)
 
 taken-within : (c : ℕ) (s : GatewayAndOutput) (n : ℕ) → Within c (length s.shown.ledger.book.entries + 3 * c) s (word_taken s n)
 taken-within c s n =
@@ -492,6 +552,32 @@ taken-within c s n =
     within-then c (length b.entries) (3 * c) s mid (word_taken s n)
     (within-adds c (length b.entries) s mid (adds-noted (length b.entries) s mid notes (few-retaken b.id g.moment b.entries) refl refl))
     (released-within c mid AllPairs)
+
+abbrev most : ℕ → ℕ → ℕ
+most entries c = 2 * entries + 3 * (3 * c) + 128 * (1 + 3 * c) + 2
+
+heard-within : (c : ℕ) (s : GatewayAndOutput) (d : Datagram) → IsWellFormed d → Within c (most (length s.shown.ledger.book.entries) c) s (heard_by s d)
+heard-within c s d fits = λ le. at (is_over s.shown.link d && is_synced (records_done (met_by s d) (records_taken s.shown.link d)).shown.ledger.book.stage) (through le)
+  where
+    done : GatewayAndOutput
+    done = records_done (met_by s d) (records_taken s.shown.link d)
+
+    through : Growing c ((entries_of s + 3 * c + 1) + 64 * (1 + 3 * c)) (c + 64 * (1 + c)) s done
+    through = growing-then c (entries_of s + 3 * c + 1) c (64 * (1 + 3 * c)) (64 * (1 + c)) s (met_by s d) done (met-grows c s d)
+        (records-all c 64 (met_by s d) (records_taken s.shown.link d) (few-taken s.shown.link d fits))
+
+    at : (b : Bool) → (length done.told.notes ≤ length s.told.notes + ((entries_of s + 3 * c + 1) + 64 * (1 + 3 * c))) × (length done.shown.kept ≤ c) × (entries_of done ≤ entries_of s + (c + 64 * (1 + c)))
+        → (let x : GatewayAndOutput = cond b (word_taken done d.boot) done in (length x.told.notes ≤ length s.told.notes + most (length s.shown.ledger.book.entries) c) × (length x.shown.kept ≤ c))
+    at true all = let last = taken-within c done d.boot all.1 in (omega (arith, all.0, all.2, last.0), last.1)
+    at false all = (omega (arith, all.0), all.1)
+
+datagram-within : (c : ℕ) (s : GatewayAndOutput) (bytes : List ℕ) (r : Result Datagram LinkFault) → reading bytes ≡ r → AreBytes bytes → Within c (most (length s.shown.ledger.book.entries) c) s (datagram_read s r)
+datagram-within c s bytes (Ok d) read are = at (refusal s.shown.link d)
+  where
+    at : (o : Option LinkFault) → Within c (most (length s.shown.ledger.book.entries) c) s (heard_unless s d o)
+    at None = heard-within c s d (reading_takes bytes d are read).0
+    at (Some fault) = within-fewer c 0 (most (length s.shown.ledger.book.entries) c) s (heard_unless s d (Some fault)) (omega arith) (within-adds c 0 s (heard_unless s d (Some fault)) (adds-none s _ refl refl))
+datagram-within c s bytes (Err fault) read are = nothing-within c _ s
 
 word-within : (c : ℕ) (s : GatewayAndOutput) (n : ℕ) (o : Option Reason) → Within c (most (length s.shown.ledger.book.entries) c) s (word_by s n o)
 word-within c s n None = within-fewer c (length s.shown.ledger.book.entries + 3 * c) (most (length s.shown.ledger.book.entries) c) s (word_taken s n) (omega arith) (taken-within c s n)
@@ -574,15 +660,15 @@ alone-within c s = at (is_apart (idle_taken s).shown) refl
 
 -- ---- an event's own parts
 
-bounded : (s x done : GatewayAndOutput) → Within (length s.shown.kept) (most (length s.shown.ledger.book.entries) (length s.shown.kept)) s x → done ≡ x → length done.told.notes ≤ length s.told.notes + most_notes s.shown
+bounded : (s x done : GatewayAndOutput) → Within (length s.shown.kept) (most (length s.shown.ledger.book.entries) (length s.shown.kept)) s x → done ≡ x → length done.told.notes + 1 ≤ length s.told.notes + most_notes s.shown
 bounded s x done is same =
     let few = is (omega arith) in
     omega (arith, few.0, ap (λ (z : GatewayAndOutput). length z.told.notes) same)
 
-does-few : (s : GatewayAndOutput) (event : Event) (done : GatewayAndOutput) → Does s event done → HasBytes event → length done.told.notes ≤ length s.told.notes + most_notes s.shown
+does-few : (s : GatewayAndOutput) (event : Event) (done : GatewayAndOutput) → Does s event done → HasBytes event → length done.told.notes + 1 ≤ length s.told.notes + most_notes s.shown
 does-few s (Frame side bytes) done does has = at (reading_on s.shown side bytes.now) does
   where
-    at : (r : Result Reading Reason) → FrameDoes s side bytes.now r done → length done.told.notes ≤ length s.told.notes + most_notes s.shown
+    at : (r : Result Reading Reason) → FrameDoes s side bytes.now r done → length done.told.notes + 1 ≤ length s.told.notes + most_notes s.shown
     at (Ok (Arp p)) is =
         let x = arp-within (length s.shown.kept) s side p (omega arith) in
         omega (arith, x.0, ap (λ (z : GatewayAndOutput). length z.told.notes) is)
@@ -608,6 +694,9 @@ does-few s (Tick now) done does has =
 does-few s Stop done does has =
     let middle = does.0 in
     omega (arith, (both-add s table.Stop middle does.1).notes, ap (λ (z : GatewayAndOutput). length z.told.notes) does.2)
+does-few s End done does has =
+    let middle = does.0 in
+    omega (arith, (both-add s table.Stop middle does.1).notes, ap (λ (z : GatewayAndOutput). length z.told.notes) does.2)
 does-few s (PeerOff n) done does has =
     bounded s _ done (word-within (length s.shown.kept) s n (word_refusal s.shown n)) does
 does-few s (SideIs side up) done does has =
@@ -629,18 +718,19 @@ ticked-ends s = at (handed_in s.shown) (is_due_on_tick (handed_in s.shown).link 
     at g true = refl
     at g false = refl
 
-end-notes : (event : Event) (done : GatewayAndOutput) → (ended_on event done).told.notes ≡ done.told.notes
-end-notes (Frame side bytes) done = answered-ends done
-end-notes (Comes bytes) done = answered-ends done
-end-notes (Tick now) done = ticked-ends done
-end-notes Stop done = answered-ends done
-end-notes (PeerOff n) done = answered-ends done
-end-notes (SideIs side up) done = refl
+end-notes : (event : Event) (done : GatewayAndOutput) → length (ended_on event done).told.notes ≤ length done.told.notes + 1
+end-notes (Frame side bytes) done = omega (arith, ap (λ (ns : List Note). length ns) (answered-ends done))
+end-notes (Comes bytes) done = omega (arith, ap (λ (ns : List Note). length ns) (answered-ends done))
+end-notes (Tick now) done = omega (arith, ap (λ (ns : List Note). length ns) (ticked-ends done))
+end-notes Stop done = omega (arith, ap (λ (ns : List Note). length ns) (answered-ends done))
+end-notes End done = omega (arith, length-append done.told.notes (note (id_of done.shown) done.shown.moment Crashed ∷ []))
+end-notes (PeerOff n) done = omega (arith, ap (λ (ns : List Note). length ns) (answered-ends done))
+end-notes (SideIs side up) done = omega arith
 
 -- ---- a whole step
 
 pub step-notes : (s : GatewayAndOutput) (event : Event) (s2 : GatewayAndOutput) → IsStepOn s event s2 → HasBytes event → length s2.told.notes ≤ length s.told.notes + most_notes s.shown
 step-notes s event s2 step has =
     let few = does-few s event step.done step.does has in
-    let same = ap (λ (z : GatewayAndOutput). length z.told.notes) step.sends ∙ ap (λ (ns : List Note). length ns) (end-notes event step.done) in
-    omega (arith, few, same)
+    let same = ap (λ (z : GatewayAndOutput). length z.told.notes) step.sends in
+    omega (arith, few, same, end-notes event step.done)

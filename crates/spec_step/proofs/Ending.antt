@@ -1,19 +1,24 @@
 -- The datagram at a step's end, as the machine sees it.
 use Rattle.std.proofs.Common.{◌≡◌, ◌⊎◌, inl, inr, ℕ, ◌+◌, min, Bool, true, false, cond, List, [], ◌∷◌, ◌++◌, length, drop, reverse, take, Option, Some, refl, sym, ap, subst, ◌∙◌, arith}
 use Rattle.std.proofs.lemmas.List.{append-nil, length-append, length-take, take-append-drop}
+use Rattle.nat_types.specs.declared.gateways.GatewayId.{GatewayId}
+use Rattle.nat_types.specs.declared.notes.Note.{Note}
+use Rattle.nat_types.specs.declared.notes.NoteKind.TheVariants.{Crashed}
 use Rattle.nat_types.specs.declared.records.Record.{Record}
+use Rattle.link.specs.declared.datagrams.Status.TheVariants.{Ending}
 use Rattle.link.specs.Grammar.{spelling}
-use Rattle.link.specs.Link.{Link, Agrees, datagram_of, is_due_on_tick, sent_on_answer, sent_on_tick, wanted, with_fed}
-use Rattle.link.proofs.Offered.{within_handed, is_letter}
+use Rattle.link.specs.Link.{Link, Agrees, datagram_of, is_due_on_tick, is_ending, status_by, sent_on_answer, sent_on_tick, wanted, with_fed}
+use Rattle.link.proofs.Offered.{within_handed, is_letter, says_more}
 use Rattle.spec_pair.specs.Box.{Letter}
 use Rattle.spec_pair.specs.Step.{IsStep}
+use Rattle.spec_pair.specs.Talk.{note}
 use Rattle.spec_binding.specs.Books.{Book}
 use Rattle.spec_binding.specs.Machine.{box_at, letter_of, ranges_of}
-use Rattle.spec_binding.proofs.Offered.{fed-keeps, feed-works, works-sent}
+use Rattle.spec_binding.proofs.Offered.{fed-keeps, feed-works, last-sent, works-sent}
 use Rattle.output.specs.Output.{Output, with_datagram}
-use Rattle.spec_step.specs.Machine.{Goes, IsLoneRightly}
-use Rattle.spec_step.specs.Parts.{datagram_in, handed_in, link_answered, link_ticked}
-use Rattle.spec_step.specs.Shown.{GatewayAndOutput, Shown, scene, serves}
+use Rattle.spec_step.specs.Machine.{Ends, Goes, IsLoneRightly}
+use Rattle.spec_step.specs.Parts.{datagram_in, handed_in, link_answered, link_ended, link_ticked, status_in}
+use Rattle.spec_step.specs.Shown.{GatewayAndOutput, Shown, id_of, scene, serves}
 use Rattle.spec_step.proofs.Hearing.{Arrives}
 use Rattle.spec_step.proofs.Passing.{IsSound, Passes, given, passes-then}
 
@@ -25,6 +30,11 @@ wanted-none e coming all =
     let taken : length (take n coming) ≡ n = let l = length-take n coming in omega (arith, l, all) in
     let fed = length-append e.fed (take n coming) in
     omega (arith, taken, fed)
+
+-- a gateway that sends its status doesn't end
+serving-on : (b : Bool) → is_ending (status_by b) ≡ false
+serving-on true = refl
+serving-on false = refl
 
 module _ (letters : List Letter) (words : List ℕ) (s : GatewayAndOutput) (h : List Record) where
   -- feeding the link records of a promised batch is a part of a step of the machine
@@ -59,10 +69,11 @@ module _ (letters : List Letter) (words : List ℕ) (s : GatewayAndOutput) (h : 
       → Goes letters words s (scene (record g { link = ended g.link ticked }) (with_datagram told (datagram_in g))) h
   sent-goes g told ticked none x =
       let b = s.shown.ledger.book in let b2 = g.ledger.book in let e = s.shown.link in let e2 = g.link in
-      let d = datagram_of (serves g) e2 in
+      let status = status_in g in
+      let d = datagram_of status e2 in
       let hs = x.works.history in
-      let is = is_letter hs b2.coming e2 (serves g) x.works.agrees none in
-      let step = works-sent s.shown.moment letters words b b2 e e2 (ended e2 ticked) e.taken e2.taken e2.acknowledged (min 64 (length e2.fed + length e2.waiting)) x.notes h d x.works is (within_handed e2 none) refl refl refl in
+      let is = is_letter hs b2.coming e2 status x.works.agrees none in
+      let step = works-sent s.shown.moment letters words b b2 e e2 (ended e2 ticked) e.taken e2.taken e2.acknowledged (min 64 (length e2.fed + length e2.waiting)) x.notes h d x.works is (within_handed e2 none) (serving-on (serves g)) (λ first empty. says_more hs b2.coming e2 status x.works.agrees none first empty) refl refl refl in
       record {
         history = hs;
         pushed = ended-agrees e2 ticked hs b2.coming x.works.agrees;
@@ -135,6 +146,11 @@ module _ (letters : List Letter) (words : List ℕ) (s : GatewayAndOutput) (h : 
       let g = handed_in done.shown in
       ended-keeps g done.told (sent_on_answer g.link) (fed-passes done a).sound a.lone refl refl
 
+  pub last-keeps : (done : GatewayAndOutput) → Arrives letters words s done h → IsSound (link_ended done).shown × IsLoneRightly (link_ended done).shown
+  last-keeps done a =
+      let g = handed_in done.shown in
+      ended-keeps g done.told (sent_on_answer g.link) (fed-passes done a).sound a.lone refl refl
+
   pub ticked-keeps : (done : GatewayAndOutput) → Arrives letters words s done h → IsSound (link_ticked done).shown × IsLoneRightly (link_ticked done).shown
   ticked-keeps done a =
       let g = handed_in done.shown in
@@ -143,3 +159,39 @@ module _ (letters : List Letter) (words : List ℕ) (s : GatewayAndOutput) (h : 
       at : (g : Shown) → IsSound g → IsLoneRightly g → (due : Bool) → (let t : GatewayAndOutput = cond due (scene (record g { link = sent_on_tick g.link g.moment }) (with_datagram done.told (datagram_in g))) (scene g done.told) in IsSound t.shown × IsLoneRightly t.shown)
       at g is alone true = ended-keeps g done.told (sent_on_tick g.link g.moment) is alone refl refl
       at g is alone false = (is, alone)
+
+nothing-added : (ns more : List Note) → ns ++ more ≡ ns → more ≡ []
+nothing-added ns [] is = refl
+nothing-added ns (n ∷ more) is = absurd (omega (arith, length-append ns (n ∷ more), ap (λ (xs : List Note). length xs) is))
+
+-- a gateway's end is the machine's: what led to it makes no note and sends nothing, and its last letter is sent
+pub last-ends : (s : GatewayAndOutput) (h : List Record) (done : GatewayAndOutput) → (a : Arrives [] [] s done h) → done.told.notes ≡ s.told.notes → Ends s (link_ended done) h
+last-ends s h done a same =
+    let x = fed-passes [] [] s h done a in
+    let g = handed_in done.shown in
+    let b = s.shown.ledger.book in
+    let e = g.link in
+    let hs = x.works.history in
+    let none = wanted-none done.shown.link done.shown.ledger.book.coming a.passes.works.agrees.coming in
+    let count = min 64 (length e.fed + length e.waiting) in
+    let d = datagram_of Ending e in
+    let is = is_letter hs g.ledger.book.coming e Ending x.works.agrees none in
+    let last = last-sent g.ledger.book e e.taken e.acknowledged count hs d is (within_handed e none) refl in
+    let silent : x.notes ≡ [] = nothing-added s.told.notes x.notes (sym x.notes_are ∙ same) in
+    let agrees = x.works.agrees in
+    record {
+      history = hs;
+      pushed = record { counted = agrees.counted; coming = agrees.coming; behind = agrees.behind };
+      notes_are = ap (λ (ns : List Note). ns ++ note (id_of g) g.moment Crashed ∷ []) same
+          ∙ ap (λ (i : GatewayId). s.told.notes ++ note i g.moment Crashed ∷ []) x.works.house.id;
+      last = d;
+      datagrams_are = ap (λ (ds : List (List ℕ)). ds ++ spelling d ∷ []) x.datagrams;
+      own = refl;
+      first = e.acknowledged;
+      count = count;
+      letter_is = last.0;
+      may = last.1;
+      house = x.works.house;
+      step = subst (λ (ns : List Note). IsStep (ranges_of b) b.id g.moment (box_at b s.shown.link h s.shown.link.taken) (box_at g.ledger.book (sent_on_answer e) hs e.taken) [] [] [] (reverse ns) [] []) silent
+          (subst (λ (m : ℕ). IsStep (ranges_of b) b.id m (box_at b s.shown.link h s.shown.link.taken) (box_at g.ledger.book (sent_on_answer e) hs e.taken) [] [] [] (reverse x.notes) [] []) (sym x.moment) x.works.step);
+    }

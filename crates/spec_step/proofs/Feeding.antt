@@ -12,7 +12,7 @@ use Rattle.settings.specs.Values.{same_values}
 use Rattle.link.specs.declared.datagrams.Datagram.{Datagram}
 use Rattle.link.specs.declared.faults.LinkFault.{LinkFault}
 use Rattle.link.specs.declared.faults.LinkFault.TheVariants.{NotOurs, OtherSettings}
-use Rattle.link.specs.Link.{Link, is_due_on_tick, refusal, sent_on_answer, sent_on_tick, taken_of, taken_unless, taking, wanted, with_fed}
+use Rattle.link.specs.Link.{Link, after_refused, is_due_on_tick, left_unless, refusal, sent_on_answer, sent_on_tick, taken_of, taken_unless, taking, wanted, with_fed}
 use Rattle.link.specs.Reading.{reading}
 use Rattle.link.specs.Strays.{IsStray, is_stray}
 use Rattle.packet_rules.specs.declared.readings.Reading.{Reading}
@@ -21,11 +21,12 @@ use Rattle.packet_rules.specs.declared.reasons.Reason.TheVariants.{BadDatagram, 
 use Rattle.output.specs.Output.{Output, with_datagram}
 use Rattle.spec_binding.specs.Books.{IsBook}
 use Rattle.spec_step.specs.declared.events.Event.{Event}
-use Rattle.spec_step.specs.declared.events.Event.TheVariants.{Frame, Datagram as Comes, Tick, Stop, PeerOff, Side as SideIs}
+use Rattle.spec_step.specs.declared.events.Event.TheVariants.{Frame, Datagram as Comes, Tick, Stop, End, PeerOff, Side as SideIs}
 use Rattle.spec_step.specs.declared.events.Outcome.TheVariants.{Dropped}
 use Rattle.spec_step.specs.Founding.{begun, founded}
 use Rattle.spec_step.specs.Machine.{HasBytes, HasPushed, IsLoneRightly, KeepsBytes}
-use Rattle.spec_step.specs.Parts.{answer_sent, datagram_in, datagram_read, handed_in, heard_unless, link_answered, link_ticked, side_plugged}
+use Rattle.spec_step.specs.Parts.{answer_sent, datagram_in, datagram_read, handed_in, heard_unless, link_answered, link_ticked, side_plugged, with_link}
+use Rattle.spec_step.specs.Settled.{IsSettled}
 use Rattle.spec_step.specs.Shown.{GatewayAndOutput, Shown, scene}
 use Rattle.spec_step.specs.Steps.{Does, FrameDoes, IsStepOn, ended_on, outcome_heard, outcome_on}
 use Rattle.spec_step.specs.Verdict.{reading_on}
@@ -72,17 +73,22 @@ route-drops s side bytes s2 reads due fed step =
 
 -- ---- strays
 
--- a datagram with other values is refused, whatever else it says
-other-refused : (e : Link) (d : Datagram) → not (same_values d.values e.values) ≡ true → (fault : LinkFault) × (refusal e d ≡ Some fault)
+-- a datagram with other values is refused, whatever else it says, and it leaves the link as it was
+other-refused : (e : Link) (d : Datagram) → not (same_values d.values e.values) ≡ true → (fault : LinkFault) × (refusal e d ≡ Some fault) × (after_refused e d.receiver_boot fault ≡ e)
 other-refused e d other = by (same d.sender e.id) (not (same_values d.values e.values)) _ other
   where
-    by : (own differs : Bool) (rest : Option LinkFault) → differs ≡ true → (fault : LinkFault) × ((let o : Option LinkFault = cond own (Some NotOurs) (cond differs (Some OtherSettings) rest) in o) ≡ Some fault)
-    by true differs rest is = (NotOurs, refl)
-    by false differs rest is = (OtherSettings, ap (λ (b : Bool). let o : Option LinkFault = cond b (Some OtherSettings) rest in o) is)
+    by : (own differs : Bool) (rest : Option LinkFault) → differs ≡ true → (fault : LinkFault) × ((let o : Option LinkFault = cond own (Some NotOurs) (cond differs (Some OtherSettings) rest) in o) ≡ Some fault) × (after_refused e d.receiver_boot fault ≡ e)
+    by true differs rest is = (NotOurs, refl, refl)
+    by false differs rest is = (OtherSettings, ap (λ (b : Bool). let o : Option LinkFault = cond b (Some OtherSettings) rest in o) is, refl)
 
 -- it changes nothing, and what is no datagram doesn't either
 stray-unheard : (s : GatewayAndOutput) (r : Result Datagram LinkFault) → is_stray s.shown.link.values r ≡ true → datagram_read s r ≡ s
-stray-unheard s (Ok d) is = ap (λ (o : Option LinkFault). heard_unless s d o) (other-refused s.shown.link d is).1
+stray-unheard s (Ok d) is =
+    let e = s.shown.link in
+    let refused = other-refused e d is in
+    ap (λ (o : Option LinkFault). heard_unless s d o) refused.1
+    ∙ ap (λ (o : Option LinkFault). with_link s (left_unless e d o)) refused.1
+    ∙ ap (λ (x : Link). with_link s x) refused.2
 stray-unheard s (Err fault) is = refl
 
 pub stray-drops : (s : GatewayAndOutput) (bytes : Bor (List ℕ)) (s2 : GatewayAndOutput) → IsStray s.shown.link.values bytes.now → s.shown.link.due ≡ false → wanted s.shown.link ≡ 0 → IsStepOn s (Comes bytes) s2 → s2 ≡ s
@@ -122,10 +128,10 @@ plugged-feeds : (s : GatewayAndOutput) (side : Side) (up : Bool) → wanted s.sh
 plugged-feeds s Inside up fed = fed
 plugged-feeds s Outside up fed = fed
 
-pub step-feeds : Reads → (s : GatewayAndOutput) (event : Event) (s2 : GatewayAndOutput) (h : List Record) → IsStepOn s event s2 → HasBytes event → IsBook s.shown.ledger.book → IsLoneRightly s.shown → KeepsBytes s.shown → HasPushed s.shown h
+pub step-feeds : Reads → (s : GatewayAndOutput) (event : Event) (s2 : GatewayAndOutput) (h : List Record) → IsStepOn s event s2 → HasBytes event → IsBook s.shown.ledger.book → IsLoneRightly s.shown → KeepsBytes s.shown → IsSettled s.shown → HasPushed s.shown h
     → wanted s.shown.link ≡ 0 → wanted s2.shown.link ≡ 0
-step-feeds reads s event s2 h step has book lone kept pushed fed =
-    let stands = parts-stand reads s event step.done h step.does has book lone kept pushed in
+step-feeds reads s event s2 h step has book lone kept settled pushed fed =
+    let stands = parts-stand reads s event step.done h step.does has book lone kept settled pushed in
     let coming = stands.1.pushed.coming in
     subst (λ (x : GatewayAndOutput). wanted x.shown.link ≡ 0) (sym step.sends) (ends event step.does coming)
   where
@@ -137,6 +143,7 @@ step-feeds reads s event s2 h step has book lone kept pushed fed =
     ends (Comes bytes) does coming = handed-feeds done.shown coming
     ends (Tick now) does coming = ticked-feeds done coming
     ends Stop does coming = handed-feeds done.shown coming
+    ends End does coming = handed-feeds done.shown coming
     ends (PeerOff n) does coming = handed-feeds done.shown coming
     ends (SideIs side up) does coming = subst (λ (x : GatewayAndOutput). wanted x.shown.link ≡ 0) (sym does) (plugged-feeds s side up fed)
 
@@ -144,6 +151,6 @@ pub begun-feeds : (settings : Settings) (id : GatewayId) (boot : ℕ) → wanted
 unfolding begun
 begun-feeds settings id boot = refl
 
-pub founded-feeds : (settings : Settings) (boot : ℕ) → wanted (founded settings boot).link ≡ 0
+pub founded-feeds : (settings : Settings) (id : GatewayId) (boot : ℕ) → wanted (founded settings id boot).link ≡ 0
 unfolding founded begun
-founded-feeds settings boot = refl
+founded-feeds settings id boot = refl

@@ -3,8 +3,10 @@ mod Ahead
 mod Apart
 mod Asked
 mod Asking
+mod AskingHeard
 mod AskingParts
 mod Before
+mod Bare
 mod Beginning
 mod Behind
 mod Changing
@@ -19,7 +21,9 @@ mod Freeing
 mod Giving
 mod GoingOn
 mod HavingPlace
+mod Growing
 mod Healing
+mod Heard
 mod Hearing
 mod Hiding
 mod Idle
@@ -47,9 +51,11 @@ mod Sending
 mod Sends
 mod Settling
 mod Sides
+mod Staging
 mod Standing
 mod Steady
 mod Stepping
+mod Syncing
 mod TakingOver
 mod Takes
 mod Takings

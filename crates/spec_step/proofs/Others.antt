@@ -8,23 +8,20 @@ use Rattle.addresses.specs.declared.ethernet.Mac.{Mac}
 use Rattle.nat_types.specs.declared.gateways.Side.{Side}
 use Rattle.nat_types.specs.declared.gateways.Side.TheVariants.{Inside, Outside}
 use Rattle.nat_types.specs.declared.notes.Note.{Note}
-use Rattle.nat_types.specs.declared.pairs.Endpoint.{Endpoint}
+use Rattle.nat_types.specs.declared.notes.NoteKind.TheVariants.{Crashed}
 use Rattle.nat_types.specs.declared.pairs.Key.{Key}
 use Rattle.nat_types.specs.declared.pairs.Pair.{Pair}
-use Rattle.nat_types.specs.declared.records.Record.{Record}
 use Rattle.arp.specs.declared.packets.ArpPacket.{ArpPacket}
 use Rattle.bindings.specs.declared.entries.Entry.{Entry}
 use Rattle.bindings.specs.Lives.{idle_keys_in}
-use Rattle.link.specs.declared.datagrams.Datagram.{Datagram}
-use Rattle.link.specs.declared.faults.LinkFault.{LinkFault}
-use Rattle.link.specs.Link.{Link, sent_on_answer, after_take, closed_at, is_due_on_tick, is_restart, records_taken, refusal, sent_on_tick}
+use Rattle.link.specs.Link.{sent_on_answer, is_due_on_tick, sent_on_tick}
 use Rattle.link.specs.Reading.{reading}
 use Rattle.spec_pair.specs.Box.{In}
+use Rattle.spec_pair.specs.Talk.{note}
 use Rattle.spec_binding.specs.Books.{is_lone, IsBook}
 use Rattle.spec_binding.specs.Uses.{IsTranslated}
-use Rattle.spec_binding.specs.Ledgers.{Ledger, lone_ledger, may_ask, restarted_ledger, rests_for, taken_ledger, sought_keys}
-use Rattle.spec_binding.specs.Resets.{back_in, restart_link, restart_notes, retaken}
-use Rattle.spec_binding.specs.Rows.{answered, idle_row, noted_by, taken_answer, taken_ended, taken_what, alone_row, is_full}
+use Rattle.spec_binding.specs.Ledgers.{Ledger, may_ask, sought_keys}
+use Rattle.spec_binding.specs.Rows.{idle_row, alone_row, is_full}
 use Rattle.waiting.specs.declared.waits.Ended.TheVariants.{AllPairs, One}
 use Rattle.waiting.specs.declared.waits.WaitsFor.TheVariants as wait
 use Rattle.waiting.specs.Packets.{HeldPacket, asks_again, is_young}
@@ -43,14 +40,14 @@ use Rattle.vrrp_states.specs.declared.Action.TheVariants.{Nothing}
 use Rattle.vrrp_states.specs.Table as table
 use Rattle.vrrp_states.specs.Table.{Event as RouterEvent}
 use Rattle.spec_step.specs.declared.events.Event.{Event}
-use Rattle.spec_step.specs.declared.events.Event.TheVariants.{Frame, Datagram as Comes, Tick, Stop, PeerOff, Side as SideIs}
+use Rattle.spec_step.specs.declared.events.Event.TheVariants.{Frame, Datagram as Comes, Tick, Stop, End, PeerOff, Side as SideIs}
 use Rattle.spec_step.specs.declared.turns.Turn.{Turn}
 use Rattle.spec_step.specs.declared.turns.Turn.TheVariants.{Leaves, Returns, Stays}
 use Rattle.spec_step.specs.GivingWay.{GivingWay, TakesTurn, left, turn_of}
-use Rattle.spec_step.specs.Others.{AreOfBoth, TurnOwes, AreOthers, Asking, FrameOwes, IsDue, IsNew, MayGoBy, Owes, all_noted, answers_by, firsts, free_by, frees_as, frees_for, frees_heard, frees_read, frees_unless, hops_of, is_freed, is_old, other_frames, packet_as, packet_in, packets_asked, requests, retaken_pairs, sent_on, waiting_by, within_limit, is_other, heard_as, heard_in}
+use Rattle.spec_step.specs.Others.{AreOfBoth, TurnOwes, AreOthers, Asking, FrameOwes, IsDue, IsNew, MayGoBy, Owes, all_noted, answers_by, firsts, frees_as, hops_of, is_freed, is_old, other_frames, packet_as, packet_in, packets_asked, requests, retaken_pairs, sent_on, waiting_by, within_limit, is_other, heard_as, heard_in}
 use Rattle.spec_step.specs.Machine.{AreBytes, HasBytes}
-use Rattle.spec_step.specs.Parts.{acted, all_framed, all_idle_done, answered_by, arp_taken, datagram_in, datagram_read, datagram_taken, flow_taken, framed, frames_of, handed_in, has_synced, heard_by, heard_unless, idle_done, idle_taken, link_answered, link_ticked, old_dropped, record_done, record_shown, record_told, records_done, released, reset, side_plugged, started, wait_ended, with_link, word_taken, error_taken, echo_taken, refused, all_sought_done, alone_taken, gone_alone, peer_told, sought_done, waits_for_sender, is_taught, arp_heard, record_taken}
-use Rattle.spec_step.specs.Shown.{GatewayAndOutput, Shown, id_of, is_running, is_up, scene, station_on, with_notes, with_station, is_apart}
+use Rattle.spec_step.specs.Parts.{link_ended, acted, all_framed, all_idle_done, answered_by, arp_taken, datagram_in, datagram_taken, flow_taken, framed, frames_of, handed_in, idle_done, idle_taken, link_answered, link_ticked, old_dropped, released, side_plugged, error_taken, echo_taken, refused, all_sought_done, alone_taken, gone_alone, peer_told, sought_done, waits_for_sender, is_taught, arp_heard}
+use Rattle.spec_step.specs.Shown.{GatewayAndOutput, Shown, id_of, is_up, scene, station_on, with_station, is_apart}
 use Rattle.spec_step.specs.Routers.{BothAct, RouterActs}
 use Rattle.spec_step.specs.Settled.{AreIdle}
 use Rattle.spec_step.specs.Steps.{Does, FrameDoes, IsStepOn, clock_after, ended_on, stopped, ticked, word_by, word_refusal}
@@ -58,17 +55,17 @@ use Rattle.spec_step.specs.Truly.{AtHand, Known, known_of, packets_of}
 use Rattle.spec_step.specs.Verdict.{reading_on}
 use Rattle.spec_step.proofs.Before.{apart-then}
 use Rattle.spec_step.proofs.Packets.{kept-filter}
-use Rattle.spec_step.proofs.Asking.{Ask-on, Asks, IsFit, IsQuiet, NearStays, NetsStay, Waiting, asking-then, due-more, new-more, nobody, nothing-asks, quiet-asks, quiet-by, requests-same, row-quiet, same-near, asking-quiet}
-use Rattle.spec_step.proofs.AskingParts.{all-apart, echo-asks, error-asks, one-apart, packet-asks, pairs-ask, refused-asks, released-asks}
+use Rattle.spec_step.proofs.Asking.{Ask-on, Asks, IsFit, NearStays, NetsStay, Waiting, asking-then, due-more, new-more, nobody, nothing-asks, quiet-asks, quiet-by, requests-same, row-quiet, same-near}
+use Rattle.spec_step.proofs.AskingHeard.{datagram-asks, of_pairs, word-asks}
+use Rattle.spec_step.proofs.AskingParts.{all-apart, echo-asks, error-asks, packet-asks, pairs-ask, refused-asks, released-asks}
 use Rattle.spec_step.proofs.Freeing.{Comes-of, filter-same, filter-both}
 use Rattle.spec_step.proofs.Limits.{count-left, asks-left}
 use Rattle.spec_step.proofs.Lines.{acts-shown, both-stopped, line-quiet}
-use Rattle.spec_step.proofs.Rooting.{Rooted, lone-rooted, restart-rooted, taken-roots, alone-row-roots, idle-roots}
+use Rattle.spec_step.proofs.Rooting.{has-more, alone-row-roots, idle-roots}
 use Rattle.spec_step.proofs.Sending.{Frames, own-six, answer-other}
 use Rattle.spec_step.proofs.Telling.{at_hand}
 use Rattle.spec_step.proofs.Turning.{back_as}
 use Rattle.spec_step.proofs.Truths.{AllOther, action-frames, after-net, after-wired, routed-wired, set-up-inside, set-up-outside, wired-on}
-use Rattle.spec_step.proofs.Ahead.{record-behind}
 
 -- From a scene to a later one: these frames were sent, none of which is a translation, nothing was noted, and no packet
 -- came to wait.
@@ -445,93 +442,6 @@ frame-others frames s side bytes (Err reason) s2 read are w does =
     subst (λ (x : GatewayAndOutput). Sends-others (FrameOwes s.shown side (Err reason)) (packet_as side bytes (Err reason)) (frees_as s.shown side (Err reason)) s.shown s x) (sym does)
     (refused-others frames s side bytes reason are w)
 
--- ---- records
-
-routed-asks : (now : ℕ) (g : Shown) (told : Output) (b : Bool) → Ask-on [] nobody (scene g told) (scene (let x : Shown = cond b (record g { inside = started g.inside now; outside = started g.outside now }) g in x) told)
-routed-asks now g told true =
-    let s2 = scene (record g { inside = started g.inside now; outside = started g.outside now }) told in
-    quiet-asks [] (scene g told) s2
-    (quiet-by (scene g told) s2 refl refl refl refl refl ((refl, refl), (refl, refl)) (λ w. (w.0, (record { own = w.1.0.own; known = w.1.0.known }, record { own = w.1.1.own; known = w.1.1.known }))))
-routed-asks now g told false = nothing-asks [] (scene g told)
-
-ended-asks : Frames → (s : GatewayAndOutput) (o : Option Endpoint) → Ask-on [] (frees_for o) s (wait_ended o s)
-ended-asks frames s None = nothing-asks [] s
-ended-asks frames s (Some e) = pairs-ask frames s (One (wait.Pair e)) (one-apart e)
-
--- a part that changes the table, and notes this, is quiet
-table-quiet : (s : GatewayAndOutput) (l : Ledger) (e : Link) (notes : List Note) → Rooted s.shown.ledger.book.entries l.book.entries (retaken_pairs notes) → IsQuiet s (scene (record s.shown { ledger = l; link = e }) (with_notes s.told notes))
-table-quiet s l e notes roots = record { frames = refl; notes = notes; notes_are = refl; roots = roots; kept = refl; known = refl; stations = ((refl, refl), (refl, refl)); wired = λ w. w }
-
-record-asks : Frames → (s : GatewayAndOutput) (r : Record) → Ask-on [] (frees_for (taken_ended s.shown.ledger.book (rests_for s.shown.moment s.shown.ledger r) r)) s (record_done s r)
-record-asks frames s r =
-    let g = s.shown in let b = g.ledger.book in
-    let rests = rests_for g.moment g.ledger r in
-    let g2 : Shown = record_taken g r in
-    let told = record_told g r s.told in
-    let s2 = scene g2 told in
-    let s3 = scene (record_shown g r) told in
-    let o = taken_ended b rests r in
-    let notes = noted_by b.id g.moment (taken_what b rests r) in
-    asking-then [] [] nobody (frees_for o) s s3 (record_done s r)
-    (asking-then [] [] nobody nobody s s2 s3 (quiet-asks [] s s2 (record-behind (IsQuiet s) g r told (asking-quiet s) (table-quiet s (taken_ledger g.moment g.ledger r) (answered g.link (taken_answer b rests r)) notes (taken-roots b rests r b.id g.moment)))) (routed-asks g2.moment g2 told (has_synced g g2 && is_running g2)))
-    (ended-asks frames s3 o)
-
-records-ask : Frames → (s : GatewayAndOutput) (rs : List Record) → Ask-on [] (free_by s rs) s (records_done s rs)
-records-ask frames s [] = nothing-asks [] s
-records-ask frames s (r ∷ rs) =
-    let g = s.shown in
-    asking-then [] [] (frees_for (taken_ended g.ledger.book (rests_for g.moment g.ledger r) r)) (free_by (record_done s r) rs) s (record_done s r) (records_done s (r ∷ rs))
-    (record-asks frames s r) (records-ask frames (record_done s r) rs)
-
--- ---- datagrams, and the operator's word
-
-abbrev of_pairs : HeldPacket → Bool
-of_pairs w = ends AllPairs w.wait
-
-reset-asks : Frames → (s : GatewayAndOutput) → IsBook s.shown.ledger.book → Ask-on [] of_pairs s (reset s)
-reset-asks frames s is =
-    let g = s.shown in let b = g.ledger.book in
-    let mid = scene (record g { ledger = restarted_ledger g.ledger; link = restart_link b g.link }) (with_notes s.told (restart_notes b g.moment)) in
-    asking-then [] [] nobody of_pairs s mid (reset s)
-    (quiet-asks [] s mid (table-quiet s (restarted_ledger g.ledger) (restart_link b g.link) (restart_notes b g.moment) (restart-rooted b g.moment is.keys))) (pairs-ask frames mid AllPairs all-apart)
-
-heard-asks : Frames → (s : GatewayAndOutput) (d : Datagram) → IsBook s.shown.ledger.book → Ask-on [] (frees_heard s d None) s (heard_by s d)
-heard-asks frames s d is = at (is_restart s.shown.link d)
-  where
-    after : Ask-on [] nobody s (with_link s (after_take s.shown.link d s.shown.moment))
-    after =
-        let x = with_link s (after_take s.shown.link d s.shown.moment) in
-        quiet-asks [] s x (quiet-by s x refl refl refl refl refl ((refl, refl), (refl, refl)) (λ w. w))
-
-    at : (b : Bool)
-        → (let x = with_link s (after_take s.shown.link d s.shown.moment) in let rs = records_taken s.shown.link d in
-        Ask-on [] (λ w. cond b (ends AllPairs w.wait || free_by (reset x) rs w) (free_by x rs w)) s (records_done (let y : GatewayAndOutput = cond b (reset x) x in y) rs))
-    at true =
-        let x = with_link s (after_take s.shown.link d s.shown.moment) in
-        let rs = records_taken s.shown.link d in
-        asking-then [] [] of_pairs (free_by (reset x) rs) s (reset x) (records_done (reset x) rs)
-        (asking-then [] [] nobody of_pairs s x (reset x) after (reset-asks frames x is)) (records-ask frames (reset x) rs)
-    at false =
-        let x = with_link s (after_take s.shown.link d s.shown.moment) in
-        let rs = records_taken s.shown.link d in
-        asking-then [] [] nobody (free_by x rs) s x (records_done x rs) after (records-ask frames x rs)
-
-datagram-asks : Frames → (s : GatewayAndOutput) (r : Result Datagram LinkFault) → IsBook s.shown.ledger.book → Ask-on [] (frees_read s r) s (datagram_read s r)
-datagram-asks frames s (Ok d) is = at (refusal s.shown.link d)
-  where
-    at : (o : Option LinkFault) → Ask-on [] (frees_heard s d o) s (heard_unless s d o)
-    at None = heard-asks frames s d is
-    at (Some fault) = nothing-asks [] s
-datagram-asks frames s (Err fault) is = nothing-asks [] s
-
-word-asks : Frames → (s : GatewayAndOutput) (n : ℕ) (o : Option Reason) → IsBook s.shown.ledger.book → Ask-on [] (frees_unless o) s (word_by s n o)
-word-asks frames s n None is =
-    let g = s.shown in let b = g.ledger.book in
-    let mid = scene (record g { ledger = lone_ledger g.moment g.ledger; link = closed_at g.link n }) (with_notes s.told (retaken (id_of g) g.moment (back_in b.entries))) in
-    asking-then [] [] nobody of_pairs s mid (word_taken s n)
-    (quiet-asks [] s mid (table-quiet s (lone_ledger g.moment g.ledger) (closed_at g.link n) (retaken (id_of g) g.moment (back_in b.entries)) (lone-rooted b (id_of g) g.moment is.keys))) (pairs-ask frames mid AllPairs all-apart)
-word-asks frames s n (Some reason) is = nothing-asks [] s
-
 -- ---- ticks
 
 -- letting idle pairs go has no requests
@@ -686,7 +596,7 @@ does-others frames s (Frame side bytes) done does has is w =
     others-at s (Frame side bytes) done (λ p. refl) (frame-others frames s side bytes.now (reading_on s.shown side bytes.now) done refl has w does)
 does-others frames s (Comes bytes) done does has is w =
     subst (λ (x : GatewayAndOutput). AreOthers s (Comes bytes) x) (sym does)
-    (others-at s (Comes bytes) (datagram_taken s bytes.now) (λ p. refl) (asks-alone s (Comes bytes) (datagram_taken s bytes.now) refl w (datagram-asks frames s (reading bytes.now) is w).asks))
+    (others-at s (Comes bytes) (datagram_taken s bytes.now) (λ p. refl) (asks-alone s (Comes bytes) (datagram_taken s bytes.now) refl w (datagram-asks frames s bytes.now (reading bytes.now) refl has is w).asks))
 does-others frames s (Tick now) done does has is w = subst (λ (x : GatewayAndOutput). AreOthers s (Tick now) x) (sym does.4) (tick-others frames s now does.0 does.1 does.2 does.3 w)
 does-others frames s Stop done does has is w =
     let middle = does.0 in
@@ -694,6 +604,12 @@ does-others frames s Stop done does has is w =
     let asks = (quiet-asks [] middle (stopped middle) (quiet-by middle (stopped middle) refl refl refl refl refl ((refl, refl), (refl, refl)) (λ v. v)) both.gives.fit).asks in
     subst (λ (x : GatewayAndOutput). AreOthers s Stop x) (sym does.2)
     (others-at s Stop (stopped middle) (λ p. refl) (others-then (Owes s.shown Stop) [] nobody both.own s middle (stopped middle) both.owed both.gives asks))
+does-others frames s End done does has is w =
+    let middle = does.0 in
+    let both = both-give frames s table.Stop middle does.1 w in
+    let asks = (quiet-asks [] middle (stopped middle) (quiet-by middle (stopped middle) refl refl refl refl refl ((refl, refl), (refl, refl)) (λ v. v)) both.gives.fit).asks in
+    subst (λ (x : GatewayAndOutput). AreOthers s End x) (sym does.2)
+    (others-at s End (stopped middle) (λ p. refl) (others-then (Owes s.shown End) [] nobody both.own s middle (stopped middle) both.owed both.gives asks))
 does-others frames s (PeerOff n) done does has is w =
     subst (λ (x : GatewayAndOutput). AreOthers s (PeerOff n) x) (sym does)
     (others-at s (PeerOff n) (word_by s n (word_refusal s.shown n)) (λ p. refl) (asks-alone s (PeerOff n) (word_by s n (word_refusal s.shown n)) refl w (word-asks frames s n (word_refusal s.shown n) is w).asks))
@@ -703,10 +619,11 @@ does-others frames s (SideIs side up) done does has is w =
 
 -- ---- the datagram at the end
 
--- what the datagram at the end of a step leaves as it is
+-- what the end of a step leaves as it is, with the notes that it makes
 pub record Ends (done end : GatewayAndOutput) : Type 0 where
   pub frames : end.told.frames ≡ done.told.frames
-  pub notes : end.told.notes ≡ done.told.notes
+  pub more : List Note
+  pub notes : end.told.notes ≡ done.told.notes ++ more
   pub kept : end.shown.kept ≡ done.shown.kept
   pub known : known_of end.shown ≡ known_of done.shown
 
@@ -714,15 +631,17 @@ others-end : (s : GatewayAndOutput) (event : Event) (done end : GatewayAndOutput
 others-end s event done end e x = record {
   frames = x.frames;
   frames_are = e.frames ∙ x.frames_are;
-  notes = x.notes;
-  notes_are = e.notes ∙ x.notes_are;
+  notes = x.notes ++ e.more;
+  notes_are = e.notes ∙ ap (λ (ns : List Note). ns ++ e.more) x.notes_are ∙ append_assoc s.told.notes x.notes e.more;
   own = x.own;
   owed = x.owed;
   askings = x.askings;
-  due = subst (λ (k : Known). AllByRecursion (IsDue (heard_in s.shown event) k (MayGoBy s.shown x.notes)) x.askings) (sym e.known) x.due;
+  due = subst (λ (k : Known). AllByRecursion (IsDue (heard_in s.shown event) k (MayGoBy s.shown (x.notes ++ e.more))) x.askings) (sym e.known)
+      (due-more (known_of done.shown) (MayGoBy s.shown x.notes) (MayGoBy s.shown (x.notes ++ e.more)) (has-more s.shown x.notes e.more) (heard_in s.shown event) (heard_in s.shown event) (λ side host t. t) (λ side host t. t) x.askings x.due);
   others = subst (λ (k : Known). other_frames k.networks x.frames ≡ x.own ++ requests s.shown x.askings) (sym e.known) x.others;
   came = x.came;
-  new = subst (λ (k : Known). AllByRecursion (IsNew k (MayGoBy s.shown x.notes)) x.came) (sym e.known) x.new;
+  new = subst (λ (k : Known). AllByRecursion (IsNew k (MayGoBy s.shown (x.notes ++ e.more))) x.came) (sym e.known)
+      (new-more (known_of done.shown) (MayGoBy s.shown x.notes) (MayGoBy s.shown (x.notes ++ e.more)) (has-more s.shown x.notes e.more) x.came x.new);
   hops = subst (λ (n : ℕ). hops_of x.came ≡ map (waiting_by n) (firsts x.askings)) (sym now) x.hops;
   kept_are = e.kept ∙ x.kept_are
       ∙ ap (λ (n : ℕ). all_noted n x.askings (within_limit (filter (λ w. not (is_old s.shown event w || is_freed s event w)) s.shown.kept ++ x.came))) (sym now);
@@ -737,21 +656,26 @@ answered-ends : (s : GatewayAndOutput) → Ends s (link_answered s)
 answered-ends s = at (handed_in s.shown).link.due
   where
     at : (b : Bool) → Ends s (let g = handed_in s.shown in scene (record g { link = sent_on_answer g.link }) (let t : Output = cond b (with_datagram s.told (datagram_in g)) s.told in t))
-    at true = record { frames = refl; notes = refl; kept = refl; known = refl }
-    at false = record { frames = refl; notes = refl; kept = refl; known = refl }
+    at true = record { frames = refl; more = []; notes = sym (append-nil s.told.notes); kept = refl; known = refl }
+    at false = record { frames = refl; more = []; notes = sym (append-nil s.told.notes); kept = refl; known = refl }
 
 ticked-ends : (s : GatewayAndOutput) → Ends s (link_ticked s)
 ticked-ends s = at (is_due_on_tick (handed_in s.shown).link s.shown.moment)
   where
     at : (b : Bool) → Ends s (let x : GatewayAndOutput = (let g = handed_in s.shown in cond b (scene (record g { link = sent_on_tick g.link g.moment }) (with_datagram s.told (datagram_in g))) (scene g s.told)) in x)
-    at true = record { frames = refl; notes = refl; kept = refl; known = refl }
-    at false = record { frames = refl; notes = refl; kept = refl; known = refl }
+    at true = record { frames = refl; more = []; notes = sym (append-nil s.told.notes); kept = refl; known = refl }
+    at false = record { frames = refl; more = []; notes = sym (append-nil s.told.notes); kept = refl; known = refl }
+
+-- the end of a gateway notes that it is down
+last-ends : (s : GatewayAndOutput) → Ends s (link_ended s)
+last-ends s = record { frames = refl; more = note (id_of s.shown) s.shown.moment Crashed ∷ []; notes = refl; kept = refl; known = refl }
 
 end-others : (s : GatewayAndOutput) (event : Event) (done : GatewayAndOutput) → AreOthers s event done → AreOthers s event (ended_on event done)
 end-others s (Frame side bytes) done x = others-end s (Frame side bytes) done (link_answered done) (answered-ends done) x
 end-others s (Comes bytes) done x = others-end s (Comes bytes) done (link_answered done) (answered-ends done) x
 end-others s (Tick now) done x = others-end s (Tick now) done (link_ticked done) (ticked-ends done) x
 end-others s Stop done x = others-end s Stop done (link_answered done) (answered-ends done) x
+end-others s End done x = others-end s End done (link_ended done) (last-ends done) x
 end-others s (PeerOff n) done x = others-end s (PeerOff n) done (link_answered done) (answered-ends done) x
 end-others s (SideIs side up) done x = x
 

@@ -1,6 +1,8 @@
 -- The own frames of a whole step are exactly those of its takings.
-use Rattle.std.proofs.Common.{◌≡◌, ℕ, Bool, true, false, cond, ◌&&◌, List, [], ◌∷◌, ◌++◌, length, Option, Some, None, Result, Ok, Err, refl, sym, ap, subst, ◌∙◌}
+use Rattle.std.proofs.Common.{◌≡◌, ℕ, Bool, true, false, cond, if◌then◌else◌, ◌&&◌, List, [], ◌∷◌, ◌++◌, length, Option, Some, None, Result, Ok, Err, refl, sym, ap, subst, ◌∙◌}
 use Rattle.std.specs.List.{AllByRecursion}
+use Rattle.std.proofs.lemmas.Bool.{and_parts}
+use Rattle.std.proofs.lemmas.List.{append-nil}
 use Rattle.addresses.specs.declared.ethernet.Mac.{Mac}
 use Rattle.nat_types.specs.declared.gateways.Side.{Side}
 use Rattle.nat_types.specs.declared.gateways.Side.TheVariants.{Inside, Outside}
@@ -12,11 +14,12 @@ use Rattle.bindings.specs.Lives.{idle_keys_in}
 use Rattle.link.specs.declared.datagrams.Datagram.{Datagram}
 use Rattle.link.specs.declared.faults.LinkFault.{LinkFault}
 use Rattle.link.specs.Grammar.{IsWellFormed, IsWellFormedRecord}
-use Rattle.link.specs.Link.{after_take, is_due_on_tick, is_restart, records_taken, refusal, sent_on_tick}
+use Rattle.link.specs.Link.{after_take, is_due_on_tick, is_over, is_restart, records_taken, refusal, sent_on_tick}
 use Rattle.link.specs.Reading.{reading}
 use Rattle.link.proofs.Offered.{all_taken as all_formed, reading_takes}
-use Rattle.spec_binding.specs.Books.{is_lone}
-use Rattle.spec_binding.specs.Ledgers.{rests_for, sought_keys, taken_ledger}
+use Rattle.spec_binding.specs.Books.{is_lone, is_synced}
+use Rattle.spec_binding.specs.Ledgers.{founded_ledger, rests_for, sought_keys, taken_ledger}
+use Rattle.spec_binding.specs.Resets.{founding_link}
 use Rattle.spec_binding.specs.Rows.{answered, taken_answer, taken_ended}
 use Rattle.waiting.specs.declared.waits.Ended.{Ended}
 use Rattle.waiting.specs.declared.waits.Ended.TheVariants.{AllPairs, One}
@@ -31,13 +34,13 @@ use Rattle.output.specs.Output.{Output, Sent, with_datagram}
 use Rattle.vrrp_states.specs.Table as table
 use Rattle.vrrp_states.specs.Table.{Event as RouterEvent}
 use Rattle.spec_step.specs.declared.events.Event.{Event}
-use Rattle.spec_step.specs.declared.events.Event.TheVariants.{Frame, Datagram as Comes, Tick, Stop, PeerOff, Side as SideIs}
+use Rattle.spec_step.specs.declared.events.Event.TheVariants.{Frame, Datagram as Comes, Tick, Stop, End, PeerOff, Side as SideIs}
 use Rattle.spec_step.specs.GivingWay.{GivingWay, left, turn_of}
 use Rattle.spec_step.specs.Machine.{AreBytes, HasBytes}
 use Rattle.spec_step.specs.OwnAnswers.{SaysJust}
-use Rattle.spec_step.specs.Parts.{acted, all_framed, all_idle_done, answered_by, arp_taken, datagram_in, datagram_read, framed, frames_of, handed_in, has_synced, heard_by, heard_unless, idle_done, idle_taken, link_answered, link_ticked, old_dropped, record_done, records_done, released, reset, routers_started, side_plugged, wait_ended, with_link, with_routers, word_taken, all_sought_done, alone_taken, gone_alone, peer_told, sought_done, waits_for_sender, is_taught, record_taken}
+use Rattle.spec_step.specs.Parts.{acted, all_framed, all_idle_done, answered_by, arp_taken, datagram_in, datagram_read, framed, frames_of, handed_in, has_synced, heard_by, heard_unless, idle_done, idle_taken, link_answered, link_ticked, old_dropped, record_done, records_done, released, reset, routers_started, side_plugged, wait_ended, with_link, with_routers, word_taken, all_sought_done, alone_taken, gone_alone, peer_told, sought_done, waits_for_sender, is_taught, record_taken, does_found, link_ended, met_by, pair_founded, peer_ended}
 use Rattle.spec_step.specs.Routers.{BothAct, RouterActs}
-use Rattle.spec_step.specs.Sayings.{AreOwnIn, own_alone, own_arp, own_datagram, own_ended, own_framed, own_heard, own_record, own_records, own_released, own_reset, own_word}
+use Rattle.spec_step.specs.Sayings.{AreOwnIn, own_alone, own_arp, own_datagram, own_ended, own_framed, own_heard, own_lone, own_over, own_record, own_records, own_released, own_reset, own_word}
 use Rattle.spec_step.specs.Shown.{GatewayAndOutput, Shown, is_running, scene, station_on, with_station, is_apart}
 use Rattle.spec_step.specs.Steps.{Does, FrameDoes, IsStepOn, ended_on, stopped, ticked, word_by, word_refusal}
 use Rattle.spec_step.specs.Truly.{IsSetUp}
@@ -48,8 +51,9 @@ use Rattle.spec_step.proofs.Packets.{kept-filter}
 use Rattle.spec_step.proofs.Passing.{IsSound}
 use Rattle.spec_step.proofs.Saying.{Saying, saying-then, speaks-then}
 use Rattle.spec_step.proofs.Sending.{Frames, answer-other, own-six}
-use Rattle.spec_step.proofs.Truths.{AllOther, action-frames, after-net, after-said, after-wired, all-idle-say, all-sought-say, answered-says, both-say, link-says, old-says, record-first, record-says, record_scene, reset-first, reset-says, reset_scene, station-speaks, ticked-speaks, turn-says, wired-on, word-first, word-synced, word_scene}
+use Rattle.spec_step.proofs.Truths.{AllOther, action-frames, after-net, after-said, after-wired, all-idle-say, all-sought-say, answered-says, both-say, link-says, old-says, record-first, record-says, record_scene, reset-first, reset-says, reset_scene, station-speaks, ticked-speaks, turn-says, wired-on, word-first, word-synced, word_scene, met-says, records-say}
 use Rattle.spec_step.proofs.Turning.{back_as, turn-by}
+use Rattle.spec_step.proofs.Heard.{taken_in}
 
 -- a part's own frames are these, where the gateway is sound and set up
 abbrev Justly : List Sent → GatewayAndOutput → GatewayAndOutput → Type 0
@@ -182,35 +186,73 @@ reset-just : Frames → (s : GatewayAndOutput) → Justly (own_reset s) s (reset
 reset-just frames s =
     justly-then [] (own_reset s) s (reset_scene s) (reset s) (λ is w. quiet-just s (reset_scene s) refl refl) (reset-first s) (released-just frames (reset_scene s) AllPairs)
 
-heard-just : Frames → (s : GatewayAndOutput) (d : Datagram) → IsWellFormed d → Justly (own_heard s d None) s (heard_by s d)
-heard-just frames s d fits = at (is_restart s.shown.link d)
+-- a part that sends no frame of the gateway's own adds none to those of the part before
+then-quiet : (xs : List Sent) (a b c : GatewayAndOutput) → Justly xs a b → Saying [] a b → Justly [] b c → Justly xs a c
+then-quiet xs a b c x said y = subst (λ (ys : List Sent). Justly ys a c) (append-nil xs) (justly-then xs [] a b c x said y)
+
+founded-just : (s : GatewayAndOutput) → Justly [] s (pair_founded s)
+founded-just s = λ is w.
+    let g = s.shown in
+    quiet-just s (pair_founded s) refl (routed-nets g (record g { ledger = founded_ledger g.ledger; link = founding_link g.ledger.book g.link }))
+
+-- what comes before a datagram's records
+met-just : Frames → (s : GatewayAndOutput) (d : Datagram) → Justly (if is_restart s.shown.link d then own_reset (taken_in s d) else []) s (met_by s d)
+met-just frames s d = at (is_restart s.shown.link d) (does_found s.shown d)
   where
     after : GatewayAndOutput
-    after = with_link s (after_take s.shown.link d s.shown.moment)
+    after = taken_in s d
 
-    rs : List Record
-    rs = records_taken s.shown.link d
+    start : Bool → GatewayAndOutput
+    start b = cond b (reset after) after
 
-    at : (b : Bool) → Justly (cond b (own_reset after ++ own_records (reset after) rs) (own_records after rs)) s (records_done (let x : GatewayAndOutput = cond b (reset after) after in x) rs)
-    at true =
-        justly-then [] (own_reset after ++ own_records (reset after) rs) s after (records_done (reset after) rs) (λ is w. quiet-just s after refl refl) (link-says s (after_take s.shown.link d s.shown.moment))
-        (justly-then (own_reset after) (own_records (reset after) rs) after (reset after) (records_done (reset after) rs) (reset-just frames after) (reset-says frames after)
-        (records-just frames (reset after) rs (all_formed s.shown.link d fits)))
-    at false =
-        justly-then [] (own_records after rs) s after (records_done after rs) (λ is w. quiet-just s after refl refl) (link-says s (after_take s.shown.link d s.shown.moment))
-        (records-just frames after rs (all_formed s.shown.link d fits))
+    own : Bool → List Sent
+    own b = cond b (own_reset after) []
+
+    starts : (b : Bool) → Justly (own b) s (start b)
+    starts true = justly-then [] (own_reset after) s after (reset after) (λ is w. quiet-just s after refl refl) (link-says s (after_take s.shown.link d s.shown.moment)) (reset-just frames after)
+    starts false = λ is w. quiet-just s after refl refl
+
+    said : (b : Bool) → Saying [] s (start b)
+    said true = saying-then [] [] s after (reset after) (link-says s (after_take s.shown.link d s.shown.moment)) (reset-says frames after)
+    said false = link-says s (after_take s.shown.link d s.shown.moment)
+
+    at : (b c : Bool) → Justly (own b) s (let x : GatewayAndOutput = cond b (reset after) after in let y : GatewayAndOutput = cond c (pair_founded x) x in y)
+    at b true = then-quiet (own b) s (start b) (pair_founded (start b)) (starts b) (said b) (founded-just (start b))
+    at b false = starts b
+
+-- a gateway that becomes lone
+lone-just : Frames → (s : GatewayAndOutput) (n : ℕ) → is_synced s.shown.ledger.book.stage ≡ true → Justly (own_lone s n) s (word_taken s n)
+lone-just frames s n synced =
+    justly-then [] (own_lone s n) s (word_scene s n) (word_taken s n) (λ i w. quiet-just s (word_scene s n) refl refl) (word-first s n synced) (released-just frames (word_scene s n) AllPairs)
+
+over-just : Frames → (s : GatewayAndOutput) (over : Bool) (n : ℕ) → Justly (own_over s over n) s (peer_ended s over n)
+over-just frames s over n = at (over && is_synced s.shown.ledger.book.stage) refl
+  where
+    at : (b : Bool) → (over && is_synced s.shown.ledger.book.stage) ≡ b → Justly (let own : List Sent = cond b (own_lone s n) [] in own) s (let x : GatewayAndOutput = cond b (word_taken s n) s in x)
+    at true both = lone-just frames s n (and_parts over (is_synced s.shown.ledger.book.stage) both).1
+    at false both = λ is w. nothing-just s
+
+heard-just : Frames → (s : GatewayAndOutput) (d : Datagram) → IsWellFormed d → Justly (own_heard s d None) s (heard_by s d)
+heard-just frames s d fits =
+    let e = s.shown.link in
+    let met = met_by s d in
+    let rs = records_taken e d in
+    let formed = all_formed e d fits in
+    let done = records_done met rs in
+    let over = own_over done (is_over e d) d.boot in
+    justly-then (if is_restart e d then own_reset (taken_in s d) else []) (own_records met rs ++ over) s met (heard_by s d) (met-just frames s d) (met-says frames s d)
+    (justly-then (own_records met rs) over met done (heard_by s d) (records-just frames met rs formed) (records-say frames met rs formed) (over-just frames done (is_over e d) d.boot))
 
 datagram-just : Frames → (s : GatewayAndOutput) (bytes : List ℕ) (r : Result Datagram LinkFault) → reading bytes ≡ r → AreBytes bytes → Justly (own_datagram s r) s (datagram_read s r)
 datagram-just frames s bytes (Ok d) read are = at (refusal s.shown.link d)
   where
     at : (o : Option LinkFault) → Justly (own_heard s d o) s (heard_unless s d o)
     at None = heard-just frames s d (reading_takes bytes d are read).0
-    at (Some fault) = λ is w. nothing-just s
+    at (Some fault) = λ is w. quiet-just s (heard_unless s d (Some fault)) refl refl
 datagram-just frames s bytes (Err fault) read are = λ is w. nothing-just s
 
 word-just : Frames → (s : GatewayAndOutput) (n : ℕ) (o : Option Reason) → word_refusal s.shown n ≡ o → Justly (own_word s n o) s (word_by s n o)
-word-just frames s n None is =
-    justly-then [] (own_word s n None) s (word_scene s n) (word_taken s n) (λ i w. quiet-just s (word_scene s n) refl refl) (word-first s n (word-synced s.shown n is)) (released-just frames (word_scene s n) AllPairs)
+word-just frames s n None is = lone-just frames s n (word-synced s.shown n is)
 word-just frames s n (Some reason) is = λ i w. nothing-just s
 
 -- ---- ticks
@@ -292,6 +334,13 @@ does-just frames s Stop done does has is w =
       are = refl;
       just = subst (λ (x : GatewayAndOutput). Just s x []) (sym does.2) (none-just [] s middle (stopped middle) (both-just frames s table.Stop middle does.1) (quiet-just middle (stopped middle) refl refl));
     }
+does-just frames s End done does has is w =
+    let middle = does.0 in
+    record {
+      own = [];
+      are = refl;
+      just = subst (λ (x : GatewayAndOutput). Just s x []) (sym does.2) (none-just [] s middle (stopped middle) (both-just frames s table.Stop middle does.1) (quiet-just middle (stopped middle) refl refl));
+    }
 does-just frames s (PeerOff n) done does has is w = record {
   own = own_word s n (word_refusal s.shown n);
   are = refl;
@@ -324,6 +373,7 @@ end-frames (Frame side bytes) done = answered-frames done
 end-frames (Comes bytes) done = answered-frames done
 end-frames (Tick now) done = ticked-frames done
 end-frames Stop done = answered-frames done
+end-frames End done = refl
 end-frames (PeerOff n) done = answered-frames done
 end-frames (SideIs side up) done = refl
 
@@ -355,6 +405,7 @@ end-nets (Frame side bytes) done = refl
 end-nets (Comes bytes) done = refl
 end-nets (Tick now) done = ticked-nets done
 end-nets Stop done = refl
+end-nets End done = refl
 end-nets (PeerOff n) done = refl
 end-nets (SideIs side up) done = refl
 

@@ -4,7 +4,7 @@ use Rattle.std.proofs.lemmas.Bool.{and_parts}
 use Rattle.addresses.specs.declared.transport.Port.{Port}
 use Rattle.nat_types.specs.declared.gateways.GatewayId.{GatewayId}
 use Rattle.nat_types.specs.declared.notes.NoteKind.{NoteKind}
-use Rattle.nat_types.specs.declared.notes.NoteKind.TheVariants.{Used, Released, Retaken, Alone, Synced, Crashed, Booted}
+use Rattle.nat_types.specs.declared.notes.NoteKind.TheVariants.{Used, Released, Retaken, Alone, Synced, Founded, Crashed, Booted}
 use Rattle.nat_types.specs.declared.notes.Note.{Note}
 use Rattle.nat_types.specs.declared.pairs.Endpoint.{Endpoint}
 use Rattle.nat_types.specs.declared.pairs.EntryState.{EntryState}
@@ -39,6 +39,7 @@ is_plain_word (Released pair) = true
 is_plain_word (Retaken pair) = true
 is_plain_word (Alone pair) = false
 is_plain_word Synced = true
+is_plain_word Founded = true
 is_plain_word Crashed = true
 is_plain_word (Booted number) = true
 
@@ -52,6 +53,7 @@ plain-word (Released pair) is = tt
 plain-word (Retaken pair) is = tt
 plain-word (Alone pair) is = absurd (cc)
 plain-word Synced is = tt
+plain-word Founded is = tt
 plain-word Crashed is = tt
 plain-word (Booted number) is = tt
 

@@ -41,7 +41,7 @@ counted-is n (r ∷ rs) = let rest = counted-is (suc n) rs in omega (arith, rest
 
 module _ (letters : List Letter) (words : List ℕ) where
   -- routers that start are no act of the machine
-  routed : (now : ℕ) (g : Shown) (told : Output) (b : Bool) → Going letters words (scene g told) (scene (let x : Shown = cond b (record g { inside = started g.inside now; outside = started g.outside now }) g in x) told)
+  pub routed : (now : ℕ) (g : Shown) (told : Output) (b : Bool) → Going letters words (scene g told) (scene (let x : Shown = cond b (record g { inside = started g.inside now; outside = started g.outside now }) g in x) told)
   routed now g told true = going-unseen letters words (scene g told) _ refl refl refl refl refl (λ k. k)
   routed now g told false = here letters words (scene g told)
 

@@ -20,8 +20,8 @@ use Rattle.link.specs.declared.faults.LinkFault.{LinkFault}
 use Rattle.link.specs.Link.{after_take, closed_at, is_due_on_tick, is_restart, records_taken, refusal, sent_on_tick}
 use Rattle.link.specs.Reading.{reading}
 use Rattle.spec_binding.specs.Books.{is_lone}
-use Rattle.spec_binding.specs.Ledgers.{lone_ledger, restarted_ledger, rests_for, sought_keys, taken_ledger}
-use Rattle.spec_binding.specs.Resets.{back_in, restart_link, restart_notes, retaken}
+use Rattle.spec_binding.specs.Ledgers.{lone_ledger, restarted_ledger, rests_for, sought_keys, taken_ledger, founded_ledger}
+use Rattle.spec_binding.specs.Resets.{back_in, restart_link, restart_notes, retaken, founding_link}
 use Rattle.spec_binding.specs.Rows.{answered, taken_answer, taken_ended}
 use Rattle.waiting.specs.declared.waits.Ended.{Ended}
 use Rattle.waiting.specs.declared.waits.Ended.TheVariants.{AllPairs, One}
@@ -41,20 +41,21 @@ use Rattle.output.specs.Output.{with_datagram}
 use Rattle.vrrp_states.specs.Table as table
 use Rattle.vrrp_states.specs.Table.{Event as RouterEvent}
 use Rattle.spec_step.specs.declared.events.Event.{Event}
-use Rattle.spec_step.specs.declared.events.Event.TheVariants.{Frame, Datagram as Comes, Tick, Stop, PeerOff, Side as SideIs}
+use Rattle.spec_step.specs.declared.events.Event.TheVariants.{Frame, Datagram as Comes, Tick, Stop, End, PeerOff, Side as SideIs}
 use Rattle.spec_step.specs.declared.plans.Plan.{Plan}
 use Rattle.spec_step.specs.declared.plans.Plan.TheVariants.{Send, Ask, AskAgain, Wait as WaitFor}
 use Rattle.spec_step.specs.declared.turns.Turn.{Turn}
 use Rattle.spec_step.specs.declared.turns.Turn.TheVariants.{Leaves, Returns, Stays}
 use Rattle.spec_step.specs.Founding.{begun, founded}
 use Rattle.spec_step.specs.GivingWay.{TakesTurn, turn_of}
-use Rattle.spec_step.specs.Parts.{all_framed, all_idle_done, all_sought_done, all_taken, alone_taken, answered_by, arp_taken, asked_again, by_error_plan, by_error_verdict, by_plan, by_verdict, carried_all, datagram_in, datagram_read, echo_taken, error_taken, flags_in, flow_taken, frames_of, framed, gone_alone, handed_in, has_synced, heard_by, heard_unless, idle_done, idle_taken, is_taught, link_ticked, old_dropped, peer_told, record_done, record_shown, record_told, records_done, refused, released, renewed_behind, request_by, reset, retaken_by, routers_started, side_plugged, size_in, sought_done, taken_again, waits_for_sender, wait_ended, wanted_for, with_link, record_taken}
+use Rattle.spec_step.specs.Parts.{all_framed, all_idle_done, all_sought_done, all_taken, alone_taken, answered_by, arp_taken, asked_again, by_error_plan, by_error_verdict, by_plan, by_verdict, carried_all, datagram_in, datagram_read, echo_taken, error_taken, flags_in, flow_taken, frames_of, framed, gone_alone, handed_in, has_synced, heard_by, heard_unless, idle_done, idle_taken, is_taught, link_ticked, old_dropped, peer_told, record_done, record_shown, record_told, records_done, refused, released, renewed_behind, request_by, reset, retaken_by, routers_started, side_plugged, size_in, sought_done, taken_again, waits_for_sender, wait_ended, wanted_for, with_link, record_taken, met_by, pair_founded, word_taken}
 use Rattle.spec_step.specs.Routers.{BothAct, RouterActs}
 use Rattle.spec_step.specs.Shown.{GatewayAndOutput, Shown, id_of, is_apart, is_running, is_up, scene, station_on, with_notes, with_station}
 use Rattle.spec_step.specs.Steps.{Does, FrameDoes, IsStepOn, ended_on, ticked, word_by, word_refusal}
 use Rattle.spec_step.specs.Verdict.{error_hop, error_plan, exit_by, hop_by, plan_of, reading_on}
 use Rattle.spec_step.proofs.Own.{Said, echo-by, refusal-by, refused-by, said_scene}
 use Rattle.spec_step.proofs.Behind.{asked_behind}
+use Rattle.spec_step.proofs.Heard.{heard-leads, taken_in}
 
 -- whether what comes inward renews a pair is this
 abbrev pub Has : Bool → GatewayAndOutput → Type 0
@@ -208,12 +209,20 @@ module _ (r : Bool) where
       let g = s.shown in
       released-has (scene (record g { ledger = restarted_ledger g.ledger; link = restart_link g.ledger.book g.link }) (with_notes s.told (restart_notes g.ledger.book g.moment))) AllPairs is
 
+  word-taken-has : (s : GatewayAndOutput) (n : ℕ) → Has r s → Has r (word_taken s n)
+  word-taken-has s n is =
+      let g = s.shown in
+      released-has (scene (record g { ledger = lone_ledger g.moment g.ledger; link = closed_at g.link n }) (with_notes s.told (retaken (id_of g) g.moment (back_in g.ledger.book.entries)))) AllPairs is
+
+  founded-has : (s : GatewayAndOutput) → Has r s → Has r (pair_founded s)
+  founded-has s is =
+      let g = s.shown in
+      let g2 : Shown = record g { ledger = founded_ledger g.ledger; link = founding_link g.ledger.book g.link } in
+      started-has (has_synced g g2 && is_running g2) g2 is
+
   heard-has : (s : GatewayAndOutput) (d : Datagram) → Has r s → Has r (heard_by s d)
-  heard-has s d is = at (is_restart s.shown.link d)
-    where
-      at : (b : Bool) → Has r (let e = s.shown.link in let x = with_link s (after_take e d s.shown.moment) in records_done (let y : GatewayAndOutput = cond b (reset x) x in y) (records_taken e d))
-      at true = let x = with_link s (after_take s.shown.link d s.shown.moment) in records-have (reset x) (records_taken s.shown.link d) (reset-has x is)
-      at false = records-have (with_link s (after_take s.shown.link d s.shown.moment)) (records_taken s.shown.link d) is
+  heard-has s d is = heard-leads s d (λ x. Has r x) is (λ was x. reset-has (taken_in s d) x) (λ y was x. founded-has y x)
+      (λ x. records-have (met_by s d) (records_taken s.shown.link d) x) (λ y was x. word-taken-has y d.boot x)
 
   unless-has : (s : GatewayAndOutput) (d : Datagram) (o : Option LinkFault) → Has r s → Has r (heard_unless s d o)
   unless-has s d None is = heard-has s d is
@@ -224,9 +233,7 @@ module _ (r : Bool) where
   read-has s (Err fault) is = is
 
   word-has : (s : GatewayAndOutput) (n : ℕ) (o : Option Reason) → Has r s → Has r (word_by s n o)
-  word-has s n None is =
-      let g = s.shown in
-      released-has (scene (record g { ledger = lone_ledger g.moment g.ledger; link = closed_at g.link n }) (with_notes s.told (retaken (id_of g) g.moment (back_in g.ledger.book.entries)))) AllPairs is
+  word-has s n None is = word-taken-has s n is
   word-has s n (Some reason) is = is
 
   -- ---- a tick
@@ -282,6 +289,7 @@ module _ (r : Bool) where
       subst (λ (x : GatewayAndOutput). Has r x) (sym does.4)
       (alone-has (idle_taken old) (all-idle-has old (idle_keys_in (is_lone old.shown.ledger.book.stage) old.shown.moment old.shown.ledger.book.entries old.shown.ledger.lives) middle))
   does-has s Stop s2 does is = subst (λ (x : GatewayAndOutput). Has r x) (sym does.2) (both-has s table.Stop does.0 does.1 is)
+  does-has s End s2 does is = subst (λ (x : GatewayAndOutput). Has r x) (sym does.2) (both-has s table.Stop does.0 does.1 is)
   does-has s (PeerOff n) s2 does is = subst (λ (x : GatewayAndOutput). Has r x) (sym does) (word-has s n (word_refusal s.shown n) is)
   does-has s (SideIs side up) s2 does is = subst (λ (x : GatewayAndOutput). Has r x) (sym does) (plug-has s side up is)
 
@@ -290,6 +298,7 @@ module _ (r : Bool) where
   ended-on-has (Comes bytes) s is = is
   ended-on-has (Tick now) s is = ticked-has s is
   ended-on-has Stop s is = is
+  ended-on-has End s is = is
   ended-on-has (PeerOff n) s is = is
   ended-on-has (SideIs side up) s is = is
 
@@ -302,6 +311,6 @@ pub begun-refresh : (settings : Settings) (id : GatewayId) (boot : ℕ) → (beg
 unfolding begun
 begun-refresh settings id boot = refl
 
-pub founded-refresh : (settings : Settings) (boot : ℕ) → (founded settings boot).ledger.inward_refresh ≡ settings.inward_refresh
+pub founded-refresh : (settings : Settings) (id : GatewayId) (boot : ℕ) → (founded settings id boot).ledger.inward_refresh ≡ settings.inward_refresh
 unfolding founded begun
-founded-refresh settings boot = refl
+founded-refresh settings id boot = refl

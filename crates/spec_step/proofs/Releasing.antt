@@ -6,7 +6,7 @@ use Rattle.addresses.specs.declared.transport.Port.{Port}
 use Rattle.nat_types.specs.declared.gateways.GatewayId.{GatewayId}
 use Rattle.nat_types.specs.declared.gateways.Side.{Side}
 use Rattle.nat_types.specs.declared.notes.NoteKind.{NoteKind}
-use Rattle.nat_types.specs.declared.notes.NoteKind.TheVariants.{Used, Released, Retaken, Synced, Crashed, Booted}
+use Rattle.nat_types.specs.declared.notes.NoteKind.TheVariants.{Used, Released, Retaken, Synced, Founded, Crashed, Booted}
 use Rattle.nat_types.specs.declared.notes.NoteKind.TheVariants as kinds
 use Rattle.nat_types.specs.declared.notes.Note.{Note}
 use Rattle.nat_types.specs.declared.pairs.Endpoint.{Endpoint}
@@ -62,6 +62,7 @@ NoRelease (Released p) = ⊥
 NoRelease (Retaken p) = Unit {0}
 NoRelease (kinds.Alone p) = Unit {0}
 NoRelease Synced = Unit {0}
+NoRelease Founded = Unit {0}
 NoRelease Crashed = Unit {0}
 NoRelease (Booted number) = Unit {0}
 
@@ -287,6 +288,7 @@ any-alone l (Released p) none = absurd none
 any-alone l (Retaken p) none = tt
 any-alone l (kinds.Alone p) none = tt
 any-alone l Synced none = tt
+any-alone l Founded none = tt
 any-alone l Crashed none = tt
 any-alone l (Booted number) none = tt
 

@@ -64,6 +64,10 @@ pub has-then : (g g2 : Shown) (ns ms : List Note) → ((p : Pair) → IsTranslat
 has-then g g2 ns ms roots p (inl t) = has-more g ns ms p (roots p t)
 has-then g g2 ns ms roots p (inr i) = inr (subst (λ (ps : List Pair). In p ps) (sym (retaken-join ns ms)) (in-right p (retaken_pairs ns) (retaken_pairs ms) i))
 
+-- nothing translates with an empty table
+pub emptied-rooted : (es : List Entry) (ps : List Pair) → Rooted es [] ps
+emptied-rooted es ps = λ p t. let found : None ≡ Some t.entry = t.found in absurd (cc)
+
 pub same-rooted : (es es2 : List Entry) (ps : List Pair) → es2 ≡ es → Rooted es es2 ps
 same-rooted es es2 ps same = λ p t. inl (subst (λ (xs : List Entry). IsTranslated xs p) same t)
 

@@ -22,8 +22,8 @@ use Rattle.link.specs.Link.{Link, after_take, is_due_on_tick, is_restart, is_tim
 use Rattle.link.specs.Reading.{reading}
 use Rattle.spec_binding.specs.declared.changes.Transition.{Transition}
 use Rattle.spec_binding.specs.Books.{Book, emptied, is_lone, is_synced}
-use Rattle.spec_binding.specs.Ledgers.{lone_ledger, may_ask, restarted_ledger, rests_for, taken_ledger, sought_keys}
-use Rattle.spec_binding.specs.Resets.{begun_anew, restarted}
+use Rattle.spec_binding.specs.Ledgers.{lone_ledger, may_ask, restarted_ledger, rests_for, taken_ledger, sought_keys, founded_ledger}
+use Rattle.spec_binding.specs.Resets.{founding_link}
 use Rattle.spec_binding.specs.Rows.{after, answered, idle_row, is_full, row_of, taken_answer, taken_book, taken_ended, unsynced_after, wish_of, alone_row}
 use Rattle.spec_binding.proofs.Offered.{change-leaves}
 use Rattle.waiting.specs.declared.waits.Ended.{Ended}
@@ -50,12 +50,12 @@ use Rattle.vrrp_states.specs.declared.State.TheVariants.{Initialize}
 use Rattle.vrrp_states.specs.Table as table
 use Rattle.vrrp_states.specs.Table.{Event as RouterEvent, Router}
 use Rattle.spec_step.specs.declared.events.Event.{Event}
-use Rattle.spec_step.specs.declared.events.Event.TheVariants.{Frame, Datagram as Comes, Tick, Stop, PeerOff, Side as SideIs}
+use Rattle.spec_step.specs.declared.events.Event.TheVariants.{Frame, Datagram as Comes, Tick, Stop, End, PeerOff, Side as SideIs}
 use Rattle.spec_step.specs.declared.plans.Plan.{Plan}
 use Rattle.spec_step.specs.declared.plans.Plan.TheVariants.{Send, Ask, AskAgain, Wait as WaitFor}
 use Rattle.spec_step.specs.Founding.{begun, founded}
 use Rattle.spec_step.specs.GivingWay.{GivingWay, left, turn_of}
-use Rattle.spec_step.specs.Parts.{all_idle_done, all_taken, answered_by, arp_taken, asked_again, by_plan, by_row, by_verdict, carried_all, datagram_in, datagram_read, flags_in, flow_taken, framed, handed_in, has_synced, heard_by, heard_unless, idle_done, idle_taken, keeping, link_answered, link_ticked, old_dropped, record_done, record_shown, record_told, records_done, released, renewed_behind, request_by, reset, retaken_by, routers_started, side_plugged, taken_again, wait_ended, waiting, wanted_by, wanted_for, with_link, with_routers, by_error_plan, by_error_verdict, error_taken, echo_taken, size_in, refused, all_sought_done, alone_taken, gone_alone, peer_told, sought_done, waits_for_sender, is_taught, neighbour_sent, record_taken}
+use Rattle.spec_step.specs.Parts.{all_idle_done, all_taken, answered_by, arp_taken, asked_again, by_plan, by_row, by_verdict, carried_all, datagram_in, datagram_read, flags_in, flow_taken, framed, handed_in, has_synced, heard_by, heard_unless, idle_done, idle_taken, keeping, link_answered, link_ticked, old_dropped, record_done, record_shown, record_told, records_done, released, renewed_behind, request_by, reset, retaken_by, routers_started, side_plugged, taken_again, wait_ended, waiting, wanted_by, wanted_for, with_link, with_routers, by_error_plan, by_error_verdict, error_taken, echo_taken, size_in, refused, all_sought_done, alone_taken, gone_alone, peer_told, sought_done, waits_for_sender, is_taught, neighbour_sent, record_taken, met_by, pair_founded, word_taken}
 use Rattle.spec_step.specs.Settled.{AreIdle, HaveBegun, IsSettled}
 use Rattle.spec_step.specs.Shown.{GatewayAndOutput, Shown, is_apart, is_running, is_up, scene, station_on, with_station}
 use Rattle.spec_step.specs.Routers.{BothAct, RouterActs}
@@ -69,6 +69,8 @@ use Rattle.spec_step.proofs.Turning.{back_as, turn-by}
 use Rattle.icmp.specs.declared.packets.ErrorFlow.{ErrorFlow}
 use Rattle.spec_step.proofs.Behind.{asked_behind}
 use Rattle.spec_step.proofs.Ahead.{Keeps, asking, record-behind, row-behind}
+use Rattle.spec_step.proofs.Bare.{step-bare}
+use Rattle.spec_step.proofs.Heard.{heard-leads, restart-synced, taken_in}
 
 -- what the parts of a step keep of a settled gateway
 pub record IsCalm (g : Shown) : Type 0 where
@@ -403,13 +405,6 @@ records-calm s (r ∷ rs) = calming-then s (record_done s r) (records_done s (r 
 
 -- ---- datagrams, and the operator's word
 
-restart-synced : (b : Book) → is_synced b.stage ≡ is_synced (restarted b).stage
-restart-synced b = at (is_synced b.stage) refl
-  where
-    at : (t : Bool) → is_synced b.stage ≡ t → is_synced b.stage ≡ is_synced (let x : Book = cond t (begun_anew b) (emptied b) in x).stage
-    at true is = is
-    at false is = is
-
 reset-calms : (s : GatewayAndOutput) → Calming s (reset s)
 reset-calms s = λ is.
     let g = s.shown in
@@ -417,32 +412,37 @@ reset-calms s = λ is.
     released-calms (scene mid _) AllPairs
     (calm-by g mid (ap (λ (x : Bool). (x && not g.stopped) && not g.away) (sym (restart-synced g.ledger.book))) refl refl (λ k. k) is)
 
+-- the operator's word, and the peer's end, at a synced gateway
+word-taken-calms : (s : GatewayAndOutput) (n : ℕ) → is_synced s.shown.ledger.book.stage ≡ true → Calming s (word_taken s n)
+word-taken-calms s n synced = λ is.
+    let g = s.shown in
+    let mid : Shown = record g { ledger = lone_ledger g.moment g.ledger; link = _ } in
+    released-calms (scene mid _) AllPairs
+    (calm-by g mid (ap (λ (x : Bool). (x && not g.stopped) && not g.away) (sym synced)) refl refl (λ k. k) is)
+
+founded-calms : (s : GatewayAndOutput) → Calming s (pair_founded s)
+founded-calms s = λ is.
+    let g = s.shown in
+    routed-calms g (record g { ledger = founded_ledger g.ledger; link = founding_link g.ledger.book g.link }) (λ yes. refl) refl refl refl refl refl is
+
 heard-calms : (s : GatewayAndOutput) (d : Datagram) → Calming s (heard_by s d)
-heard-calms s d = at (is_restart s.shown.link d)
-  where
-    at : (b : Bool) → Calming s (let e = s.shown.link in let x = with_link s (after_take e d s.shown.moment) in records_done (let y : GatewayAndOutput = cond b (reset x) x in y) (records_taken e d))
-    at true = λ is.
-        let x = with_link s (after_take s.shown.link d s.shown.moment) in
-        records-calm (reset x) (records_taken s.shown.link d) (reset-calms x (record { running = is.running; idle = is.idle; places = is.places }))
-    at false = λ is.
-        let x = with_link s (after_take s.shown.link d s.shown.moment) in
-        records-calm x (records_taken s.shown.link d) (record { running = is.running; idle = is.idle; places = is.places })
+heard-calms s d = λ is. heard-leads s d (λ x. IsCalm x.shown)
+    (record { running = is.running; idle = is.idle; places = is.places })
+    (λ was x. reset-calms (taken_in s d) x)
+    (λ y was x. founded-calms y x)
+    (λ x. records-calm (met_by s d) (records_taken s.shown.link d) x)
+    (λ y was x. word-taken-calms y d.boot was x)
 
 datagram-calms : (s : GatewayAndOutput) (r : Result Datagram LinkFault) → Calming s (datagram_read s r)
 datagram-calms s (Ok d) = at (refusal s.shown.link d)
   where
     at : (o : Option LinkFault) → Calming s (heard_unless s d o)
     at None = heard-calms s d
-    at (Some fault) = nothing-calms s
+    at (Some fault) = calm-by s.shown (heard_unless s d (Some fault)).shown refl refl refl (λ k. k)
 datagram-calms s (Err fault) = nothing-calms s
 
 word-calms : (s : GatewayAndOutput) (n : ℕ) (o : Option Reason) → word_refusal s.shown n ≡ o → Calming s (word_by s n o)
-word-calms s n None taken = λ is.
-    let g = s.shown in
-    let mid : Shown = record g { ledger = lone_ledger g.moment g.ledger; link = _ } in
-    let synced : is_synced g.ledger.book.stage ≡ true = at (is_synced g.ledger.book.stage) _ taken in
-    released-calms (scene mid _) AllPairs
-    (calm-by g mid (ap (λ (x : Bool). (x && not g.stopped) && not g.away) (sym synced)) refl refl (λ k. k) is)
+word-calms s n None taken = word-taken-calms s n (at (is_synced s.shown.ledger.book.stage) _ taken)
   where
     at : (b c : Bool) → (let o : Option Reason = cond (not b) (Some NotUp) (cond c (Some OldWord) None) in o) ≡ None → b ≡ true
     at true c is = refl
@@ -496,23 +496,31 @@ does-calms s (Frame side bytes) done does = frame-calms s side bytes.now (readin
 does-calms s (Comes bytes) done does = subst (λ (x : GatewayAndOutput). Calming s x) (sym does) (datagram-calms s (reading bytes.now))
 does-calms s (Tick now) done does = subst (λ (x : GatewayAndOutput). Calming s x) (sym does.4) (tick-calms s now does.0 does.1 does.2 does.3)
 does-calms s Stop done does = subst (λ (x : GatewayAndOutput). Calming s x) (sym does.2) (stopped-calms s does.0 does.1)
+does-calms s End done does = subst (λ (x : GatewayAndOutput). Calming s x) (sym does.2) (stopped-calms s does.0 does.1)
 does-calms s (PeerOff n) done does = subst (λ (x : GatewayAndOutput). Calming s x) (sym does) (word-calms s n (word_refusal s.shown n) refl)
 does-calms s (SideIs side up) done does = subst (λ (x : GatewayAndOutput). Calming s x) (sym does) (plug-calms s side up)
 
 -- ---- the datagram at the end
 
-answered-settles : (s : GatewayAndOutput) → IsCalm s.shown → IsSettled (link_answered s).shown
+-- what a settled gateway is, but for one without a table
+record IsQuiet (g : Shown) : Type 0 where
+  running : is_running g ≡ true → HaveBegun g
+  idle : is_running g ≡ false → AreIdle g
+  answered : g.link.due ≡ false
+  places : IsKept g.kept
+
+answered-settles : (s : GatewayAndOutput) → IsCalm s.shown → IsQuiet (link_answered s).shown
 answered-settles s is = record { running = is.running; idle = is.idle; answered = refl; places = is.places }
 
 or-none : (a b : Bool) → (a || b) ≡ false → a ≡ false
 or-none true b is = is
 or-none false b is = refl
 
-ticked-settles : (s : GatewayAndOutput) → IsCalm s.shown → IsSettled (link_ticked s).shown
+ticked-settles : (s : GatewayAndOutput) → IsCalm s.shown → IsQuiet (link_ticked s).shown
 ticked-settles s is = at (is_due_on_tick (handed_in s.shown).link s.shown.moment) refl
   where
     at : (b : Bool) → is_due_on_tick (handed_in s.shown).link s.shown.moment ≡ b
-        → IsSettled (let x : GatewayAndOutput = (let g = handed_in s.shown in cond b (scene (record g { link = sent_on_tick g.link g.moment }) (with_datagram s.told (datagram_in g))) (scene g s.told)) in x.shown)
+        → IsQuiet (let x : GatewayAndOutput = (let g = handed_in s.shown in cond b (scene (record g { link = sent_on_tick g.link g.moment }) (with_datagram s.told (datagram_in g))) (scene g s.told)) in x.shown)
     at true due = record { running = is.running; idle = is.idle; answered = refl; places = is.places }
     at false due = record { running = is.running; idle = is.idle; answered = or-none s.shown.link.due (is_time s.shown.link.ticked s.shown.moment) due; places = is.places }
 
@@ -521,11 +529,12 @@ plug-owes : (s : GatewayAndOutput) (side : Side) (up : Bool) → (side_plugged s
 plug-owes s Inside up = refl
 plug-owes s Outside up = refl
 
-ended-settles : (s : GatewayAndOutput) (event : Event) (done : GatewayAndOutput) → Does s event done → IsSettled s.shown → IsCalm done.shown → IsSettled (ended_on event done).shown
+ended-settles : (s : GatewayAndOutput) (event : Event) (done : GatewayAndOutput) → Does s event done → IsSettled s.shown → IsCalm done.shown → IsQuiet (ended_on event done).shown
 ended-settles s (Frame side bytes) done does was is = answered-settles done is
 ended-settles s (Comes bytes) done does was is = answered-settles done is
 ended-settles s (Tick now) done does was is = ticked-settles done is
 ended-settles s Stop done does was is = answered-settles done is
+ended-settles s End done does was is = record { running = is.running; idle = is.idle; answered = refl; places = is.places }
 ended-settles s (PeerOff n) done does was is = answered-settles done is
 ended-settles s (SideIs side up) done does was is =
     let same : done.shown.link ≡ s.shown.link = ap (λ (x : GatewayAndOutput). x.shown.link) does ∙ plug-owes s side up in
@@ -534,8 +543,9 @@ ended-settles s (SideIs side up) done does was is =
 -- a settled gateway is settled after a whole step
 pub step-settles : (s : GatewayAndOutput) (event : Event) (s2 : GatewayAndOutput) → IsStepOn s event s2 → IsSettled s.shown → IsSettled s2.shown
 step-settles s event s2 step is =
-    subst (λ (x : GatewayAndOutput). IsSettled x.shown) (sym step.sends)
-    (ended-settles s event step.done step.does is (does-calms s event step.done step.does (record { running = is.running; idle = is.idle; places = is.places })))
+    let quiet : IsQuiet s2.shown = subst (λ (x : GatewayAndOutput). IsQuiet x.shown) (sym step.sends)
+    (ended-settles s event step.done step.does is (does-calms s event step.done step.does (record { running = is.running; idle = is.idle; places = is.places }))) in
+    record { running = quiet.running; idle = quiet.idle; answered = quiet.answered; bare = λ unsynced. step-bare s event s2 step is unsynced; places = quiet.places }
 
 -- ---- a gateway as it begins
 
@@ -544,16 +554,17 @@ none-kept = record { pairs = omega arith; shares = λ address. omega arith; hops
 
 pub begun-settles : (settings : Settings) (id : GatewayId) (boot : ℕ) → IsSettled (begun settings id boot)
 unfolding begun stations.new_station
-begun-settles settings id boot = record { running = λ r. absurd (cc); idle = λ d. (refl, refl); answered = refl; places = none-kept }
+begun-settles settings id boot = record { running = λ r. absurd (cc); idle = λ d. (refl, refl); answered = refl; bare = λ unsynced. (refl, refl); places = none-kept }
 
-pub founded-settles : (settings : Settings) (boot : ℕ) → IsSettled (founded settings boot)
+pub founded-settles : (settings : Settings) (id : GatewayId) (boot : ℕ) → IsSettled (founded settings id boot)
 unfolding founded begun
-founded-settles settings boot =
-    let inside = (stations.new_station settings Zero Inside).router in
-    let outside = (stations.new_station settings Zero Outside).router in
+founded-settles settings id boot =
+    let inside = (stations.new_station settings id Inside).router in
+    let outside = (stations.new_station settings id Outside).router in
     record {
       running = λ r. (started-begun inside.state inside 0 refl, started-begun outside.state outside 0 refl);
       idle = λ d. absurd (cc);
       answered = refl;
+      bare = λ unsynced. absurd (cc);
       places = none-kept;
     }

@@ -15,10 +15,10 @@ use Rattle.icmp.specs.declared.packets.ErrorFlow.{ErrorFlow}
 use Rattle.ipv4.specs.declared.flows.Flow.{Flow}
 use Rattle.link.specs.declared.datagrams.Datagram.{Datagram}
 use Rattle.link.specs.declared.faults.LinkFault.{LinkFault}
-use Rattle.link.specs.Link.{after_take, closed_at, is_due_on_tick, is_restart, records_taken, refusal, sent_on_tick}
+use Rattle.link.specs.Link.{closed_at, is_due_on_tick, records_taken, refusal, sent_on_tick}
 use Rattle.spec_binding.specs.declared.changes.Transition.{Transition}
-use Rattle.spec_binding.specs.Ledgers.{lone_ledger, restarted_ledger, rests_for, taken_ledger, sought_keys}
-use Rattle.spec_binding.specs.Resets.{back_in, restart_link, restart_notes, retaken}
+use Rattle.spec_binding.specs.Ledgers.{lone_ledger, restarted_ledger, rests_for, taken_ledger, sought_keys, founded_ledger}
+use Rattle.spec_binding.specs.Resets.{back_in, restart_link, restart_notes, retaken, founding_link}
 use Rattle.spec_binding.specs.Rows.{answered, is_full, taken_answer, taken_ended, wish_of, alone_row}
 use Rattle.waiting.specs.declared.waits.Ended.{Ended}
 use Rattle.waiting.specs.declared.waits.Ended.TheVariants.{AllPairs, One}
@@ -42,12 +42,13 @@ use Rattle.vrrp_states.specs.declared.State.TheVariants.{Initialize, Backup, Act
 use Rattle.vrrp_states.specs.Table.{Router}
 use Rattle.spec_step.specs.declared.plans.Plan.{Plan}
 use Rattle.spec_step.specs.declared.plans.Plan.TheVariants.{Send, Ask, AskAgain, Wait as WaitFor}
-use Rattle.spec_step.specs.Parts.{all_taken, answered_by, arp_taken, asked_again, by_error_plan, by_error_verdict, by_plan, by_row, by_verdict, carried_all, datagram_in, datagram_read, echo_taken, error_taken, flags_in, flow_taken, framed, handed_in, has_synced, heard_by, heard_unless, keeping, size_in, link_ticked, record_done, record_shown, record_told, records_done, refused, released, renewed_behind, request_by, reset, retaken_by, routers_started, side_plugged, started_in, taken_again, wait_ended, wanted_by, wanted_for, with_link, with_routers, all_sought_done, alone_taken, gone_alone, peer_told, sought_done, waits_for_sender, is_taught, record_taken}
+use Rattle.spec_step.specs.Parts.{all_taken, answered_by, arp_taken, asked_again, by_error_plan, by_error_verdict, by_plan, by_row, by_verdict, carried_all, datagram_in, datagram_read, echo_taken, error_taken, flags_in, flow_taken, framed, handed_in, has_synced, heard_by, heard_unless, keeping, size_in, link_ticked, record_done, record_shown, record_told, records_done, refused, released, renewed_behind, request_by, reset, retaken_by, routers_started, side_plugged, started_in, taken_again, wait_ended, wanted_by, wanted_for, with_link, with_routers, all_sought_done, alone_taken, gone_alone, peer_told, sought_done, waits_for_sender, is_taught, record_taken, met_by, pair_founded, word_taken}
 use Rattle.spec_step.specs.Shown.{GatewayAndOutput, Shown, id_of, is_apart, is_running, scene, station_on, with_notes, with_station}
 use Rattle.spec_step.specs.Steps.{word_by}
 use Rattle.spec_step.specs.Verdict.{error_hop, error_plan, exit_by, hop_by, plan_of, reading_on}
 use Rattle.spec_step.proofs.Own.{Said, echo-by, refusal-by, refused-by, said_scene}
 use Rattle.spec_step.proofs.Behind.{asked_behind}
+use Rattle.spec_step.proofs.Heard.{heard-leads, taken_in}
 
 -- a router that has begun stays as it was
 abbrev pub Keeps : Router → Router → Type 0
@@ -279,35 +280,36 @@ reset-stands s =
     let mid = scene (record g { ledger = restarted_ledger g.ledger; link = restart_link g.ledger.book g.link }) (with_notes s.told (restart_notes g.ledger.book g.moment)) in
     stands-then s mid (reset s) (stands-by s mid refl refl refl refl) (released-stands mid AllPairs)
 
-heard-stands : (s : GatewayAndOutput) (d : Datagram) → Stands s (heard_by s d)
-heard-stands s d = at (is_restart s.shown.link d)
-  where
-    first : (x : GatewayAndOutput) → Stands (with_link s (after_take s.shown.link d s.shown.moment)) x → Stands s x
-    first x more = record { inside = more.inside; outside = more.outside; moment = more.moment; away = more.away }
+word-taken-stands : (s : GatewayAndOutput) (n : ℕ) → Stands s (word_taken s n)
+word-taken-stands s n =
+    let g = s.shown in
+    let mid = scene (record g { ledger = lone_ledger g.moment g.ledger; link = closed_at g.link n }) (with_notes s.told (retaken (id_of g) g.moment (back_in g.ledger.book.entries))) in
+    stands-then s mid (word_taken s n) (stands-by s mid refl refl refl refl) (released-stands mid AllPairs)
 
-    at : (b : Bool) → Stands s (let e = s.shown.link in let x = with_link s (after_take e d s.shown.moment) in records_done (let y : GatewayAndOutput = cond b (reset x) x in y) (records_taken e d))
-    at true =
-        let x = with_link s (after_take s.shown.link d s.shown.moment) in
-        let rs = records_taken s.shown.link d in
-        first (records_done (reset x) rs) (stands-then x (reset x) (records_done (reset x) rs) (reset-stands x) (records-stand (reset x) rs))
-    at false =
-        let x = with_link s (after_take s.shown.link d s.shown.moment) in
-        let rs = records_taken s.shown.link d in
-        first (records_done x rs) (records-stand x rs)
+founded-stands : (s : GatewayAndOutput) → Stands s (pair_founded s)
+founded-stands s =
+    let g = s.shown in
+    let routed = routed-stands s (record g { ledger = founded_ledger g.ledger; link = founding_link g.ledger.book g.link }) refl refl refl refl in
+    record { inside = routed.inside; outside = routed.outside; moment = routed.moment; away = routed.away }
+
+heard-stands : (s : GatewayAndOutput) (d : Datagram) → Stands s (heard_by s d)
+heard-stands s d = heard-leads s d (λ x. Stands s x)
+    (stands-by s (taken_in s d) refl refl refl refl)
+    (λ is x. stands-then s (taken_in s d) (reset (taken_in s d)) x (reset-stands (taken_in s d)))
+    (λ y is x. stands-then s y (pair_founded y) x (founded-stands y))
+    (λ x. stands-then s (met_by s d) _ x (records-stand (met_by s d) (records_taken s.shown.link d)))
+    (λ y is x. stands-then s y (word_taken y d.boot) x (word-taken-stands y d.boot))
 
 pub datagram-stands : (s : GatewayAndOutput) (r : Result Datagram LinkFault) → Stands s (datagram_read s r)
 datagram-stands s (Ok d) = at (refusal s.shown.link d)
   where
     at : (o : Option LinkFault) → Stands s (heard_unless s d o)
     at None = heard-stands s d
-    at (Some fault) = nothing-moves s
+    at (Some fault) = stands-by s (heard_unless s d (Some fault)) refl refl refl refl
 datagram-stands s (Err fault) = nothing-moves s
 
 pub word-stands : (s : GatewayAndOutput) (n : ℕ) (o : Option Reason) → Stands s (word_by s n o)
-word-stands s n None =
-    let g = s.shown in
-    let mid = scene (record g { ledger = lone_ledger g.moment g.ledger; link = closed_at g.link n }) (with_notes s.told (retaken (id_of g) g.moment (back_in g.ledger.book.entries))) in
-    stands-then s mid (word_by s n None) (stands-by s mid refl refl refl refl) (released-stands mid AllPairs)
+word-stands s n None = word-taken-stands s n
 word-stands s n (Some reason) = nothing-moves s
 
 -- ---- going on alone, at a tick

@@ -32,7 +32,8 @@ use Rattle.spec_step.specs.Apart.{GoesByServing, IsServing, IsUnmoved}
 use Rattle.spec_step.specs.Parts.{by_row}
 use Rattle.spec_step.specs.Shown.{GatewayAndOutput, Shown, id_of}
 use Rattle.spec_step.specs.Truly.{AreServed, Sending}
-use Rattle.spec_step.proofs.Accounting.{restarted-id, taken-id}
+use Rattle.spec_step.proofs.Accounting.{taken-id}
+use Rattle.spec_step.proofs.Heard.{restarted-id}
 
 -- From one scene to another, with these notes: at a synced gateway an endpoint's pair that translates stays so, or a note
 -- says that it is released.

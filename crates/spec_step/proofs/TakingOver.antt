@@ -17,11 +17,11 @@ use Rattle.vrrp_states.specs.declared.State.TheVariants.{Initialize, Backup, Act
 use Rattle.vrrp_states.specs.Table as table
 use Rattle.vrrp_states.specs.Table.{Follows, IsDue, Line, Router, Says, active_down_interval, timer_of}
 use Rattle.spec_step.specs.declared.events.Event.{Event}
-use Rattle.spec_step.specs.declared.events.Event.TheVariants.{Frame, Datagram as Comes, Tick, Stop, PeerOff, Side as SideIs}
+use Rattle.spec_step.specs.declared.events.Event.TheVariants.{Frame, Datagram as Comes, Tick, Stop, End, PeerOff, Side as SideIs}
 use Rattle.spec_step.specs.declared.turns.Turn.{Turn}
 use Rattle.spec_step.specs.declared.turns.Turn.TheVariants.{Stays}
 use Rattle.spec_step.specs.GivingWay.{TakesTurn, turn_of}
-use Rattle.spec_step.specs.Parts.{idle_taken, link_answered, link_ticked, old_dropped, alone_taken}
+use Rattle.spec_step.specs.Parts.{idle_taken, link_answered, link_ended, link_ticked, old_dropped, alone_taken}
 use Rattle.spec_step.specs.Routers.{BothAct, RouterActs}
 use Rattle.spec_step.specs.Settled.{IsSettled}
 use Rattle.spec_step.specs.Shown.{GatewayAndOutput, Shown, has_side_out, is_running, is_up, is_whole, scene, station_on, with_station}
@@ -199,6 +199,10 @@ step-awaits s Stop s2 side due step silent ran runs waits =
     let middle = step.does.0 in
     let same = step.sends ∙ ap (λ (x : GatewayAndOutput). link_answered x) step.does.2 in
     absurd (was-stopped (is_synced middle.shown.ledger.book.stage) (not middle.shown.away) (sym (ap (λ (x : GatewayAndOutput). is_running x.shown) same) ∙ runs))
+step-awaits s End s2 side due step silent ran runs waits =
+    let middle = step.does.0 in
+    let same = step.sends ∙ ap (λ (x : GatewayAndOutput). link_ended x) step.does.2 in
+    absurd (was-stopped (is_synced middle.shown.ledger.book.stage) (not middle.shown.away) (sym (ap (λ (x : GatewayAndOutput). is_running x.shown) same) ∙ runs))
 step-awaits s (PeerOff n) s2 side due step silent ran runs waits =
     answered-awaits s s2 step.done side due step.sends
     (subst (λ (x : GatewayAndOutput). Awaits (router_on x.shown side) due) (sym step.does) (awaits-on s _ side due (word-stands s n (word_refusal s.shown n)) waits))
@@ -328,5 +332,6 @@ waits-since s side (Frame at bytes) s2 priority interval step heard backup above
 waits-since s side (Comes bytes) s2 priority interval step heard backup above follows = absurd heard
 waits-since s side (Tick now) s2 priority interval step heard backup above follows = absurd heard
 waits-since s side Stop s2 priority interval step heard backup above follows = absurd heard
+waits-since s side End s2 priority interval step heard backup above follows = absurd heard
 waits-since s side (PeerOff n) s2 priority interval step heard backup above follows = absurd heard
 waits-since s side (SideIs at up) s2 priority interval step heard backup above follows = absurd heard

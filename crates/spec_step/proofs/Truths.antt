@@ -2,10 +2,12 @@
 -- word and ticks.
 use Rattle.std.proofs.Common.{◌≡◌, ℕ, Bool, true, false, cond, not, ◌&&◌, List, [], ◌∷◌, ◌++◌, length, Option, Some, None, Result, Ok, Err, refl, sym, ap, subst, ◌∙◌, arith, min, inl}
 use Rattle.std.specs.List.{AllByRecursion}
+use Rattle.std.proofs.lemmas.Bool.{both_ways}
 use Rattle.std.proofs.Math.Nat.{le-max_left}
 use Rattle.addresses.specs.declared.ethernet.Mac.{Mac}
 use Rattle.nat_types.specs.declared.gateways.Side.{Side}
 use Rattle.nat_types.specs.declared.gateways.Side.TheVariants.{Inside, Outside}
+use Rattle.nat_types.specs.declared.notes.NoteKind.TheVariants.{Crashed}
 use Rattle.nat_types.specs.declared.pairs.Endpoint.{Endpoint}
 use Rattle.nat_types.specs.declared.pairs.Key.{Key}
 use Rattle.nat_types.specs.declared.records.Record.{Record}
@@ -16,14 +18,15 @@ use Rattle.bindings.specs.Lives.{idle_keys_in}
 use Rattle.link.specs.declared.datagrams.Datagram.{Datagram}
 use Rattle.link.specs.declared.faults.LinkFault.{LinkFault}
 use Rattle.link.specs.Grammar.{IsWellFormed, IsWellFormedRecord}
-use Rattle.link.specs.Link.{Link, after_take, closed_at, is_due_on_tick, is_restart, records_taken, refusal, sent_on_answer, sent_on_tick}
+use Rattle.link.specs.Link.{Link, after_take, closed_at, is_due_on_tick, is_over, left_by, records_taken, refusal, sent_on_answer, sent_on_tick}
 use Rattle.link.specs.Reading.{reading}
 use Rattle.link.proofs.Offered.{all_taken, reading_takes}
-use Rattle.spec_binding.specs.Books.{is_lone, is_synced}
-use Rattle.spec_binding.specs.Ledgers.{lone_ledger, may_ask, restarted_ledger, rests_for, taken_ledger, sought_keys}
-use Rattle.spec_binding.specs.Resets.{back_in, restart_link, restart_notes, retaken}
+use Rattle.spec_binding.specs.Books.{Book, is_lone, is_synced}
+use Rattle.spec_binding.specs.Ledgers.{founded_ledger, lone_ledger, may_ask, restarted_ledger, rests_for, taken_ledger, sought_keys}
+use Rattle.spec_binding.specs.Resets.{back_in, founding_link, founding_note, restart_link, restart_notes, retaken}
 use Rattle.spec_binding.specs.Rows.{answered, idle_row, noted_by, taken_answer, taken_ended, taken_what, alone_row, is_full}
-use Rattle.spec_binding.proofs.Offered.{lone-keeps, alone-moves-none, idle-keeps, idle-moves-none, restart-keeps, taken-keeps, alone-row-keeps, word-moves-none}
+use Rattle.spec_binding.proofs.Offered.{founding-keeps, lone-keeps, alone-moves-none, idle-keeps, idle-moves-none, restart-keeps, taken-keeps, alone-row-keeps, word-moves-none}
+use Rattle.spec_pair.specs.Talk.{note}
 use Rattle.waiting.specs.declared.waits.Ended.TheVariants.{AllPairs, One}
 use Rattle.waiting.specs.declared.waits.WaitsFor.TheVariants as wait
 use Rattle.packet_rules.specs.declared.networks.Networks.{Networks}
@@ -39,9 +42,9 @@ use Rattle.vrrp_states.specs.declared.Action.TheVariants.{Nothing, Advertise, Ad
 use Rattle.vrrp_states.specs.Table as table
 use Rattle.vrrp_states.specs.Table.{Event as RouterEvent, Router}
 use Rattle.spec_step.specs.declared.events.Event.{Event}
-use Rattle.spec_step.specs.declared.events.Event.TheVariants.{Frame, Datagram as Comes, Tick, Stop, PeerOff, Side as SideIs}
+use Rattle.spec_step.specs.declared.events.Event.TheVariants.{Frame, Datagram as Comes, Tick, Stop, End, PeerOff, Side as SideIs}
 use Rattle.spec_step.specs.Machine.{AreBytes, HasBytes}
-use Rattle.spec_step.specs.Parts.{acted, all_framed, all_idle_done, answered_by, arp_taken, datagram_in, datagram_read, flow_taken, framed, frames_of, handed_in, has_synced, heard_by, heard_unless, idle_done, idle_taken, link_answered, link_ticked, old_dropped, record_done, record_shown, record_told, records_done, released, reset, started, wait_ended, with_link, word_taken, side_plugged, error_taken, echo_taken, refused, all_sought_done, alone_taken, gone_alone, peer_told, sought_done, waits_for_sender, is_taught, record_taken}
+use Rattle.spec_step.specs.Parts.{acted, all_framed, all_idle_done, answered_by, arp_taken, datagram_in, datagram_read, flow_taken, framed, frames_of, handed_in, has_synced, heard_by, heard_unless, idle_done, idle_taken, link_answered, link_ticked, old_dropped, record_done, record_shown, record_told, records_done, released, reset, started, wait_ended, with_link, word_taken, side_plugged, error_taken, echo_taken, refused, all_sought_done, alone_taken, gone_alone, peer_told, sought_done, waits_for_sender, is_taught, record_taken, link_ended, met_by, pair_founded}
 use Rattle.spec_step.specs.Shown.{GatewayAndOutput, Shown, id_of, is_running, scene, station_on, with_notes, with_station, is_apart}
 use Rattle.spec_step.specs.Routers.{BothAct, RouterActs}
 use Rattle.spec_step.specs.GivingWay.{GivingWay, left, turn_of}
@@ -50,10 +53,11 @@ use Rattle.spec_step.specs.PassedOn.{TellsAll}
 use Rattle.spec_step.specs.Truly.{IsSetUp, AtHand, Known, hand_of, known_of, unasked}
 use Rattle.spec_step.specs.Verdict.{reading_on}
 use Rattle.spec_step.proofs.Turning.{back_as, turn-by}
+use Rattle.spec_step.proofs.Heard.{IsBare, end-leads, met-leads, taken_in}
 use Rattle.spec_step.proofs.Packets.{kept-filter}
 use Rattle.spec_step.proofs.Passing.{IsSound}
 use Rattle.spec_step.proofs.Saying.{Saying, Speaks, framed-says, packet-says, released-says, row-says, saying-nothing, saying-then, speaks-then, error-packet-says, echo-says, refused-says, asking-says}
-use Rattle.spec_step.proofs.Rooting.{lone-rooted, idle-roots, restart-rooted, taken-roots, alone-row-roots}
+use Rattle.spec_step.proofs.Rooting.{emptied-rooted, lone-rooted, idle-roots, restart-rooted, same-rooted, taken-roots, alone-row-roots}
 use Rattle.spec_step.proofs.Sending.{Frames, advert-other, answer-other, gratuitous-other, own-six}
 use Rattle.spec_step.proofs.Steady.{restart-steady, taken-steady}
 use Rattle.spec_step.proofs.Telling.{Told, at_hand, old-tells, tells-quietly, tells-then, tells-unseen}
@@ -284,28 +288,6 @@ reset-first s =
 pub reset-says : Frames → (s : GatewayAndOutput) → Saying [] s (reset s)
 reset-says frames s = saying-then [] [] s (reset_scene s) (reset s) (reset-first s) (released-says frames (reset_scene s) AllPairs)
 
-heard-says : Frames → (s : GatewayAndOutput) (d : Datagram) → IsWellFormed d → Saying [] s (heard_by s d)
-heard-says frames s d fits = at (is_restart s.shown.link d)
-  where
-    at : (b : Bool) → Saying [] s (let e = s.shown.link in let after = with_link s (after_take e d s.shown.moment) in records_done (let x : GatewayAndOutput = cond b (reset after) after in x) (records_taken e d))
-    at true =
-        let after = with_link s (after_take s.shown.link d s.shown.moment) in
-        saying-then [] [] s (reset after) _
-        (saying-then [] [] s after (reset after) (link-says s (after_take s.shown.link d s.shown.moment)) (reset-says frames after))
-        (records-say frames (reset after) (records_taken s.shown.link d) (all_taken s.shown.link d fits))
-    at false =
-        let after = with_link s (after_take s.shown.link d s.shown.moment) in
-        saying-then [] [] s after _ (link-says s (after_take s.shown.link d s.shown.moment))
-        (records-say frames after (records_taken s.shown.link d) (all_taken s.shown.link d fits))
-
-datagram-says : Frames → (s : GatewayAndOutput) (bytes : List ℕ) (r : Result Datagram LinkFault) → reading bytes ≡ r → AreBytes bytes → Saying [] s (datagram_read s r)
-datagram-says frames s bytes (Ok d) read are = at (refusal s.shown.link d)
-  where
-    at : (o : Option LinkFault) → Saying [] s (heard_unless s d o)
-    at None = heard-says frames s d (reading_takes bytes d are read).0
-    at (Some fault) = saying-nothing s []
-datagram-says frames s bytes (Err fault) read are = saying-nothing s []
-
 -- the scene after the operator's word is taken, before any wait ends
 abbrev pub word_scene : GatewayAndOutput → ℕ → GatewayAndOutput
 word_scene s n =
@@ -337,6 +319,56 @@ word-synced g n is = at (is_synced g.ledger.book.stage) _ is
     at : (b c : Bool) → (let o : Option Reason = cond (not b) (Some NotUp) (cond c (Some OldWord) None) in o) ≡ None → b ≡ true
     at true c is = refl
     at false c is = absurd (cc)
+
+-- the scene after the pair is founded, before the routers start
+abbrev pub founded_scene : GatewayAndOutput → GatewayAndOutput
+founded_scene s =
+    let g = s.shown in
+    scene (record g { ledger = founded_ledger g.ledger; link = founding_link g.ledger.book g.link }) (with_notes s.told (founding_note (id_of g) g.moment ∷ []))
+
+founded-says : (s : GatewayAndOutput) → IsBare s → Saying [] s (pair_founded s)
+founded-says s bare =
+    let g = s.shown in
+    let g2 = (founded_scene s).shown in
+    let told = (founded_scene s).told in
+    saying-then [] [] s (founded_scene s) (pair_founded s) first (routed-says g2.moment g2 told (has_synced g g2 && is_running g2))
+  where
+    first : Saying [] s (founded_scene s)
+    first =
+        let g = s.shown in let b = g.ledger.book in
+        let notes = founding_note b.id g.moment ∷ [] in
+        let mid = founded_scene s in
+        λ is w. (
+          record {
+            tells = tells-quietly s mid notes refl refl refl refl (emptied-rooted b.entries [])
+                (record { id = refl; synced = λ t. absurd (both_ways (is_synced b.stage) bare.unsynced t); stays = λ x p t p_is. absurd (both_ways (is_synced b.stage) bare.unsynced t) }) (refl, (refl, omega arith));
+            sound = record { book = founding-keeps b is.book; kept = is.kept };
+            wired = w;
+          },
+          refl,
+        )
+
+-- what comes before a datagram's records
+pub met-says : Frames → (s : GatewayAndOutput) (d : Datagram) → Saying [] s (met_by s d)
+met-says frames s d = met-leads s d (λ x. Saying [] s x)
+    (link-says s (after_take s.shown.link d s.shown.moment))
+    (λ is x. saying-then [] [] s (taken_in s d) (reset (taken_in s d)) x (reset-says frames (taken_in s d)))
+    (λ y is x. saying-then [] [] s y (pair_founded y) x (founded-says y is))
+
+heard-says : Frames → (s : GatewayAndOutput) (d : Datagram) → IsWellFormed d → Saying [] s (heard_by s d)
+heard-says frames s d fits =
+    let done = records_done (met_by s d) (records_taken s.shown.link d) in
+    end-leads s d (λ x. Saying [] s x) done (is_over s.shown.link d)
+    (saying-then [] [] s (met_by s d) done (met-says frames s d) (records-say frames (met_by s d) (records_taken s.shown.link d) (all_taken s.shown.link d fits)))
+    (λ is x. saying-then [] [] s done (word_taken done d.boot) x (taken-says frames done d.boot is))
+
+datagram-says : Frames → (s : GatewayAndOutput) (bytes : List ℕ) (r : Result Datagram LinkFault) → reading bytes ≡ r → AreBytes bytes → Saying [] s (datagram_read s r)
+datagram-says frames s bytes (Ok d) read are = at (refusal s.shown.link d)
+  where
+    at : (o : Option LinkFault) → Saying [] s (heard_unless s d o)
+    at None = heard-says frames s d (reading_takes bytes d are read).0
+    at (Some fault) = link-says s (left_by s.shown.link (Ok d))
+datagram-says frames s bytes (Err fault) read are = saying-nothing s []
 
 word-says : Frames → (s : GatewayAndOutput) (n : ℕ) (o : Option Reason) → word_refusal s.shown n ≡ o → Saying [] s (word_by s n o)
 word-says frames s n None is = taken-says frames s n (word-synced s.shown n is)
@@ -456,6 +488,10 @@ does-speak frames s Stop done does has =
     let middle = does.0 in
     subst (λ (x : GatewayAndOutput). Speaks [] s x) (sym does.2)
     (speaks-of [] s (stopped middle) (saying-then [] [] s middle (stopped middle) (both-say frames s table.Stop middle does.1) (stopped-says middle)))
+does-speak frames s End done does has =
+    let middle = does.0 in
+    subst (λ (x : GatewayAndOutput). Speaks [] s x) (sym does.2)
+    (speaks-of [] s (stopped middle) (saying-then [] [] s middle (stopped middle) (both-say frames s table.Stop middle does.1) (stopped-says middle)))
 does-speak frames s (PeerOff n) done does has =
     subst (λ (x : GatewayAndOutput). Speaks [] s x) (sym does) (speaks-of [] s _ (word-says frames s n (word_refusal s.shown n) refl))
 does-speak frames s (SideIs side up) done does has =
@@ -477,6 +513,12 @@ ticked-tells s = at (is_due_on_tick (handed_in s.shown).link s.shown.moment)
     at true = (tells-unseen s _ refl refl (refl, (refl, refl)) refl (refl, (refl, omega arith)), (refl, λ w. w))
     at false = (tells-unseen s _ refl refl (refl, (refl, refl)) refl (refl, (refl, omega arith)), (refl, λ w. w))
 
+-- the last datagram and the last note of a gateway that ends
+last-tells : (s : GatewayAndOutput) → Told [] s (link_ended s)
+last-tells s = let g = handed_in s.shown in
+    tells-quietly s (link_ended s) (note (id_of g) g.moment Crashed ∷ []) refl refl refl refl (same-rooted s.shown.ledger.book.entries s.shown.ledger.book.entries [] refl)
+    (record { id = refl; synced = λ t. t; stays = λ x p t p_is. inl p_is }) (refl, (refl, omega arith))
+
 answered-ends : (h : List AtHand) (s done : GatewayAndOutput) → Told h s done → IsSetUp done.shown → Told (h ++ []) s (link_answered done) × IsSetUp (link_answered done).shown
 answered-ends h s done x w = (tells-then h [] s done (link_answered done) refl x (answered-tells done), w)
 
@@ -487,6 +529,7 @@ end-tells s (Tick now) done x w =
     let t = ticked-tells done in
     (tells-then [] [] s done (link_ticked done) t.1.0 x t.0, t.1.1 w)
 end-tells s Stop done x w = answered-ends [] s done x w
+end-tells s End done x w = (tells-then [] [] s done (link_ended done) refl x (last-tells done), w)
 end-tells s (PeerOff n) done x w = answered-ends [] s done x w
 end-tells s (SideIs side up) done x w = (x, w)
 

@@ -1,13 +1,14 @@
 -- No step moves an endpoint to another pair: its pair stays, where it translates, until its release is noted.
 use Rattle.std.proofs.Common.{◌≡◌, ◌⊎◌, inl, inr, ℕ, Bool, true, false, cond, ◌&&◌, List, [], ◌∷◌, ◌++◌, Option, Some, None, Result, Ok, Err, refl, sym, ap, subst, ◌∙◌, append_assoc}
 use Rattle.std.specs.List.{AllByRecursion, Contains}
+use Rattle.std.proofs.lemmas.Bool.{both_ways}
 use Rattle.std.proofs.lemmas.List.{append-nil}
 use Rattle.std.proofs.lemmas.List.Elements.{Contains-append_left, Contains-append_right}
 use Rattle.addresses.specs.declared.ethernet.Mac.{Mac}
 use Rattle.nat_types.specs.declared.gateways.GatewayId.{GatewayId}
 use Rattle.nat_types.specs.declared.gateways.Side.{Side}
 use Rattle.nat_types.specs.declared.gateways.Side.TheVariants.{Inside, Outside}
-use Rattle.nat_types.specs.declared.notes.NoteKind.TheVariants.{Released}
+use Rattle.nat_types.specs.declared.notes.NoteKind.TheVariants.{Crashed, Released}
 use Rattle.nat_types.specs.declared.notes.Note.{Note}
 use Rattle.nat_types.specs.declared.pairs.Endpoint.{Endpoint}
 use Rattle.nat_types.specs.declared.pairs.Key.{Key}
@@ -20,17 +21,17 @@ use Rattle.ipv4.specs.declared.flows.Flow.{Flow}
 use Rattle.link.specs.declared.datagrams.Datagram.{Datagram}
 use Rattle.link.specs.declared.faults.LinkFault.{LinkFault}
 use Rattle.link.specs.Grammar.{IsWellFormed, IsWellFormedRecord}
-use Rattle.link.specs.Link.{Link, after_take, closed_at, is_due_on_tick, is_restart, records_taken, refusal, sent_on_answer, sent_on_tick}
+use Rattle.link.specs.Link.{Link, after_take, closed_at, datagram_of, is_due_on_tick, left_by, records_taken, refusal, sent_on_answer, sent_on_tick}
 use Rattle.link.specs.Reading.{reading}
 use Rattle.link.proofs.Offered.{all_taken as all_formed, reading_takes}
 use Rattle.spec_binding.specs.declared.changes.Transition.{Transition}
 use Rattle.spec_binding.specs.Books.{IsBook, is_lone, is_synced}
-use Rattle.spec_binding.specs.Ledgers.{Ledger, lone_ledger, carried_ledger, ledger_after, may_ask, restarted_ledger, rests_for, sought_keys, taken_ledger}
-use Rattle.spec_binding.specs.Resets.{back_in, restart_link, restart_notes, retaken}
+use Rattle.spec_binding.specs.Ledgers.{Ledger, founded_ledger, lone_ledger, carried_ledger, ledger_after, may_ask, restarted_ledger, rests_for, sought_keys, taken_ledger}
+use Rattle.spec_binding.specs.Resets.{back_in, founding_link, founding_note, restart_link, restart_notes, retaken}
 use Rattle.spec_binding.specs.Rows.{after, alone_row, answered, idle_row, is_full, noted_by, taken_answer, taken_book, taken_ended, taken_what, wish_of}
 use Rattle.spec_binding.specs.Serving.{Stays, serving}
 use Rattle.spec_binding.specs.WellFormed.{IsWellFormedEndpoint}
-use Rattle.spec_binding.proofs.Offered.{lone-keeps, alone-moves-none, alone-row-keeps, change-leaves, idle-keeps, idle-moves-none, restart-keeps, restart-moves-none, taken-keeps, taken-moves-none, wish-keeps, wish-moves-none, word-moves-none}
+use Rattle.spec_binding.proofs.Offered.{founding-keeps, lone-keeps, alone-moves-none, alone-row-keeps, change-leaves, idle-keeps, idle-moves-none, restart-keeps, restart-moves-none, taken-keeps, taken-moves-none, wish-keeps, wish-moves-none, word-moves-none}
 use Rattle.spec_pair.specs.Talk.{note}
 use Rattle.waiting.specs.declared.waits.Ended.{Ended}
 use Rattle.waiting.specs.declared.waits.Ended.TheVariants.{AllPairs, One}
@@ -46,17 +47,18 @@ use Rattle.vrrp_states.specs.declared.Action.{Action}
 use Rattle.vrrp_states.specs.Table as table
 use Rattle.vrrp_states.specs.Table.{Event as RouterEvent}
 use Rattle.spec_step.specs.declared.events.Event.{Event}
-use Rattle.spec_step.specs.declared.events.Event.TheVariants.{Frame, Datagram as Comes, Tick, Stop, PeerOff, Side as SideIs}
+use Rattle.spec_step.specs.declared.events.Event.TheVariants.{Frame, Datagram as Comes, Tick, Stop, End, PeerOff, Side as SideIs}
 use Rattle.spec_step.specs.declared.plans.Plan.TheVariants.{Wait as WaitFor}
 use Rattle.spec_step.specs.Apart.{IsUnmoved}
 use Rattle.spec_step.specs.GivingWay.{GivingWay, left, turn_of}
 use Rattle.spec_step.specs.Machine.{AreBytes, HasBytes, KeepsBytes}
-use Rattle.spec_step.specs.Parts.{acted, all_framed, all_idle_done, all_sought_done, alone_taken, answered_by, arp_taken, by_plan, by_row, carried_by, datagram_in, datagram_read, framed, frames_of, gone_alone, handed_in, has_synced, heard_by, heard_unless, idle_done, idle_taken, keeping, size_in, link_answered, link_ticked, old_dropped, peer_told, record_done, record_shown, record_told, records_done, released, reset, sought_done, started, wait_ended, wanted_by, with_link, word_taken, waits_for_sender, is_taught, record_taken}
+use Rattle.spec_step.specs.Parts.{acted, all_framed, all_idle_done, all_sought_done, alone_taken, answered_by, arp_taken, by_plan, by_row, carried_by, datagram_in, datagram_read, framed, frames_of, gone_alone, handed_in, has_synced, heard_by, heard_unless, idle_done, idle_taken, keeping, size_in, link_answered, link_ticked, old_dropped, peer_told, record_done, record_shown, record_told, records_done, released, reset, sought_done, started, wait_ended, wanted_by, with_link, word_taken, waits_for_sender, is_taught, record_taken, link_ended, met_by, pair_founded}
 use Rattle.spec_step.specs.Routers.{BothAct, RouterActs}
 use Rattle.spec_step.specs.Shown.{GatewayAndOutput, Shown, id_of, is_apart, is_running, scene, station_on, with_notes, with_station}
 use Rattle.spec_step.specs.Steps.{Does, FrameDoes, IsStepOn, ended_on, stopped, ticked, word_by, word_refusal}
 use Rattle.spec_step.specs.Verdict.{plan_of, reading_on}
-use Rattle.spec_step.proofs.Accounting.{restarted-id, taken-id}
+use Rattle.spec_step.proofs.Accounting.{taken-id}
+use Rattle.spec_step.proofs.Heard.{IsBare, heard-leads, restarted-id, taken_in}
 use Rattle.spec_step.proofs.Packets.{PlanFits, Reads, kept-filter, kept-more, plan-fits, read-formed}
 use Rattle.spec_step.proofs.Passing.{IsSound}
 use Rattle.spec_step.proofs.Steady.{restarted-synced, stays-noted, taken-same}
@@ -288,37 +290,47 @@ reset-moves reads s =
     (λ x p is t p_is. inl (restart-moves-none b x p is t p_is)) in
     unmoving-then s mid (reset s) first (released-moves reads mid AllPairs)
 
+-- the operator's word, and the peer's end, at a synced gateway
+word-taken-moves : Reads → (s : GatewayAndOutput) (n : ℕ) → is_synced s.shown.ledger.book.stage ≡ true → Unmoving s (word_taken s n)
+word-taken-moves reads s n synced =
+    let g = s.shown in let b = g.ledger.book in
+    let notes = retaken b.id g.moment (back_in b.entries) in
+    let mid = scene (record g { ledger = lone_ledger g.moment g.ledger; link = closed_at g.link n }) (with_notes s.told notes) in
+    let first : Unmoving s mid = noted-moves s (lone_ledger g.moment g.ledger) (closed_at g.link n) notes
+    (λ book. lone-keeps b book synced) (λ t. refl) refl
+    (λ x p book t p_is. inl (word-moves-none b x p book p_is)) in
+    unmoving-then s mid (word_taken s n) first (released-moves reads mid AllPairs)
+
+-- a founding is of a gateway that isn't synced
+founded-moves : (s : GatewayAndOutput) → IsBare s → Unmoving s (pair_founded s)
+founded-moves s bare =
+    let g = s.shown in let b = g.ledger.book in
+    let notes = founding_note b.id g.moment ∷ [] in
+    let g2 : Shown = record g { ledger = founded_ledger g.ledger; link = founding_link b g.link } in
+    let told = with_notes s.told notes in
+    let first : Unmoving s (scene g2 told) = noted-moves s (founded_ledger g.ledger) (founding_link b g.link) notes
+    (λ is. founding-keeps b is) (λ t. refl) refl
+    (λ x p is t p_is. absurd (both_ways (is_synced b.stage) bare.unsynced t)) in
+    unmoving-then s (scene g2 told) (pair_founded s) first (routed-moves g2.moment g2 told (has_synced g g2 && is_running g2))
+
 heard-moves : Reads → (s : GatewayAndOutput) (d : Datagram) → IsWellFormed d → Unmoving s (heard_by s d)
-heard-moves reads s d fits = at (is_restart s.shown.link d)
-  where
-    at : (b : Bool) → Unmoving s (let e = s.shown.link in let after = with_link s (after_take e d s.shown.moment) in records_done (let x : GatewayAndOutput = cond b (reset after) after in x) (records_taken e d))
-    at true =
-        let heard = with_link s (after_take s.shown.link d s.shown.moment) in
-        unmoving-then s (reset heard) _
-        (unmoving-then s heard (reset heard) (link-moves s (after_take s.shown.link d s.shown.moment)) (reset-moves reads heard))
-        (records-move reads (reset heard) (records_taken s.shown.link d) (all_formed s.shown.link d fits))
-    at false =
-        let heard = with_link s (after_take s.shown.link d s.shown.moment) in
-        unmoving-then s heard _ (link-moves s (after_take s.shown.link d s.shown.moment))
-        (records-move reads heard (records_taken s.shown.link d) (all_formed s.shown.link d fits))
+heard-moves reads s d fits = heard-leads s d (λ x. Unmoving s x)
+    (link-moves s (after_take s.shown.link d s.shown.moment))
+    (λ is x. unmoving-then s (taken_in s d) (reset (taken_in s d)) x (reset-moves reads (taken_in s d)))
+    (λ y is x. unmoving-then s y (pair_founded y) x (founded-moves y is))
+    (λ x. unmoving-then s (met_by s d) _ x (records-move reads (met_by s d) (records_taken s.shown.link d) (all_formed s.shown.link d fits)))
+    (λ y is x. unmoving-then s y (word_taken y d.boot) x (word-taken-moves reads y d.boot is))
 
 datagram-moves : Reads → (s : GatewayAndOutput) (bytes : List ℕ) (r : Result Datagram LinkFault) → reading bytes ≡ r → AreBytes bytes → Unmoving s (datagram_read s r)
 datagram-moves reads s bytes (Ok d) read are = at (refusal s.shown.link d)
   where
     at : (o : Option LinkFault) → Unmoving s (heard_unless s d o)
     at None = heard-moves reads s d (reading_takes bytes d are read).0
-    at (Some fault) = nothing-moves s
+    at (Some fault) = link-moves s (left_by s.shown.link (Ok d))
 datagram-moves reads s bytes (Err fault) read are = nothing-moves s
 
 word-moves : Reads → (s : GatewayAndOutput) (n : ℕ) (o : Option Reason) → word_refusal s.shown n ≡ o → Unmoving s (word_by s n o)
-word-moves reads s n None is =
-    let g = s.shown in let b = g.ledger.book in
-    let notes = retaken b.id g.moment (back_in b.entries) in
-    let mid = scene (record g { ledger = lone_ledger g.moment g.ledger; link = closed_at g.link n }) (with_notes s.told notes) in
-    let first : Unmoving s mid = noted-moves s (lone_ledger g.moment g.ledger) (closed_at g.link n) notes
-    (λ book. lone-keeps b book (word-synced s.shown n is)) (λ t. refl) refl
-    (λ x p book t p_is. inl (word-moves-none b x p book p_is)) in
-    unmoving-then s mid (word_taken s n) first (released-moves reads mid AllPairs)
+word-moves reads s n None is = word-taken-moves reads s n (word-synced s.shown n is)
 word-moves reads s n (Some reason) is = nothing-moves s
 
 -- ---- ticks
@@ -384,6 +396,10 @@ does-move reads s Stop done does has =
     let middle = does.0 in
     subst (λ (x : GatewayAndOutput). Unmoving s x) (sym does.2)
     (unmoving-then s middle (stopped middle) (both-move s table.Stop middle does.1) (still-moves middle (stopped middle) refl refl refl (λ k. k)))
+does-move reads s End done does has =
+    let middle = does.0 in
+    subst (λ (x : GatewayAndOutput). Unmoving s x) (sym does.2)
+    (unmoving-then s middle (stopped middle) (both-move s table.Stop middle does.1) (still-moves middle (stopped middle) refl refl refl (λ k. k)))
 does-move reads s (PeerOff n) done does has =
     subst (λ (x : GatewayAndOutput). Unmoving s x) (sym does) (word-moves reads s n (word_refusal s.shown n) refl)
 does-move reads s (SideIs side up) done does has =
@@ -391,33 +407,39 @@ does-move reads s (SideIs side up) done does has =
 
 -- ---- the datagram at the end
 
--- what the datagram at the end of a step leaves
+-- what the end of a step leaves, with the notes that it makes
 record Ends (done end : GatewayAndOutput) : Type 0 where
   entries : (e : Endpoint) → serving end.shown.ledger.book e ≡ serving done.shown.ledger.book e
-  notes : end.told.notes ≡ done.told.notes
+  notes : List Note
+  notes_are : end.told.notes ≡ done.told.notes ++ notes
   moment : end.shown.moment ≡ done.shown.moment
 
 answered-ends : (s : GatewayAndOutput) → Ends s (link_answered s)
 answered-ends s = at (handed_in s.shown).link.due
   where
     at : (b : Bool) → Ends s (let g = handed_in s.shown in scene (record g { link = sent_on_answer g.link }) (let t : Output = cond b (with_datagram s.told (datagram_in g)) s.told in t))
-    at true = record { entries = λ e. refl; notes = refl; moment = refl }
-    at false = record { entries = λ e. refl; notes = refl; moment = refl }
+    at true = record { entries = λ e. refl; notes = []; notes_are = sym (append-nil s.told.notes); moment = refl }
+    at false = record { entries = λ e. refl; notes = []; notes_are = sym (append-nil s.told.notes); moment = refl }
 
 ticked-ends : (s : GatewayAndOutput) → Ends s (link_ticked s)
 ticked-ends s = at (is_due_on_tick (handed_in s.shown).link s.shown.moment)
   where
     at : (b : Bool) → Ends s (let g = handed_in s.shown in let x : GatewayAndOutput = cond b (scene (record g { link = sent_on_tick g.link g.moment }) (with_datagram s.told (datagram_in g))) (scene g s.told) in x)
-    at true = record { entries = λ e. refl; notes = refl; moment = refl }
-    at false = record { entries = λ e. refl; notes = refl; moment = refl }
+    at true = record { entries = λ e. refl; notes = []; notes_are = sym (append-nil s.told.notes); moment = refl }
+    at false = record { entries = λ e. refl; notes = []; notes_are = sym (append-nil s.told.notes); moment = refl }
+
+-- the end of a gateway notes that it is down
+last-ends : (s : GatewayAndOutput) → Ends s (link_ended s)
+last-ends s = record { entries = λ e. refl; notes = note (id_of s.shown) s.shown.moment Crashed ∷ []; notes_are = refl; moment = refl }
 
 ends-on : (event : Event) (done : GatewayAndOutput) → Ends done (ended_on event done)
 ends-on (Frame side bytes) done = answered-ends done
 ends-on (Comes bytes) done = answered-ends done
 ends-on (Tick now) done = ticked-ends done
 ends-on Stop done = answered-ends done
+ends-on End done = last-ends done
 ends-on (PeerOff n) done = answered-ends done
-ends-on (SideIs side up) done = record { entries = λ e. refl; notes = refl; moment = refl }
+ends-on (SideIs side up) done = record { entries = λ e. refl; notes = []; notes_are = sym (append-nil done.told.notes); moment = refl }
 
 -- ---- a whole step
 
@@ -427,6 +449,7 @@ begun-same s (Frame side bytes) = (refl, (refl, λ k. k))
 begun-same s (Comes bytes) = (refl, (refl, λ k. k))
 begun-same s (Tick now) = (refl, (refl, λ k. k))
 begun-same s Stop = (refl, (refl, λ k. k))
+begun-same s End = (refl, (refl, λ k. k))
 begun-same s (PeerOff n) = (refl, (refl, λ k. k))
 begun-same s (SideIs side up) = (refl, (refl, λ k. k))
 
@@ -447,8 +470,9 @@ step-moves-none reads s event s2 e p step has book kept synced is =
     at moved ends id notes (inr k) =
         let now : (begun_on s event).shown.moment ≡ s2.shown.moment = sym (ap (λ (z : GatewayAndOutput). z.shown.moment) step.sends ∙ ends.moment ∙ moved.moment) in
         inr (record {
-          notes = moved.notes;
-          are = ap (λ (z : GatewayAndOutput). z.told.notes) step.sends ∙ ends.notes ∙ moved.notes_are ∙ ap (λ (ns : List Note). ns ++ moved.notes) notes;
-          released = subst (λ (n : ℕ). Contains moved.notes (note (id_of s.shown) n (Released p))) now
-              (subst (λ (i : GatewayId). Contains moved.notes (note i (begun_on s event).shown.moment (Released p))) id k);
+          notes = moved.notes ++ ends.notes;
+          are = ap (λ (z : GatewayAndOutput). z.told.notes) step.sends ∙ ends.notes_are ∙ ap (λ (ns : List Note). ns ++ ends.notes) (moved.notes_are ∙ ap (λ (ns : List Note). ns ++ moved.notes) notes) ∙ append_assoc s.told.notes moved.notes ends.notes;
+          released = Contains-append_left moved.notes ends.notes (note (id_of s.shown) s2.shown.moment (Released p))
+              (subst (λ (n : ℕ). Contains moved.notes (note (id_of s.shown) n (Released p))) now
+              (subst (λ (i : GatewayId). Contains moved.notes (note i (begun_on s event).shown.moment (Released p))) id k));
         })

@@ -32,7 +32,7 @@ use Rattle.link.specs.declared.faults.LinkFault.{LinkFault}
 use Rattle.link.specs.Grammar.{spelling}
 use Rattle.link.specs.declared.datagrams.Status.{Status}
 use Rattle.link.specs.declared.datagrams.Status.TheVariants.{Ending}
-use Rattle.link.specs.Link.{Link, after_take, closed_at, datagram_of, is_due_on_tick, is_lacking, is_over, is_restart, left_by, records_taken, refusal, sent_on_answer, sent_on_tick, status_by, wanted, with_fed}
+use Rattle.link.specs.Link.{Link, after_take, closed_at, datagram_of, is_due_on_tick, is_lacking, is_over, is_restart, left_by as left_after, records_taken, refusal, sent_on_answer, sent_on_tick, status_by, wanted, with_fed}
 use Rattle.link.specs.Reading.{reading}
 use Rattle.spec_binding.specs.declared.changes.Transition.{Transition}
 use Rattle.spec_binding.specs.Books.{is_lone, is_synced}
@@ -499,7 +499,7 @@ heard_by s d = let e = s.shown.link in
 -- the peer named last
 abbrev pub heard_unless : GatewayAndOutput → Datagram → Option LinkFault → GatewayAndOutput
 heard_unless s d None = heard_by s d
-heard_unless s d (Some fault) = with_link s (left_by s.shown.link (Ok d))
+heard_unless s d (Some fault) = with_link s (left_after s.shown.link (Ok d))
 
 -- the scene after a datagram that was read; bytes that are no datagram change nothing
 abbrev pub datagram_read : GatewayAndOutput → Result Datagram LinkFault → GatewayAndOutput

@@ -30,8 +30,8 @@ pub record Rests (old new : GatewayAndOutput) : Type 0 where
 -- The most notes that a step makes: one for each entry that is revived, let go or marked (a tick marks only what it
 -- didn't let go), three for each kept packet that is taken again, three for the event's own packet, and for each of 64
 -- records one, and three for each kept packet that it may free. The peer's last datagram revives a second time: the
--- entries, those that the records made, and those of packets that were taken again.
+-- entries, one more for each record, and those of packets that were taken again.
 abbrev pub most_notes : Shown → ℕ
 most_notes g =
     let freed = 3 * length g.kept in
-    2 * length g.ledger.book.entries + 3 * freed + 64 * (2 + freed) + 3
+    2 * length g.ledger.book.entries + 3 * freed + 128 * (1 + freed) + 3

@@ -30,8 +30,8 @@ pub enum Outcome {
     Sent,
     /// A packet waits.
     Waiting,
-    /// A tick, a stop, an end, a datagram, an ARP packet, an advertisement, the operator's word or the
-    /// state of a side's cable was taken.
+    /// A tick, a stop, an end, a datagram, an ARP packet, an advertisement, the operator's word or
+    /// the state of a side's cable was taken.
     Done,
     /// A packet was dropped, or a frame, a datagram or the operator's word wasn't taken, for this
     /// reason.

@@ -4,9 +4,10 @@ ghost use Rattle.std.specs.Prelude.{◌≡◌, ◌≢◌, ◌↔◌, Ok, ◌≤�
 ghost use Rattle.std.specs.Borrow.{Bor};
 ghost use Rattle.std.specs.List.{AllByRecursion};
 ghost use Rattle.nat_types.specs.declared.gateways.GatewayId.{GatewayId};
+ghost use Rattle.nat_types.specs.declared.gateways.GatewayId.TheVariants.{Zero};
 ghost use Rattle.nat_types.specs.declared.gateways.Side.{Side};
 ghost use Rattle.nat_types.specs.declared.gateways.Side.TheVariants.{Inside, Outside};
-ghost use Rattle.nat_types.specs.declared.notes.NoteKind.TheVariants.{Booted, Crashed};
+ghost use Rattle.nat_types.specs.declared.notes.NoteKind.TheVariants.{Booted, Crashed, Founded};
 ghost use Rattle.nat_types.specs.declared.pairs.Endpoint.{Endpoint};
 ghost use Rattle.nat_types.specs.declared.notes.Note.{Note};
 ghost use Rattle.nat_types.specs.declared.pairs.Pair.{Pair};
@@ -26,7 +27,9 @@ ghost use Rattle.frames.specs.Frame.{frame_of};
 ghost use Rattle.icmp.specs.declared.packets.ErrorFlow.{ErrorFlow};
 ghost use Rattle.interfaces.specs.Stations.{is_active, new_station};
 ghost use Rattle.link.specs.Hearing.{peer_serves};
-ghost use Rattle.link.specs.Link.{wanted};
+ghost use Rattle.link.specs.declared.datagrams.Datagram.{Datagram};
+ghost use Rattle.link.specs.Link.{is_lacking, refusal, wanted};
+ghost use Rattle.link.specs.Reading.{reading};
 ghost use Rattle.link.specs.Strays.{IsStray};
 ghost use Rattle.output.specs.Output.{Sent};
 ghost use Rattle.packet_rules.specs.declared.readings.Asked.{Asked as Echo};
@@ -60,7 +63,7 @@ ghost use Rattle.spec_binding.specs.Books.{IsBook, is_lone, is_synced};
 ghost use Rattle.spec_binding.specs.Ledgers.{go_on_all, release_all};
 ghost use Rattle.spec_binding.specs.Serving.{serving};
 ghost use Rattle.spec_step.specs.declared.events.Event.{Event};
-ghost use Rattle.spec_step.specs.declared.events.Event.TheVariants.{Datagram as Comes, Frame, Tick};
+ghost use Rattle.spec_step.specs.declared.events.Event.TheVariants.{Datagram as Comes, End, Frame, Tick};
 ghost use Rattle.spec_step.specs.declared.events.Outcome.TheVariants as outcome;
 ghost use Rattle.spec_step.specs.declared.plans.Plan.TheVariants.{Send as SendBy, Wait as WaitForPair};
 ghost use Rattle.spec_step.specs.Apart.{IsUnmoved, WaitsForNobody};
@@ -68,7 +71,8 @@ ghost use Rattle.spec_step.specs.Verdict.{error_plan, exit_by, hop_by, look_for,
 ghost use Rattle.spec_step.specs.Founding.{HasRanges, begun, bounds_of, founded, link_places};
 ghost use Rattle.spec_step.specs.GoingOn.{GoesByOwn, HasAllPairs, HasNoPort, HasPlace, MayBegin, MayGoOn, MayPassOn};
 ghost use Rattle.spec_step.specs.GoingOn.{MayWait};
-ghost use Rattle.spec_step.specs.Machine.{AreBytes, Goes, HasBytes, HasPushed, IsLoneRightly, IsStanding, KeepsBytes};
+ghost use Rattle.spec_step.specs.Machine.{AreBytes, Ends, Goes, GoesFurther, HasBytes, HasPushed, IsLoneRightly};
+ghost use Rattle.spec_step.specs.Machine.{IsStanding, KeepsBytes};
 ghost use Rattle.spec_step.specs.Machine.{letters_in, words_in};
 ghost use Rattle.spec_step.specs.LettingGo.{CanAskForAll, HasRested, IsLetGo, NotesRelease};
 ghost use Rattle.spec_step.specs.LettingGo.{ReleasesAlone};
@@ -98,23 +102,52 @@ use packet_rules::{
 };
 use rewrite::hides_inside;
 
-/// A step of a gateway is a step of the pair machine. It reads only the letter and the word that
-/// the event brings, and makes exactly the notes and the letters that it adds to the output.
+/// A step of a gateway is a step of the pair machine, but for its end (`ends_go`). It reads only the
+/// letter and the word that the event brings, and makes exactly the notes and the letters that it adds
+/// to the output.
 pub fn steps_go()
     ensures { (s : GatewayAndOutput) (event : Event) (s2 : GatewayAndOutput) (h : List Record)
-        → IsStepOn s event s2
+        → IsStepOn s event s2 → GoesFurther event
         → HasBytes event → IsBook s.shown.ledger.book → IsLoneRightly s.shown → KeepsBytes s.shown
-        → HasPushed s.shown h → Goes (letters_in event) (words_in event) s s2 h }
+        → IsSettled s.shown → HasPushed s.shown h
+        → Goes (letters_in event) (words_in event) s s2 h }
 {
     readings_law();
 }
+
+/// The end of a gateway is the end of the machine's: its last datagram is the machine's last letter,
+/// and its one note is Crashed.
+pub fn ends_go()
+    ensures { (s : GatewayAndOutput) (s2 : GatewayAndOutput) (h : List Record) → IsStepOn s End s2
+        → IsBook s.shown.ledger.book → IsLoneRightly s.shown → KeepsBytes s.shown
+        → IsSettled s.shown → HasPushed s.shown h → Ends s s2 h }
+{
+    readings_law();
+}
+
+/// A gateway 0 without a table founds the pair at a datagram that its link lets through, and that says
+/// that its sender, which knows this boot, has no table either: it is synced after the step.
+pub fn founds()
+    ensures { (s : GatewayAndOutput) (bytes : Bor (List ℕ)) (d : Datagram) (s2 : GatewayAndOutput)
+        → IsStepOn s (Comes bytes) s2 → reading bytes.now ≡ Ok d → refusal s.shown.link d ≡ None
+        → is_lacking s.shown.link d ≡ true → id_of s.shown ≡ Zero
+        → is_synced s.shown.ledger.book.stage ≡ false
+        → is_synced s2.shown.ledger.book.stage ≡ true }
+{}
+
+/// A gateway keeps its table: a synced one is synced after each step, whatever event comes.
+pub fn keeps_its_table()
+    ensures { (s : GatewayAndOutput) (event : Event) (s2 : GatewayAndOutput) → IsStepOn s event s2
+        → is_synced s.shown.ledger.book.stage ≡ true
+        → is_synced s2.shown.ledger.book.stage ≡ true }
+{}
 
 /// What a step requires of a gateway holds after the step again.
 pub fn steps_keep()
     ensures { (s : GatewayAndOutput) (event : Event) (s2 : GatewayAndOutput) (h : List Record)
         → IsStepOn s event s2
         → HasBytes event → IsBook s.shown.ledger.book → IsLoneRightly s.shown → KeepsBytes s.shown
-        → HasPushed s.shown h
+        → IsSettled s.shown → HasPushed s.shown h
         → IsBook s2.shown.ledger.book × (IsLoneRightly s2.shown × KeepsBytes s2.shown) }
 {
     readings_law();
@@ -253,7 +286,8 @@ pub fn few_in_one_second()
         → in_second (complaints_at side) second steps ≤ 10 }
     ensures begun { (settings : Settings) (id : GatewayId) (boot : ℕ)
         → AreWithin (begun settings id boot) }
-    ensures founded { (settings : Settings) (boot : ℕ) → AreWithin (founded settings boot) }
+    ensures founded { (settings : Settings) (id : GatewayId) (boot : ℕ)
+        → AreWithin (founded settings id boot) }
 {
     readings_law();
     frames_law();
@@ -407,7 +441,8 @@ pub fn parts_stand()
     ensures { (s : GatewayAndOutput) (event : Event) (done : GatewayAndOutput) (h : List Record)
         → Does s event done
         → HasBytes event → IsBook s.shown.ledger.book → IsLoneRightly s.shown → KeepsBytes s.shown
-        → HasPushed s.shown h → (h2 : List Record) × IsStanding done.shown h2 }
+        → IsSettled s.shown → HasPushed s.shown h
+        → (h2 : List Record) × IsStanding done.shown h2 }
 {
     readings_law();
 }
@@ -425,7 +460,7 @@ pub fn steps_account()
 }
 
 /// The other gateway's notes leave a gateway's account as it is: at a step of the other one whose
-/// own ledger accounts for the trace, at its crash and at its boot.
+/// own ledger accounts for the trace, at its crash, at its boot and where it founds the pair.
 pub fn others_account()
     ensures step { (s s2 : GatewayAndOutput) (g : Shown) (before : List Note) (x : Rests s s2)
         → same (id_of g) (id_of s.shown) ≡ false → AccountsOn s.shown before → AccountsOn g before
@@ -436,41 +471,51 @@ pub fn others_account()
     ensures booted { (g : Shown) (by : GatewayId) (at number : ℕ) (before : List Note)
         → same (id_of g) by ≡ false → AccountsOn g before
         → AccountsOn g (note by at (Booted number) ∷ before) }
+    ensures founded { (g : Shown) (by : GatewayId) (at : ℕ) (before : List Note)
+        → same (id_of g) by ≡ false → AccountsOn g before
+        → AccountsOn g (note by at Founded ∷ before) }
 {}
 
 /// A gateway's ledger accounts for the trace as the gateway begins: once its boot is noted, for
-/// each trace whose releases came where their pairs were idle, and as gateway 0 is founded, when
+/// each trace whose releases came where their pairs were idle, and so for one that founds the pair as
+/// it boots, once that is noted too. As the world begins with a gateway that has founded the pair,
 /// nothing is noted.
 pub fn beginnings_account()
     ensures begun { (settings : Settings) (id : GatewayId) (boot at : ℕ) (before : List Note)
         → Idle before
         → AccountsOn (begun settings id boot) (note id at (Booted boot) ∷ before) }
-    ensures founded { (settings : Settings) (boot : ℕ) → AccountsOn (founded settings boot) [] }
+    ensures founded { (settings : Settings) (id : GatewayId) (boot : ℕ)
+        → AccountsOn (founded settings id boot) [] }
+    ensures boot_founds { (settings : Settings) (id : GatewayId) (boot at : ℕ)
+        (before : List Note) → Idle before
+        → AccountsOn (founded settings id boot)
+        (note id at Founded ∷ note id at (Booted boot) ∷ before) }
 {}
 
-/// What a step requires of a gateway holds of a gateway as it begins, and of the founded one, where
-/// nothing was pushed. The link of each has places for a whole table. And whether what comes inward
+/// What a step requires of a gateway holds of a gateway as it begins, and of one that founds the pair,
+/// where nothing was pushed. The link of each has places for a whole table. And whether what comes inward
 /// renews a pair is what the settings say.
 pub fn beginnings()
     ensures begun { (settings : Settings) (id : GatewayId) (boot : ℕ) → HasRanges settings
         → IsStanding (begun settings id boot) [] }
-    ensures founded { (settings : Settings) (boot : ℕ) → HasRanges settings
-        → IsStanding (founded settings boot) [] }
+    ensures founded { (settings : Settings) (id : GatewayId) (boot : ℕ) → HasRanges settings
+        → IsStanding (founded settings id boot) [] }
     ensures begun_room { (settings : Settings) (id : GatewayId) (boot : ℕ)
         → (begun settings id boot).link.capacity
         ≡ link_places (bounds_of settings.ports.zero) (bounds_of settings.ports.one) }
-    ensures founded_room { (settings : Settings) (boot : ℕ)
-        → (founded settings boot).link.capacity
+    ensures founded_room { (settings : Settings) (id : GatewayId) (boot : ℕ)
+        → (founded settings id boot).link.capacity
         ≡ link_places (bounds_of settings.ports.zero) (bounds_of settings.ports.one) }
     ensures refresh { (settings : Settings) (id : GatewayId) (boot : ℕ)
         → (begun settings id boot).ledger.inward_refresh ≡ settings.inward_refresh }
-    ensures founded_refresh { (settings : Settings) (boot : ℕ)
-        → (founded settings boot).ledger.inward_refresh ≡ settings.inward_refresh }
+    ensures founded_refresh { (settings : Settings) (id : GatewayId) (boot : ℕ)
+        → (founded settings id boot).ledger.inward_refresh ≡ settings.inward_refresh }
 {}
 
 /// What holds of a gateway between steps holds after each step again: its routers have begun where
-/// it runs and are in Initialize where it doesn't, its link owes no datagram, and the packets that
-/// it keeps have their places. So at most 16 packets of one inside address wait for pairs.
+/// it runs and are in Initialize where it doesn't, its link owes no datagram, without a table nothing
+/// waits, and the packets that it keeps have their places. So at most 16 packets of one inside address
+/// wait for pairs.
 pub fn steps_settle()
     ensures settled { (s : GatewayAndOutput) (event : Event) (s2 : GatewayAndOutput)
         → IsStepOn s event s2 → IsSettled s.shown → IsSettled s2.shown }
@@ -478,11 +523,12 @@ pub fn steps_settle()
         → IsStepOn s event s2 → IsSettled s.shown → host_count address s2.shown.kept ≤ 16 }
 {}
 
-/// A gateway as it begins, and the founded one, are settled.
+/// A gateway as it begins, and one that founds the pair, are settled.
 pub fn beginnings_settle()
     ensures begun { (settings : Settings) (id : GatewayId) (boot : ℕ)
         → IsSettled (begun settings id boot) }
-    ensures founded { (settings : Settings) (boot : ℕ) → IsSettled (founded settings boot) }
+    ensures founded { (settings : Settings) (id : GatewayId) (boot : ℕ)
+        → IsSettled (founded settings id boot) }
 {}
 
 /// Letting idle pairs go one after another changes the book, its lives, the link and the notes as
@@ -694,11 +740,12 @@ pub fn steps_feed()
     ensures step { (s : GatewayAndOutput) (event : Event) (s2 : GatewayAndOutput) (h : List Record)
         → IsStepOn s event s2
         → HasBytes event → IsBook s.shown.ledger.book → IsLoneRightly s.shown → KeepsBytes s.shown
-        → HasPushed s.shown h → wanted s.shown.link ≡ 0 → wanted s2.shown.link ≡ 0 }
+        → IsSettled s.shown → HasPushed s.shown h → wanted s.shown.link ≡ 0
+        → wanted s2.shown.link ≡ 0 }
     ensures begun { (settings : Settings) (id : GatewayId) (boot : ℕ)
         → wanted (begun settings id boot).link ≡ 0 }
-    ensures founded { (settings : Settings) (boot : ℕ)
-        → wanted (founded settings boot).link ≡ 0 }
+    ensures founded { (settings : Settings) (id : GatewayId) (boot : ℕ)
+        → wanted (founded settings id boot).link ≡ 0 }
 {
     readings_law();
 }

@@ -9,9 +9,9 @@ mod turns;
 
 pub use events::{Event, Outcome};
 pub use laws::{
-    alone_waits_for_nobody, beginnings, beginnings_account, beginnings_settle, errors_hide,
-    errors_leave_pairs, few_in_one_second, fragments_are_dropped, gives_way, goes_on_is_sent,
-    idle_at_once, never_alone, never_too_long, not_moved, other_frames, others_account,
+    alone_waits_for_nobody, beginnings, beginnings_account, beginnings_settle, ends_go, errors_hide,
+    errors_leave_pairs, few_in_one_second, founds, fragments_are_dropped, gives_way, goes_on_is_sent,
+    idle_at_once, keeps_its_table, never_alone, never_too_long, not_moved, other_frames, others_account,
     own_frames_show_nothing, own_leaves_pairs, parts_stand, peer_alone, sought_at_once,
     source_routes_are_dropped, steps_account, steps_count, steps_feed, steps_go, steps_keep,
     steps_note, steps_pass_on, steps_say, steps_settle, steps_stay, steps_tell,

@@ -7,7 +7,7 @@ use Rattle.link.specs.declared.datagrams.Taken.{Taken}
 use Rattle.link.specs.Grammar.{IsWellFormedRecord}
 use Rattle.link.specs.Link.{Link, Agrees, records_taken, taken_from, answers_count, free_places, is_restart, IsTaken, taken_with, heard_of, refusal, taken_of}
 use Rattle.link.specs.Reading.{datagram_with}
-use Rattle.link.proofs.Ends.{is_taken_with, if_ok_more, on_ok_more, same_ok, records_from, restart_is, all_taken, answers_find_places, begins, goes_on, known_of, boot_kept, count_of, values_kept, refused_as, said_is, other_settings, same_settings}
+use Rattle.link.proofs.Ends.{is_taken_with, if_ok_more, on_ok_more, same_ok, records_from, restart_is, all_taken, answers_find_places, begins, goes_on, known_of, boot_kept, capacity_kept, count_of, values_kept, refused_as, said_is, other_settings, same_settings}
 use Rattle.link.proofs.session.Link.take_into.Goals as goal
 
 pub returns-clause-restarts : goal.returns-clause-restarts
@@ -88,6 +88,11 @@ returns-clause-counts c =
     let told = is_taken_with c.args.bytes.now c.args.self.now d c.args.now c.hear.result c.hear.new.records.items c.hear.new.self c.in_ok-header.ensures.exact c.in_ok-header.ensures.found.0 c.hear.ensures.exact c.hear.ensures.after in
     if_ok_more (λ b. IsTaken c.args.bytes.now c.args.self.now c.args.now (taken_with b c.hear.new.records.items) c.hear.new.self d) (λ b. c.hear.new.self.taken ≡ cond b.restarted 0 c.args.self.now.taken + length c.hear.new.records.items) c.hear.result
     (λ b k. ap (λ (x : Link). x.taken) k.after ∙ count_of c.args.self.now d c.args.now ∙ ap (λ (x : Taken). cond x.restarted 0 c.args.self.now.taken + length x.records.items) (sym k.taken)) told
+
+pub returns-clause-capacity : goal.returns-clause-capacity
+returns-clause-capacity c =
+    let d = datagram_with c.in_ok-header.header c.read_whole.new.records.items in
+    capacity_kept c.hear.result c.args.self.now c.hear.new.self d c.args.now c.hear.ensures.after c.hear.ensures.err
 
 pub returns-clause-values : goal.returns-clause-values
 returns-clause-values c =
