@@ -25,7 +25,7 @@ LATE = 0.4
 class Guard:
     """natpair-fence beside a box."""
 
-    def __init__(self, box, seconds):
+    def __init__(self, box, seconds, start_seconds=300):
         self.box, self.folder = box, box.folder
         top = box.top
         # What it runs as root lies where the box's user can't write.
@@ -34,7 +34,8 @@ class Guard:
         other = top / f"machine{1 - box.number}"
         conf = top / f"fence{box.number}.conf"
         command = " ".join((*PYTHON, str(FOLDER / "power.py")))
-        conf.write_text(f"SECONDS={seconds}\nCOMMAND={command}\nplug={other}\nbroken={self.broken}\ncalls={self.calls}\n")
+        conf.write_text(f"SECONDS={seconds}\nSTART_SECONDS={start_seconds}\nCOMMAND={command}\nplug={other}\n"
+                        f"broken={self.broken}\ncalls={self.calls}\n")
         self.words = ("/usr/bin/python3", "-B", str(PROGRAM), "--id", str(box.number), "--settings",
                       str(top / SETTINGS.name), "--conf", str(conf), "--memory", str(top / f"fenced{box.number}"))
         self.lines = top / f"fence{box.number}.log"

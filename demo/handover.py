@@ -69,6 +69,8 @@ class Traffic:
         self.flows = Flows(current.loop, current.networks.host, current.stack, hosts)
         self.flows.open(count, WINDOW, 60)
         self.steady = [Steady(current, number) for number in range(STEADY)]
+        # Opens new flows meanwhile, where that is wanted.
+        self.newcomers = None
 
     def go_on(self, seconds, test=lambda: False):
         """The steady flows ask for so long, or until a test holds."""
@@ -77,6 +79,8 @@ class Traffic:
             for flow in self.steady:
                 if time.monotonic() - flow.asked > AGAIN:
                     flow.ask()
+            if self.newcomers:
+                self.newcomers.turn()
             self.flows.turn(0.002)
 
     def seen(self, name, moment, owed, active):

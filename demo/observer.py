@@ -170,6 +170,10 @@ class Observer:
             return False
         return True
 
+    def forget(self):
+        """What was seen of flows before counts no more: where both boxes have lost their tables, ports are others."""
+        self.inside_ends, self.outside_ports, self.asked = {}, {}, {}
+
     def catch_up(self):
         """Takes all frames that are there."""
         for side, sock in self.watched:

@@ -346,12 +346,12 @@ class Networks(Surroundings):
         self.boxes[0].space.cable(cable, self.boxes[1].space, cable)
 
     def found(self):
-        """Makes both boot files, founds the pair on box 0, and waits until box 1 has its table."""
+        """Makes both boot files, starts both boxes, and waits until the pair is founded and both have its table."""
         for box in self.boxes:
             box.natpair("init", f"boot{box.number}")
-        self.boxes[0].start("--found")
-        self.boxes[1].start()
-        wait_until(self.boxes[1].is_synced, 10, "box 1 is synced")
+            box.start()
+        for box in self.boxes:
+            wait_until(box.is_synced, 10, f"box {box.number} is synced")
 
     def slow_link(self, rate):
         """Lets so many bits a second through the link, each way, with a queue of half a second."""

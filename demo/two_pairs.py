@@ -69,9 +69,9 @@ class SecondPair:
     def found(self):
         for box in self.boxes:
             box.natpair("init", f"boot{box.number}")
-        self.boxes[0].start("--found")
-        self.boxes[1].start()
-        wait_until(self.boxes[1].is_synced, 10, "box 1 of the second pair is synced")
+            box.start()
+        for box in self.boxes:
+            wait_until(box.is_synced, 10, f"box {box.number} of the second pair is synced")
 
 
 def status(box):
