@@ -1,3 +1,4 @@
+mod Growing
 pub mod Offered
 mod Planning
 mod Reading

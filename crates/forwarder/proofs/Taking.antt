@@ -141,7 +141,8 @@ spends-more needs more f f2 p p2 frames octets notes pairs is =
     let b = is.notes in
     let c = is.pairs in
     let d = is.octets in
-    record { frames = omega arith; octets = omega arith; datagrams = is.datagrams; notes = omega arith; pairs = omega arith }
+    let e = is.entries in
+    record { frames = omega arith; octets = omega arith; datagrams = is.datagrams; notes = omega arith; pairs = omega arith; entries = omega arith }
 
 -- ---- by a packet whose frame has so many bytes
 
@@ -203,6 +204,7 @@ sent-spends count f f1 f2 f3 p p1 p2 p3 p4 wished framed octets carried asked =
       datagrams = asked.datagrams ∙ carried.datagrams ∙ sym (ap (λ (r : Room). r.datagrams) framed) ∙ wished.datagrams;
       notes = omega arith;
       pairs = omega arith;
+      entries = omega (arith, wished.entries, carried.entries, asked.entries);
     }
 
 -- the octets of a packet whose wait ended, and of those that wait still

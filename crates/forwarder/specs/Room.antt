@@ -1,5 +1,5 @@
 -- The capacity that calls need on a page and in the table, and how much of it they use.
-use Rattle.std.specs.Prelude.{◌≡◌, ◌≤◌, ◌+◌, ◌*◌, ℕ, min}
+use Rattle.std.specs.Prelude.{◌≡◌, ◌≤◌, ◌+◌, ◌*◌, ℕ, length, min}
 use Rattle.link.specs.Link.{free_places}
 use Rattle.output.specs.Output.{Paged}
 use Rattle.waiting.specs.Packets.{beyond, octets_in}
@@ -22,8 +22,9 @@ HasRoomFor needs f page = record {
   pairs : needs.pairs ≤ f.core.table.ready;
 }
 
--- A call uses no more than this need, and no capacity for datagrams. The octets that it takes from the page, and those
--- that the packets that wait have more afterwards, are no more than its own together.
+-- A call uses no more than this need, and no capacity for datagrams, and the table gets no more entries than the need
+-- has new pairs. The octets that the call takes from the page, and those that the packets that wait have more afterwards,
+-- are no more than its own together.
 abbrev pub Spends : Needs → Forwarder → Paged → Forwarder → Paged → Type 0
 Spends needs f page f2 page2 = record {
   frames : page.room.frames ≤ page2.room.frames + needs.frames;
@@ -31,6 +32,7 @@ Spends needs f page f2 page2 = record {
   datagrams : page2.room.datagrams ≡ page.room.datagrams;
   notes : page.room.notes ≤ page2.room.notes + needs.notes;
   pairs : f.core.table.ready ≤ f2.core.table.ready + needs.pairs;
+  entries : length f2.core.table.entries ≤ length f.core.table.entries + needs.pairs;
 }
 
 -- ---- what each call needs

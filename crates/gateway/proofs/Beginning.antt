@@ -1,8 +1,7 @@
 -- The invariant of a gateway as it begins.
 use Rattle.std.proofs.Common.{◌≡◌, ℕ, Bool, true, false, [], refl, sym, ap, subst, ◌∙◌, arith}
-use Rattle.std.specs.Prelude.{IsTrue, if◌then◌else◌}
+use Rattle.std.specs.Prelude.{if◌then◌else◌}
 use Rattle.nat_types.specs.declared.gateways.GatewayId.{GatewayId}
-use Rattle.nat_types.specs.declared.gateways.GatewayId.TheVariants.{Zero}
 use Rattle.settings.specs.declared.whole.Settings.{Settings}
 use Rattle.packet_rules.specs.Networks.{IsPlaced, networks_of}
 use Rattle.interfaces.specs.Stations.{new_station}
@@ -25,12 +24,13 @@ begun-is settings id boot stands settled placed = record {
   places = refl;
   house = record { placed = placed; inside_is = refl; outside_is = refl };
   settled = settled;
+  quiet = λ unsynced. refl;
   fed = refl;
 }
 
-founded-is : (settings : Settings) (boot : ℕ) → IsStanding (founded settings boot) [] → IsSettled (founded settings boot) → IsPlaced (networks_of settings Zero) → IsInOrder (founded settings boot)
+founded-is : (settings : Settings) (id : GatewayId) (boot : ℕ) → IsStanding (founded settings id boot) [] → IsSettled (founded settings id boot) → IsPlaced (networks_of settings id) → IsInOrder (founded settings id boot)
 unfolding founded begun new_station
-founded-is settings boot stands settled placed = record {
+founded-is settings id boot stands settled placed = record {
   book = stands.book;
   lone = stands.lone;
   bytes = stands.kept;
@@ -40,6 +40,7 @@ founded-is settings boot stands settled placed = record {
   places = refl;
   house = record { placed = placed; inside_is = refl; outside_is = refl };
   settled = settled;
+  quiet = λ unsynced. refl;
   fed = refl;
 }
 
@@ -72,28 +73,28 @@ secrets-are secrets g is = let b = is.book in record {
   pushed = is.pushed;
   places = is.places;
   house = is.house;
-  settled = record { running = is.settled.running; idle = is.settled.idle; answered = is.settled.answered; places = is.settled.places };
+  settled = record { running = is.settled.running; idle = is.settled.idle; answered = is.settled.answered; bare = is.settled.bare; places = is.settled.places };
+  quiet = is.quiet;
   fed = is.fed;
 }
 
 -- a gateway that begins has the invariant, founded or not
-pub beginning-is : (settings : Settings) (id : GatewayId) (boot : ℕ) (found : Bool) (secrets : Secrets) (g : Shown) → IsStanding (begun settings id boot) [] → IsStanding (founded settings boot) []
-    → IsSettled (begun settings id boot) → IsSettled (founded settings boot)
-    → IsPlaced (networks_of settings id) → IsPlaced (networks_of settings Zero)
-    → g ≡ with_secrets secrets (if found then founded settings boot else begun settings id boot) → IsInOrder g
-beginning-is settings id boot true secrets g b f x y placed first is = subst IsInOrder (sym is) (secrets-are secrets _ (founded-is settings boot f y first))
-beginning-is settings id boot false secrets g b f x y placed first is = subst IsInOrder (sym is) (secrets-are secrets _ (begun-is settings id boot b x placed))
+pub beginning-is : (settings : Settings) (id : GatewayId) (boot : ℕ) (found : Bool) (secrets : Secrets) (g : Shown) → IsStanding (begun settings id boot) [] → IsStanding (founded settings id boot) []
+    → IsSettled (begun settings id boot) → IsSettled (founded settings id boot) → IsPlaced (networks_of settings id)
+    → g ≡ with_secrets secrets (if found then founded settings id boot else begun settings id boot) → IsInOrder g
+beginning-is settings id boot true secrets g b f x y placed is = subst IsInOrder (sym is) (secrets-are secrets _ (founded-is settings id boot f y placed))
+beginning-is settings id boot false secrets g b f x y placed is = subst IsInOrder (sym is) (secrets-are secrets _ (begun-is settings id boot b x placed))
 
 -- ---- the id of a gateway as it begins
 begun-id : (settings : Settings) (id : GatewayId) (boot : ℕ) → id_of (begun settings id boot) ≡ id
 unfolding begun
 begun-id settings id boot = refl
 
-founded-id : (settings : Settings) (boot : ℕ) → id_of (founded settings boot) ≡ Zero
+founded-id : (settings : Settings) (id : GatewayId) (boot : ℕ) → id_of (founded settings id boot) ≡ id
 unfolding founded begun
-founded-id settings boot = refl
+founded-id settings id boot = refl
 
-pub id-is : (settings : Settings) (id : GatewayId) (boot : ℕ) (found : Bool) (secrets : Secrets) (g : Shown) → (IsTrue found → id ≡ Zero)
-    → g ≡ with_secrets secrets (if found then founded settings boot else begun settings id boot) → id ≡ id_of g
-id-is settings id boot true secrets g first is = first refl ∙ sym (founded-id settings boot) ∙ sym (ap id_of is)
-id-is settings id boot false secrets g first is = sym (begun-id settings id boot) ∙ sym (ap id_of is)
+pub id-is : (settings : Settings) (id : GatewayId) (boot : ℕ) (found : Bool) (secrets : Secrets) (g : Shown)
+    → g ≡ with_secrets secrets (if found then founded settings id boot else begun settings id boot) → id ≡ id_of g
+id-is settings id boot true secrets g is = sym (founded-id settings id boot) ∙ sym (ap id_of is)
+id-is settings id boot false secrets g is = sym (begun-id settings id boot) ∙ sym (ap id_of is)

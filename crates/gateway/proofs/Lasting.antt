@@ -1,4 +1,5 @@
--- What no step changes: the ranges of ports, the link's capacity and values, and the networks. And the clock goes on within its bounds.
+-- What no step changes: the ranges of ports, the link's capacity and values, and the networks. And the clock goes on
+-- within its bounds.
 use Rattle.std.proofs.Common.{◌≡◌, ℕ, Bool, true, false, List, [], ◌∷◌, Option, Some, None, Result, Ok, Err, refl, sym, ap, subst, ◌∙◌, arith, cond, ◌&&◌}
 use Rattle.nat_types.specs.declared.gateways.Side.{Side}
 use Rattle.nat_types.specs.declared.gateways.Side.TheVariants.{Inside, Outside}
@@ -10,12 +11,13 @@ use Rattle.arp.specs.declared.packets.ArpPacket.{ArpPacket}
 use Rattle.bindings.specs.Lives.{idle_keys_in}
 use Rattle.link.specs.declared.datagrams.Datagram.{Datagram}
 use Rattle.link.specs.declared.faults.LinkFault.{LinkFault}
-use Rattle.link.specs.Link.{Link, after_take, closed_at, is_due_on_tick, is_restart, met, records_taken, refusal}
+use Rattle.link.specs.Link.{Link, after_take, closed_at, is_due_on_tick, is_over, is_restart, met, records_taken, refusal}
 use Rattle.link.specs.Reading.{reading}
+use Rattle.link.proofs.Offered.{left_keeps}
 use Rattle.resync.specs.Loading.{Load, loaded}
 use Rattle.spec_binding.specs.Books.{Book, is_lone, is_synced, load_of}
-use Rattle.spec_binding.specs.Ledgers.{lone_ledger, may_ask, restarted_ledger, rests_for, sought_keys, taken_ledger}
-use Rattle.spec_binding.specs.Resets.{back_in, restart_link, restart_notes, restarted, retaken}
+use Rattle.spec_binding.specs.Ledgers.{founded_ledger, lone_ledger, may_ask, restarted_ledger, rests_for, sought_keys, taken_ledger}
+use Rattle.spec_binding.specs.Resets.{back_in, founding_link, restart_link, restart_notes, restarted, retaken}
 use Rattle.spec_binding.specs.Rows.{alone_row, answered, idle_row, is_full, load_taken, row_of, taken_answer, taken_behind, taken_book, taken_ended}
 use Rattle.spec_binding.proofs.Offered.{change-leaves}
 use Rattle.waiting.specs.declared.waits.Ended.TheVariants.{One, AllPairs}
@@ -29,8 +31,8 @@ use Rattle.vrrp_states.specs.Table as table
 use Rattle.vrrp_states.specs.Table.{Event as RouterEvent, IsMoment}
 use Rattle.vrrp_states.specs.declared.Action.{Action}
 use Rattle.spec_step.specs.declared.events.Event.{Event}
-use Rattle.spec_step.specs.declared.events.Event.TheVariants.{Frame, Datagram as Comes, Tick, Stop, PeerOff, Side as SideIs}
-use Rattle.spec_step.specs.Parts.{acted, all_framed, all_idle_done, all_sought_done, alone_taken, answered_by, arp_heard, arp_taken, datagram_read, datagram_taken, framed, frames_of, gone_alone, handed_in, has_synced, heard_by, heard_unless, idle_done, idle_taken, is_taught, link_answered, record_taken, link_ticked, old_dropped, peer_told, record_done, record_shown, records_done, released, reset, side_plugged, sought_done, wait_ended, waits_for_sender, with_link, with_routers}
+use Rattle.spec_step.specs.declared.events.Event.TheVariants.{Frame, Datagram as Comes, Tick, Stop, End, PeerOff, Side as SideIs}
+use Rattle.spec_step.specs.Parts.{acted, all_framed, all_idle_done, all_sought_done, alone_taken, answered_by, arp_heard, arp_taken, datagram_read, datagram_taken, does_found, framed, frames_of, gone_alone, handed_in, has_synced, heard_by, heard_unless, idle_done, idle_taken, is_taught, link_answered, record_taken, link_ticked, met_by, old_dropped, pair_founded, peer_told, record_done, record_shown, records_done, released, reset, side_plugged, sought_done, wait_ended, waits_for_sender, with_link, with_routers, word_taken}
 use Rattle.spec_step.specs.declared.turns.Turn.{Turn}
 use Rattle.spec_step.specs.declared.turns.Turn.TheVariants.{Leaves, Returns, Stays as Remains}
 use Rattle.spec_step.specs.GivingWay.{TakesTurn, left, returned, turn_of}
@@ -39,10 +41,10 @@ use Rattle.spec_step.specs.Shown.{GatewayAndOutput, Shown, id_of, is_apart, is_r
 use Rattle.spec_step.specs.Steps.{Does, FrameDoes, IsStepOn, ended_on, stopped, ticked, word_by, word_refusal}
 use Rattle.spec_step.specs.Verdict.{reading_on}
 use Rattle.gateway.specs.Arrivals.{clock_by}
-use Rattle.gateway.proofs.Staying.{IsAsOn, Stays, answered-capacity, answered-values, change-stays, flow-stays, released-stays, row-stays, station-stays, stays-here, stays-then, echo-stays, error-stays, refused-stays}
+use Rattle.gateway.proofs.Staying.{IsAsOn, Stays, answered-acknowledged, answered-capacity, answered-known, answered-values, change-stays, flow-stays, released-stays, row-stays, station-stays, stays-here, stays-then, echo-stays, error-stays, refused-stays}
 
 -- an equal pair of gateway and output
-stays-as : (g : Shown) (s s2 : GatewayAndOutput) → s2 ≡ s → Stays g s.shown → Stays g s2.shown
+pub stays-as : (g : Shown) (s s2 : GatewayAndOutput) → s2 ≡ s → Stays g s.shown → Stays g s2.shown
 stays-as g s s2 e x = subst (λ (y : GatewayAndOutput). Stays g y.shown) (sym e) x
 
 -- ---- ARP and the routers
@@ -59,7 +61,7 @@ acted-stays s side station action same =
 router-stays : (s : GatewayAndOutput) (side : Side) (e : RouterEvent) (s2 : GatewayAndOutput) → RouterActs s side e s2 → Stays s.shown s2.shown
 router-stays s side e s2 a = stays-as s.shown (acted s side a.station a.action) s2 a.is (acted-stays s side a.station a.action (ap (λ (i : Interface). i.network) a.step.rest))
 
-both-stay : (s : GatewayAndOutput) (e : RouterEvent) (s2 : GatewayAndOutput) → BothAct s e s2 → Stays s.shown s2.shown
+pub both-stay : (s : GatewayAndOutput) (e : RouterEvent) (s2 : GatewayAndOutput) → BothAct s e s2 → Stays s.shown s2.shown
 both-stay s e s2 b =
     stays-then s.shown b.between.shown s2.shown (router-stays s Inside e b.between b.inside) (router-stays b.between Outside e s2 b.outside)
 
@@ -93,7 +95,7 @@ arp-stays s side p =
     arp-by s told side p (is_taught s.shown side p)
     (stays-then s.shown heard.shown told.shown (heard-by-stays s.shown side p) (answered-stays heard side p answer))
 
-frame-stays : (s : GatewayAndOutput) (side : Side) (bytes : List ℕ) (r : Result Reading Reason) (s2 : GatewayAndOutput) → FrameDoes s side bytes r s2 → Stays s.shown s2.shown
+pub frame-stays : (s : GatewayAndOutput) (side : Side) (bytes : List ℕ) (r : Result Reading Reason) (s2 : GatewayAndOutput) → FrameDoes s side bytes r s2 → Stays s.shown s2.shown
 frame-stays s side bytes (Ok (Arp p)) s2 does = stays-as s.shown (arp_taken s side p) s2 does (arp-stays s side p)
 frame-stays s side bytes (Ok (Advert a from)) s2 does = router-stays s side _ s2 does
 frame-stays s side bytes (Ok (Packet packet)) s2 does = stays-as s.shown _ s2 does (flow-stays s side bytes packet.flow)
@@ -130,19 +132,29 @@ restart-values : (b : Book) (e : Link) (synced : Bool) → is_synced b.stage ≡
 restart-values b e true is = rw is refl
 restart-values b e false is = rw is refl
 
-reset-stays : (s : GatewayAndOutput) → Stays s.shown (reset s).shown
+restart-known : (b : Book) (e : Link) (synced : Bool) → is_synced b.stage ≡ synced → (restart_link b e).known ≡ e.known
+restart-known b e true is = rw is refl
+restart-known b e false is = rw is refl
+
+restart-acknowledged : (b : Book) (e : Link) (synced : Bool) → is_synced b.stage ≡ synced → (restart_link b e).acknowledged ≡ e.acknowledged
+restart-acknowledged b e true is = rw is refl
+restart-acknowledged b e false is = rw is refl
+
+pub reset-stays : (s : GatewayAndOutput) → Stays s.shown (reset s).shown
 reset-stays s =
     let b = s.shown.ledger.book in
     let ranges = restarted-by b (is_synced b.stage) refl in
     let capacity = restart-capacity b s.shown.link (is_synced b.stage) refl in
     let values = restart-values b s.shown.link (is_synced b.stage) refl in
+    let known = restart-known b s.shown.link (is_synced b.stage) refl in
+    let acknowledged = restart-acknowledged b s.shown.link (is_synced b.stage) refl in
     let g = s.shown in
     let begun = scene (record g { ledger = restarted_ledger g.ledger; link = restart_link b g.link }) (with_notes s.told (restart_notes b g.moment)) in
     let x = released-stays begun AllPairs in
-    record { moment = x.moment; capacity = x.capacity ∙ capacity; values = x.values ∙ values; zero = x.zero ∙ ranges.zero; one = x.one ∙ ranges.one; networks = x.networks; inside = x.inside; outside = x.outside }
+    record { moment = x.moment; capacity = x.capacity ∙ capacity; values = x.values ∙ values; known = x.known ∙ known; acknowledged = x.acknowledged ∙ acknowledged; zero = x.zero ∙ ranges.zero; one = x.one ∙ ranges.one; networks = x.networks; inside = x.inside; outside = x.outside }
 
 with-routers-stays : (g g2 : Shown) (starts : Bool) → (has_synced g g2 && is_running g2) ≡ starts → Stays g2 (with_routers g g2)
-with-routers-stays g g2 true is = rw is (record { moment = refl; capacity = refl; values = refl; zero = refl; one = refl; networks = refl; inside = refl; outside = refl })
+with-routers-stays g g2 true is = rw is (record { moment = refl; capacity = refl; values = refl; known = refl; acknowledged = refl; zero = refl; one = refl; networks = refl; inside = refl; outside = refl })
 with-routers-stays g g2 false is = rw is (stays-here g2)
 
 shown-stays : (g : Shown) (r : Record) → Stays g (record_shown g r)
@@ -154,7 +166,7 @@ shown-stays g r =
     let ranges = taken-by b rests r (is_synced b.stage) refl in
     stays-then g g2 (record_shown g r)
     (stays-then g g1 g2
-    (record { moment = refl; capacity = answered-capacity g.link (taken_answer b rests r); values = answered-values g.link (taken_answer b rests r); zero = ranges.zero; one = ranges.one; networks = refl; inside = refl; outside = refl })
+    (record { moment = refl; capacity = answered-capacity g.link (taken_answer b rests r); values = answered-values g.link (taken_answer b rests r); known = answered-known g.link (taken_answer b rests r); acknowledged = answered-acknowledged g.link (taken_answer b rests r); zero = ranges.zero; one = ranges.one; networks = refl; inside = refl; outside = refl })
     (change-stays g1 (taken_behind b g.link rests r)))
     (with-routers-stays g g2 (has_synced g g2 && is_running g2) refl)
 
@@ -168,11 +180,50 @@ record-stays s r =
     stays-then g (record_shown g r) (record_done s r).shown (shown-stays g r)
     (ended-stays _ (taken_ended g.ledger.book (rests_for g.moment g.ledger r) r))
 
-records-stay : (s : GatewayAndOutput) (rs : List Record) → Stays s.shown (records_done s rs).shown
+pub records-stay : (s : GatewayAndOutput) (rs : List Record) → Stays s.shown (records_done s rs).shown
 records-stay s [] = stays-here s.shown
 records-stay s (r ∷ rs) =
     let next = record_done s r in
     stays-then s.shown next.shown (records_done next rs).shown (record-stays s r) (records-stay next rs)
+
+-- a founding, whose routers may start, changes none of these
+pub founded-stays : (s : GatewayAndOutput) → Stays s.shown (pair_founded s).shown
+founded-stays s =
+    let g = s.shown in
+    let g2 : Shown = record g { ledger = founded_ledger g.ledger; link = founding_link g.ledger.book g.link } in
+    stays-then g g2 (pair_founded s).shown
+    (record { moment = refl; capacity = refl; values = refl; known = refl; acknowledged = refl; zero = refl; one = refl; networks = refl; inside = refl; outside = refl })
+    (with-routers-stays g g2 (has_synced g g2 && is_running g2) refl)
+
+-- what each event leaves: all of these but the known boot and what is acknowledged, which a datagram and the operator's word
+-- may change
+pub record Holds (g g2 : Shown) : Type 0 where
+  pub moment : g2.moment ≡ g.moment
+  pub capacity : g2.link.capacity ≡ g.link.capacity
+  pub values : g2.link.values ≡ g.link.values
+  pub zero : g2.ledger.book.zero ≡ g.ledger.book.zero
+  pub one : g2.ledger.book.one ≡ g.ledger.book.one
+  pub networks : g2.networks ≡ g.networks
+  pub inside : g2.inside.network ≡ g.inside.network
+  pub outside : g2.outside.network ≡ g.outside.network
+
+holds-of : (g g2 : Shown) → Stays g g2 → Holds g g2
+holds-of g g2 x = record { moment = x.moment; capacity = x.capacity; values = x.values; zero = x.zero; one = x.one; networks = x.networks; inside = x.inside; outside = x.outside }
+
+holds-then : (g g2 g3 : Shown) → Holds g g2 → Holds g2 g3 → Holds g g3
+holds-then g g2 g3 x y = record {
+  moment = y.moment ∙ x.moment;
+  capacity = y.capacity ∙ x.capacity;
+  values = y.values ∙ x.values;
+  zero = y.zero ∙ x.zero;
+  one = y.one ∙ x.one;
+  networks = y.networks ∙ x.networks;
+  inside = y.inside ∙ x.inside;
+  outside = y.outside ∙ x.outside;
+}
+
+holds-as : (g : Shown) (s s2 : GatewayAndOutput) → s2 ≡ s → Holds g s.shown → Holds g s2.shown
+holds-as g s s2 e x = subst (λ (y : GatewayAndOutput). Holds g y.shown) (sym e) x
 
 met-capacity : (e : Link) (d : Datagram) (restarts : Bool) → is_restart e d ≡ restarts → (met e d).capacity ≡ e.capacity
 met-capacity e d true is = rw is refl
@@ -182,37 +233,66 @@ met-values : (e : Link) (d : Datagram) (restarts : Bool) → is_restart e d ≡ 
 met-values e d true is = rw is refl
 met-values e d false is = rw is refl
 
-reset-where : (s : GatewayAndOutput) (restarts : Bool) → Stays s.shown (let r : GatewayAndOutput = cond restarts (reset s) s in r.shown)
-reset-where s true = reset-stays s
-reset-where s false = stays-here s.shown
-
-heard-stays : (s : GatewayAndOutput) (d : Datagram) → Stays s.shown (heard_by s d).shown
-heard-stays s d =
+-- the link once it took a datagram
+taken-holds : (s : GatewayAndOutput) (d : Datagram) → Holds s.shown (with_link s (after_take s.shown.link d s.shown.moment)).shown
+taken-holds s d =
     let e = s.shown.link in
-    let after = with_link s (after_take e d s.shown.moment) in
-    let restarts = is_restart e d in
-    let start : GatewayAndOutput = cond restarts (reset after) after in
-    stays-then s.shown after.shown (heard_by s d).shown
-    (record { moment = refl; capacity = met-capacity e d restarts refl; values = met-values e d restarts refl; zero = refl; one = refl; networks = refl; inside = refl; outside = refl })
-    (stays-then after.shown start.shown (heard_by s d).shown (reset-where after restarts) (records-stay start (records_taken e d)))
+    record { moment = refl; capacity = met-capacity e d (is_restart e d) refl; values = met-values e d (is_restart e d) refl; zero = refl; one = refl; networks = refl; inside = refl; outside = refl }
 
-unless-stays : (s : GatewayAndOutput) (d : Datagram) (o : Option LinkFault) → Stays s.shown (heard_unless s d o).shown
-unless-stays s d None = heard-stays s d
-unless-stays s d (Some fault) = stays-here s.shown
+-- the reset and the founding, each where there is one
+pub met-stays : (s : GatewayAndOutput) (restarts founds : Bool) → Stays s.shown (let x : GatewayAndOutput = cond restarts (reset s) s in let y : GatewayAndOutput = cond founds (pair_founded x) x in y.shown)
+met-stays s true true = stays-then s.shown (reset s).shown (pair_founded (reset s)).shown (reset-stays s) (founded-stays (reset s))
+met-stays s true false = reset-stays s
+met-stays s false true = founded-stays s
+met-stays s false false = stays-here s.shown
 
-read-stays : (s : GatewayAndOutput) (r : Result Datagram LinkFault) → Stays s.shown (datagram_read s r).shown
-read-stays s (Ok d) = unless-stays s d (refusal s.shown.link d)
-read-stays s (Err fault) = stays-here s.shown
-
--- ---- the operator's word, and the parts of a tick
-
-word-stays : (s : GatewayAndOutput) (n : ℕ) (o : Option Reason) → Stays s.shown (word_by s n o).shown
-word-stays s n None =
+-- the session that is closed by the word, or by the peer's end
+taken-word-holds : (s : GatewayAndOutput) (n : ℕ) → Holds s.shown (word_taken s n).shown
+taken-word-holds s n =
     let g = s.shown in
     let alone = scene (record g { ledger = lone_ledger g.moment g.ledger; link = closed_at g.link n }) (with_notes s.told (retaken (id_of g) g.moment (back_in g.ledger.book.entries))) in
     let x = released-stays alone AllPairs in
     record { moment = x.moment; capacity = x.capacity; values = x.values; zero = x.zero; one = x.one; networks = x.networks; inside = x.inside; outside = x.outside }
-word-stays s n (Some reason) = stays-here s.shown
+
+ended-holds : (s : GatewayAndOutput) (n : ℕ) (ends : Bool) → Holds s.shown (let x : GatewayAndOutput = cond ends (word_taken s n) s in x.shown)
+ended-holds s n true = taken-word-holds s n
+ended-holds s n false = holds-of s.shown s.shown (stays-here s.shown)
+
+heard-holds : (s : GatewayAndOutput) (d : Datagram) → Holds s.shown (heard_by s d).shown
+heard-holds s d =
+    let e = s.shown.link in
+    let after = with_link s (after_take e d s.shown.moment) in
+    let done = records_done (met_by s d) (records_taken e d) in
+    holds-then s.shown after.shown (heard_by s d).shown (taken-holds s d)
+    (holds-then after.shown done.shown (heard_by s d).shown
+    (holds-of after.shown done.shown
+    (stays-then after.shown (met_by s d).shown done.shown (met-stays after (is_restart e d) (does_found s.shown d)) (records-stay (met_by s d) (records_taken e d))))
+    (ended-holds done d.boot (is_over e d && is_synced done.shown.ledger.book.stage)))
+
+unless-holds : (s : GatewayAndOutput) (d : Datagram) (o : Option LinkFault) → Holds s.shown (heard_unless s d o).shown
+unless-holds s d None = heard-holds s d
+unless-holds s d (Some fault) =
+    let e = s.shown.link in
+    record {
+      moment = refl;
+      capacity = left_keeps (λ (x : Link). x.capacity ≡ e.capacity) e refl (λ n. refl) (Ok d);
+      values = left_keeps (λ (x : Link). x.values ≡ e.values) e refl (λ n. refl) (Ok d);
+      zero = refl;
+      one = refl;
+      networks = refl;
+      inside = refl;
+      outside = refl;
+    }
+
+read-holds : (s : GatewayAndOutput) (r : Result Datagram LinkFault) → Holds s.shown (datagram_read s r).shown
+read-holds s (Ok d) = unless-holds s d (refusal s.shown.link d)
+read-holds s (Err fault) = holds-of s.shown s.shown (stays-here s.shown)
+
+-- ---- the operator's word, and the parts of a tick
+
+word-holds : (s : GatewayAndOutput) (n : ℕ) (o : Option Reason) → Holds s.shown (word_by s n o).shown
+word-holds s n None = taken-word-holds s n
+word-holds s n (Some reason) = holds-of s.shown s.shown (stays-here s.shown)
 
 idle-stays : (s : GatewayAndOutput) (keys : List Key) → Stays s.shown (all_idle_done s keys).shown
 idle-stays s [] = stays-here s.shown
@@ -243,25 +323,25 @@ begun_by s (Frame side bytes) = s
 begun_by s (Comes bytes) = s
 begun_by s (Tick now) = ticked s now
 begun_by s Stop = s
+begun_by s End = s
 begun_by s (PeerOff n) = s
 begun_by s (SideIs side up) = s
 
 -- coming back changes none of these
 returned-stays : (g : Shown) (up : Bool) → is_up g ≡ up → Stays g (returned g)
-returned-stays g true is = rw is (record { moment = refl; capacity = refl; values = refl; zero = refl; one = refl; networks = refl; inside = refl; outside = refl })
-returned-stays g false is = rw is (record { moment = refl; capacity = refl; values = refl; zero = refl; one = refl; networks = refl; inside = refl; outside = refl })
+returned-stays g true is = rw is (record { moment = refl; capacity = refl; values = refl; known = refl; acknowledged = refl; zero = refl; one = refl; networks = refl; inside = refl; outside = refl })
+returned-stays g false is = rw is (record { moment = refl; capacity = refl; values = refl; known = refl; acknowledged = refl; zero = refl; one = refl; networks = refl; inside = refl; outside = refl })
 
 turn-stays : (s : GatewayAndOutput) (turn : Turn) (s2 : GatewayAndOutput) → TakesTurn s turn s2 → Stays s.shown s2.shown
 turn-stays s Leaves s2 takes =
     let x = both-stay s table.Stop takes.0 takes.1 in
-    stays-as s.shown (left takes.0) s2 takes.2 (record { moment = x.moment; capacity = x.capacity; values = x.values; zero = x.zero; one = x.one; networks = x.networks; inside = x.inside; outside = x.outside })
+    stays-as s.shown (left takes.0) s2 takes.2 (record { moment = x.moment; capacity = x.capacity; values = x.values; known = x.known; acknowledged = x.acknowledged; zero = x.zero; one = x.one; networks = x.networks; inside = x.inside; outside = x.outside })
 turn-stays s Returns s2 takes = stays-as s.shown (scene (returned s.shown) s.told) s2 takes (returned-stays s.shown (is_up s.shown) refl)
 turn-stays s Remains s2 takes = stays-as s.shown s s2 takes (stays-here s.shown)
 
-does-stays : (s : GatewayAndOutput) (event : Event) (done : GatewayAndOutput) → Does s event done → Stays (begun_by s event).shown done.shown
-does-stays s (Frame side bytes) done does = frame-stays s side bytes.now (reading_on s.shown side bytes.now) done does
-does-stays s (Comes bytes) done does = stays-as s.shown (datagram_taken s bytes.now) done does (read-stays s (reading bytes.now))
-does-stays s (Tick now) done does =
+-- a tick, from the time of its clock on
+pub tick-stays : (s : GatewayAndOutput) (now : ℕ) (done : GatewayAndOutput) → Does s (Tick now) done → Stays (ticked s now).shown done.shown
+tick-stays s now done does =
     let turned = does.0 in
     let middle = does.1 in
     let young = old_dropped middle in
@@ -273,34 +353,46 @@ does-stays s (Tick now) done does =
     stays-as (ticked s now).shown (alone_taken idle) done does.4
     (stays-then (ticked s now).shown idle.shown (alone_taken idle).shown
     (stays-then (ticked s now).shown middle.shown idle.shown x
-    (record { moment = y.moment; capacity = y.capacity; values = y.values; zero = y.zero; one = y.one; networks = y.networks; inside = y.inside; outside = y.outside }))
+    (record { moment = y.moment; capacity = y.capacity; values = y.values; known = y.known; acknowledged = y.acknowledged; zero = y.zero; one = y.one; networks = y.networks; inside = y.inside; outside = y.outside }))
     (alone-stays idle))
-does-stays s Stop done does =
-    let middle = does.0 in
-    let x = both-stay s table.Stop middle does.1 in
-    stays-as s.shown (stopped middle) done does.2 (record { moment = x.moment; capacity = x.capacity; values = x.values; zero = x.zero; one = x.one; networks = x.networks; inside = x.inside; outside = x.outside })
-does-stays s (PeerOff n) done does = stays-as s.shown (word_by s n (word_refusal s.shown n)) done does (word-stays s n (word_refusal s.shown n))
-does-stays s (SideIs side up) done does = stays-as s.shown (side_plugged s side up) done does (station-stays s.shown side (with_plug (station_on s.shown side) up s.shown.moment) refl)
+
+-- a stop, and the gateway's end
+stop-holds : (s middle done : GatewayAndOutput) → BothAct s table.Stop middle → done ≡ stopped middle → Holds s.shown done.shown
+stop-holds s middle done acts is =
+    let x = both-stay s table.Stop middle acts in
+    holds-as s.shown (stopped middle) done is (record { moment = x.moment; capacity = x.capacity; values = x.values; zero = x.zero; one = x.one; networks = x.networks; inside = x.inside; outside = x.outside })
+
+does-holds : (s : GatewayAndOutput) (event : Event) (done : GatewayAndOutput) → Does s event done → Holds (begun_by s event).shown done.shown
+does-holds s (Frame side bytes) done does = holds-of s.shown done.shown (frame-stays s side bytes.now (reading_on s.shown side bytes.now) done does)
+does-holds s (Comes bytes) done does = holds-as s.shown (datagram_taken s bytes.now) done does (read-holds s (reading bytes.now))
+does-holds s (Tick now) done does = holds-of (ticked s now).shown done.shown (tick-stays s now done does)
+does-holds s Stop done does = stop-holds s does.0 done does.1 does.2
+does-holds s End done does = stop-holds s does.0 done does.1 does.2
+does-holds s (PeerOff n) done does = holds-as s.shown (word_by s n (word_refusal s.shown n)) done does (word-holds s n (word_refusal s.shown n))
+does-holds s (SideIs side up) done does =
+    holds-of s.shown done.shown
+    (stays-as s.shown (side_plugged s side up) done does (station-stays s.shown side (with_plug (station_on s.shown side) up s.shown.moment) refl))
 
 ticked-by : (s : GatewayAndOutput) (due : Bool) → is_due_on_tick (handed_in s.shown).link s.shown.moment ≡ due → Stays s.shown (link_ticked s).shown
-ticked-by s true is = rw is (record { moment = refl; capacity = refl; values = refl; zero = refl; one = refl; networks = refl; inside = refl; outside = refl })
-ticked-by s false is = rw is (record { moment = refl; capacity = refl; values = refl; zero = refl; one = refl; networks = refl; inside = refl; outside = refl })
+ticked-by s true is = rw is (record { moment = refl; capacity = refl; values = refl; known = refl; acknowledged = refl; zero = refl; one = refl; networks = refl; inside = refl; outside = refl })
+ticked-by s false is = rw is (record { moment = refl; capacity = refl; values = refl; known = refl; acknowledged = refl; zero = refl; one = refl; networks = refl; inside = refl; outside = refl })
 
 answer-stays : (s : GatewayAndOutput) → Stays s.shown (link_answered s).shown
-answer-stays s = record { moment = refl; capacity = refl; values = refl; zero = refl; one = refl; networks = refl; inside = refl; outside = refl }
+answer-stays s = record { moment = refl; capacity = refl; values = refl; known = refl; acknowledged = refl; zero = refl; one = refl; networks = refl; inside = refl; outside = refl }
 
-ended-event : (event : Event) (done : GatewayAndOutput) → Stays done.shown (ended_on event done).shown
+pub ended-event : (event : Event) (done : GatewayAndOutput) → Stays done.shown (ended_on event done).shown
 ended-event (Frame side bytes) done = answer-stays done
 ended-event (Comes bytes) done = answer-stays done
 ended-event (Tick now) done = ticked-by done (is_due_on_tick (handed_in done.shown).link done.shown.moment) refl
 ended-event Stop done = answer-stays done
+ended-event End done = record { moment = refl; capacity = refl; values = refl; known = refl; acknowledged = refl; zero = refl; one = refl; networks = refl; inside = refl; outside = refl }
 ended-event (PeerOff n) done = answer-stays done
 ended-event (SideIs side up) done = stays-here done.shown
 
 -- the clock after a step, which only a tick moves
 pub step-moment : (s : GatewayAndOutput) (event : Event) (s2 : GatewayAndOutput) → IsStepOn s event s2 → s2.shown.moment ≡ clock_by s.shown.moment event
 step-moment s event s2 step =
-    let own = does-stays s event step.done step.does in
+    let own = does-holds s event step.done step.does in
     let end = stays-as step.done.shown (ended_on event step.done) s2 step.sends (ended-event event step.done) in
     end.moment ∙ (own.moment ∙ begun-moment s event)
   where
@@ -309,6 +401,7 @@ step-moment s event s2 step =
     begun-moment s (Comes bytes) = refl
     begun-moment s (Tick now) = refl
     begun-moment s Stop = refl
+    begun-moment s End = refl
     begun-moment s (PeerOff n) = refl
     begun-moment s (SideIs side up) = refl
 
@@ -328,13 +421,14 @@ begun-lasts s (Frame side bytes) is = record { moment = is; capacity = refl; val
 begun-lasts s (Comes bytes) is = record { moment = is; capacity = refl; values = refl; zero = refl; one = refl; networks = refl; inside = refl; outside = refl }
 begun-lasts s (Tick now) is = record { moment = omega (arith, is); capacity = refl; values = refl; zero = refl; one = refl; networks = refl; inside = refl; outside = refl }
 begun-lasts s Stop is = record { moment = is; capacity = refl; values = refl; zero = refl; one = refl; networks = refl; inside = refl; outside = refl }
+begun-lasts s End is = record { moment = is; capacity = refl; values = refl; zero = refl; one = refl; networks = refl; inside = refl; outside = refl }
 begun-lasts s (PeerOff n) is = record { moment = is; capacity = refl; values = refl; zero = refl; one = refl; networks = refl; inside = refl; outside = refl }
 begun-lasts s (SideIs side up) is = record { moment = is; capacity = refl; values = refl; zero = refl; one = refl; networks = refl; inside = refl; outside = refl }
 
 pub step-lasts : (s : GatewayAndOutput) (event : Event) (done s2 : GatewayAndOutput) → IsMoment s.shown.moment → Does s event done → s2 ≡ ended_on event done → Lasts s.shown s2.shown
 step-lasts s event done s2 is does sends =
     let first = begun-lasts s event is in
-    let own = does-stays s event done does in
+    let own = does-holds s event done does in
     let end = stays-as done.shown (ended_on event done) s2 sends (ended-event event done) in
     record {
       moment = subst (λ (m : ℕ). IsMoment m) (sym (end.moment ∙ own.moment)) first.moment;

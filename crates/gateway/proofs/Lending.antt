@@ -3,7 +3,7 @@ use Rattle.std.specs.Prelude.{OnErr}
 use Rattle.std.proofs.Common.{◌≡◌, Result, Ok, Err, refl}
 use Rattle.output.specs.Output.{Paged}
 use Rattle.spec_step.specs.declared.events.Event.{Event}
-use Rattle.spec_step.specs.declared.events.Event.TheVariants.{Frame, Datagram as Comes, Tick, Stop, PeerOff, Side as SideIs}
+use Rattle.spec_step.specs.declared.events.Event.TheVariants.{Frame, Datagram as Comes, Tick, Stop, End, PeerOff, Side as SideIs}
 use Rattle.spec_step.specs.Shown.{GatewayAndOutput, Shown}
 use Rattle.spec_step.specs.Steps.{IsStepOn, outcome_on}
 use Rattle.gateway.specs.Arrivals.{lent_event}
@@ -19,6 +19,7 @@ lend-step s (Frame side bytes) s2 step = record { done = step.done; does = step.
 lend-step s (Comes bytes) s2 step = step
 lend-step s (Tick now) s2 step = step
 lend-step s Stop s2 step = step
+lend-step s End s2 step = step
 lend-step s (PeerOff boot) s2 step = step
 lend-step s (SideIs side up) s2 step = step
 
@@ -27,6 +28,7 @@ lend-lacks g page (Frame side bytes) lacks = (lacks.0, lacks.1, lacks.2)
 lend-lacks g page (Comes bytes) lacks = lacks
 lend-lacks g page (Tick now) lacks = lacks
 lend-lacks g page Stop lacks = lacks
+lend-lacks g page End lacks = lacks
 lend-lacks g page (PeerOff boot) lacks = lacks
 lend-lacks g page (SideIs side up) lacks = lacks
 
@@ -35,5 +37,6 @@ lend-outcome g (Frame side bytes) = refl
 lend-outcome g (Comes bytes) = refl
 lend-outcome g (Tick now) = refl
 lend-outcome g Stop = refl
+lend-outcome g End = refl
 lend-outcome g (PeerOff boot) = refl
 lend-outcome g (SideIs side up) = refl

@@ -1,5 +1,6 @@
 mod Apart
 mod Arriving
+mod Bare
 mod Beginning
 mod Gathering
 mod Hearing
@@ -7,8 +8,10 @@ mod Lacking
 mod Lasting
 mod Lending
 mod Longs
+mod Growing
 mod Numbering
 mod Places
+mod Quiet
 mod Reading
 mod Staying
 mod Stepping

@@ -1,4 +1,5 @@
--- What no part of a step changes: the clock's time, the ranges of ports, the link's capacity and values, and the networks.
+-- What no part of a step changes: the clock's time, the ranges of ports, the networks, and of the link the capacity, the
+-- values, the known boot, and how many records are acknowledged.
 use Rattle.std.proofs.Common.{◌≡◌, ℕ, Bool, true, false, cond, List, [], ◌∷◌, Option, Some, None, Result, Ok, Err, refl, ◌∙◌}
 use Rattle.addresses.specs.declared.ethernet.Mac.{Mac}
 use Rattle.addresses.specs.declared.internet.Ip.{Ip}
@@ -47,6 +48,8 @@ pub record Stays (g g2 : Shown) : Type 0 where
   pub moment : g2.moment ≡ g.moment
   pub capacity : g2.link.capacity ≡ g.link.capacity
   pub values : g2.link.values ≡ g.link.values
+  pub known : g2.link.known ≡ g.link.known
+  pub acknowledged : g2.link.acknowledged ≡ g.link.acknowledged
   pub zero : g2.ledger.book.zero ≡ g.ledger.book.zero
   pub one : g2.ledger.book.one ≡ g.ledger.book.one
   pub networks : g2.networks ≡ g.networks
@@ -54,13 +57,15 @@ pub record Stays (g g2 : Shown) : Type 0 where
   pub outside : g2.outside.network ≡ g.outside.network
 
 pub stays-here : (g : Shown) → Stays g g
-stays-here g = record { moment = refl; capacity = refl; values = refl; zero = refl; one = refl; networks = refl; inside = refl; outside = refl }
+stays-here g = record { moment = refl; capacity = refl; values = refl; known = refl; acknowledged = refl; zero = refl; one = refl; networks = refl; inside = refl; outside = refl }
 
 pub stays-then : (g g2 g3 : Shown) → Stays g g2 → Stays g2 g3 → Stays g g3
 stays-then g g2 g3 x y = record {
   moment = y.moment ∙ x.moment;
   capacity = y.capacity ∙ x.capacity;
   values = y.values ∙ x.values;
+  known = y.known ∙ x.known;
+  acknowledged = y.acknowledged ∙ x.acknowledged;
   zero = y.zero ∙ x.zero;
   one = y.one ∙ x.one;
   networks = y.networks ∙ x.networks;
@@ -68,7 +73,7 @@ stays-then g g2 g3 x y = record {
   outside = y.outside ∙ x.outside;
 }
 
--- pushing an answer, or none, leaves the link's capacity and its values
+-- pushing an answer, or none, leaves the link's capacity, its values, the known boot, and how many records are acknowledged
 pub answered-capacity : (e : Link) (a : Option Record) → (answered e a).capacity ≡ e.capacity
 answered-capacity e None = refl
 answered-capacity e (Some r) = refl
@@ -77,10 +82,18 @@ pub answered-values : (e : Link) (a : Option Record) → (answered e a).values �
 answered-values e None = refl
 answered-values e (Some r) = refl
 
+pub answered-known : (e : Link) (a : Option Record) → (answered e a).known ≡ e.known
+answered-known e None = refl
+answered-known e (Some r) = refl
+
+pub answered-acknowledged : (e : Link) (a : Option Record) → (answered e a).acknowledged ≡ e.acknowledged
+answered-acknowledged e None = refl
+answered-acknowledged e (Some r) = refl
+
 pub change-stays : (g : Shown) (row : Transition) → Stays g (record g { ledger = ledger_after g.moment row.change g.ledger; link = answered g.link row.answer })
 change-stays g row =
     let beside = change-leaves g.ledger.book row.change in
-    record { moment = refl; capacity = answered-capacity g.link row.answer; values = answered-values g.link row.answer; zero = beside.zero; one = beside.one; networks = refl; inside = refl; outside = refl }
+    record { moment = refl; capacity = answered-capacity g.link row.answer; values = answered-values g.link row.answer; known = answered-known g.link row.answer; acknowledged = answered-acknowledged g.link row.answer; zero = beside.zero; one = beside.one; networks = refl; inside = refl; outside = refl }
 
 pub row-stays : (s : GatewayAndOutput) (row : Transition) → Stays s.shown (by_row s row).shown
 row-stays s row = change-stays s.shown row
@@ -93,12 +106,12 @@ wanted-stays s e =
     stays-then g one (wanted_by s e).shown (change-stays g row) (change-stays one (behind g.ledger.book g.link row))
 
 carried-stays : (s : GatewayAndOutput) (k : Key) (p : Carried) → Stays s.shown (carried_by s k p).shown
-carried-stays s k p = record { moment = refl; capacity = refl; values = refl; zero = refl; one = refl; networks = refl; inside = refl; outside = refl }
+carried-stays s k p = record { moment = refl; capacity = refl; values = refl; known = refl; acknowledged = refl; zero = refl; one = refl; networks = refl; inside = refl; outside = refl }
 
 carried-all-stays : (s : GatewayAndOutput) (flow : Flow) (flags : TcpFlags) (by : Translation) → Stays s.shown (carried_all s flow flags by).shown
-carried-all-stays s flow flags (Outward p) = record { moment = refl; capacity = refl; values = refl; zero = refl; one = refl; networks = refl; inside = refl; outside = refl }
-carried-all-stays s flow flags (Inward p) = record { moment = refl; capacity = refl; values = refl; zero = refl; one = refl; networks = refl; inside = refl; outside = refl }
-carried-all-stays s flow flags (Hairpin own other) = record { moment = refl; capacity = refl; values = refl; zero = refl; one = refl; networks = refl; inside = refl; outside = refl }
+carried-all-stays s flow flags (Outward p) = record { moment = refl; capacity = refl; values = refl; known = refl; acknowledged = refl; zero = refl; one = refl; networks = refl; inside = refl; outside = refl }
+carried-all-stays s flow flags (Inward p) = record { moment = refl; capacity = refl; values = refl; known = refl; acknowledged = refl; zero = refl; one = refl; networks = refl; inside = refl; outside = refl }
+carried-all-stays s flow flags (Hairpin own other) = record { moment = refl; capacity = refl; values = refl; known = refl; acknowledged = refl; zero = refl; one = refl; networks = refl; inside = refl; outside = refl }
 
 wanted-for-stays : (s : GatewayAndOutput) (flow : Flow) (by : Translation) → Stays s.shown (wanted_for s flow by).shown
 wanted-for-stays s flow (Outward p) = wanted-stays s (source_of flow)
@@ -107,8 +120,8 @@ wanted-for-stays s flow (Hairpin own other) = wanted-stays s (source_of flow)
 
 -- sending to a neighbour, and asking for it or for a next hop again, changes none of these
 neighbour-stays : (g : Shown) (exit : Side) (hop : Ip) → Stays g (neighbour_sent g exit hop)
-neighbour-stays g Inside hop = record { moment = refl; capacity = refl; values = refl; zero = refl; one = refl; networks = refl; inside = refl; outside = refl }
-neighbour-stays g Outside hop = record { moment = refl; capacity = refl; values = refl; zero = refl; one = refl; networks = refl; inside = refl; outside = refl }
+neighbour-stays g Inside hop = record { moment = refl; capacity = refl; values = refl; known = refl; acknowledged = refl; zero = refl; one = refl; networks = refl; inside = refl; outside = refl }
+neighbour-stays g Outside hop = record { moment = refl; capacity = refl; values = refl; known = refl; acknowledged = refl; zero = refl; one = refl; networks = refl; inside = refl; outside = refl }
 
 renewed-stays : (s : GatewayAndOutput) (exit : Side) (hop : Ip) → Stays s.shown (renewed_behind s exit hop).shown
 renewed-stays s exit hop = at (asks_at hop.0 s.shown.moment (station_on s.shown exit).neighbours)
@@ -124,7 +137,7 @@ again-asked-stays : (s : GatewayAndOutput) (exit : Side) (hop : Ip) → Stays s.
 again-asked-stays s exit hop = at (asks_again s.shown.moment (wait.Hop exit hop) s.shown.kept)
   where
     at : (b : Bool) → Stays s.shown (let r : GatewayAndOutput = cond b (framed (scene (record s.shown { kept = with_asked s.shown.moment (wait.Hop exit hop) s.shown.kept }) s.told) exit (request_by s.shown exit hop)) s in r.shown)
-    at true = record { moment = refl; capacity = refl; values = refl; zero = refl; one = refl; networks = refl; inside = refl; outside = refl }
+    at true = record { moment = refl; capacity = refl; values = refl; known = refl; acknowledged = refl; zero = refl; one = refl; networks = refl; inside = refl; outside = refl }
     at false = stays-here s.shown
 
 plan-stays : (s : GatewayAndOutput) (side : Side) (bytes : List ℕ) (flow : Flow) (plan : Plan) → Stays s.shown (by_plan s side bytes flow plan).shown
@@ -137,11 +150,11 @@ plan-stays s side bytes flow (Send by next) =
     (renewed-stays carried (exit_by by) (hop_by s.shown by flow))
 plan-stays s side bytes flow (Ask by hop) =
     let wanted = wanted-for-stays s flow by in
-    record { moment = wanted.moment; capacity = wanted.capacity; values = wanted.values; zero = wanted.zero; one = wanted.one; networks = wanted.networks; inside = wanted.inside; outside = wanted.outside }
+    record { moment = wanted.moment; capacity = wanted.capacity; values = wanted.values; known = wanted.known; acknowledged = wanted.acknowledged; zero = wanted.zero; one = wanted.one; networks = wanted.networks; inside = wanted.inside; outside = wanted.outside }
 plan-stays s side bytes flow (AskAgain by hop) = again-asked-stays s (exit_by by) hop
 plan-stays s side bytes flow (WaitFor endpoint) =
     let wanted = wanted-stays s endpoint in
-    record { moment = wanted.moment; capacity = wanted.capacity; values = wanted.values; zero = wanted.zero; one = wanted.one; networks = wanted.networks; inside = wanted.inside; outside = wanted.outside }
+    record { moment = wanted.moment; capacity = wanted.capacity; values = wanted.values; known = wanted.known; acknowledged = wanted.acknowledged; zero = wanted.zero; one = wanted.one; networks = wanted.networks; inside = wanted.inside; outside = wanted.outside }
 
 -- ---- the gateway's own answers and errors
 
@@ -150,8 +163,8 @@ abbrev pub IsAsOn : Shown → Side → Interface → Type 0
 IsAsOn g side station = station.network ≡ (station_on g side).network
 
 pub station-stays : (g : Shown) (side : Side) (station : Interface) → IsAsOn g side station → Stays g (with_station g side station)
-station-stays g Inside station same = record { moment = refl; capacity = refl; values = refl; zero = refl; one = refl; networks = refl; inside = same; outside = refl }
-station-stays g Outside station same = record { moment = refl; capacity = refl; values = refl; zero = refl; one = refl; networks = refl; inside = refl; outside = same }
+station-stays g Inside station same = record { moment = refl; capacity = refl; values = refl; known = refl; acknowledged = refl; zero = refl; one = refl; networks = refl; inside = same; outside = refl }
+station-stays g Outside station same = record { moment = refl; capacity = refl; values = refl; known = refl; acknowledged = refl; zero = refl; one = refl; networks = refl; inside = refl; outside = same }
 
 -- sending and counting a frame of its own, and asking for its next hop, changes none of these
 said-stays : (s : GatewayAndOutput) (side : Side) (frame : List ℕ) (station : Interface) (hop : Ip) → IsAsOn s.shown side station → Stays s.shown (renewed_behind (counted (framed s side frame) side station) side hop).shown
@@ -231,7 +244,7 @@ flow-stays s side bytes flow = verdict-stays s side bytes flow (plan_of s.shown 
 -- an ICMP error changes none of these
 error-plan-stays : (s : GatewayAndOutput) (side : Side) (bytes : List ℕ) (flow : ErrorFlow) (plan : Plan) → Stays s.shown (by_error_plan s side bytes flow plan).shown
 error-plan-stays s side bytes flow (Send by next) = renewed-stays (framed s (exit_by by) (passed_frame s.shown.networks by next bytes)) (exit_by by) (error_hop s.shown by flow)
-error-plan-stays s side bytes flow (Ask by hop) = record { moment = refl; capacity = refl; values = refl; zero = refl; one = refl; networks = refl; inside = refl; outside = refl }
+error-plan-stays s side bytes flow (Ask by hop) = record { moment = refl; capacity = refl; values = refl; known = refl; acknowledged = refl; zero = refl; one = refl; networks = refl; inside = refl; outside = refl }
 error-plan-stays s side bytes flow (AskAgain by hop) = again-asked-stays s (exit_by by) hop
 error-plan-stays s side bytes flow (WaitFor endpoint) = stays-here s.shown
 
@@ -246,7 +259,7 @@ error-stays s side bytes flow = at (error_plan s.shown side flow (size_in bytes)
 reply-stays : (s : GatewayAndOutput) (side : Side) (bytes : List ℕ) (source : Ip) (plan : Reply) → Stays s.shown (by_reply s side bytes source plan).shown
 reply-stays s side bytes source (reply.Send next) =
     said-stays s side (own_answer (network_of s.shown.networks side) next bytes) (with_reply (station_on s.shown side) s.shown.moment) (hop_back s.shown side source) refl
-reply-stays s side bytes source (reply.Ask hop) = record { moment = refl; capacity = refl; values = refl; zero = refl; one = refl; networks = refl; inside = refl; outside = refl }
+reply-stays s side bytes source (reply.Ask hop) = record { moment = refl; capacity = refl; values = refl; known = refl; acknowledged = refl; zero = refl; one = refl; networks = refl; inside = refl; outside = refl }
 reply-stays s side bytes source (reply.AskAgain hop) = again-asked-stays s side hop
 
 pub echo-stays : (s : GatewayAndOutput) (side : Side) (bytes : List ℕ) (echo : Echo) → Stays s.shown (echo_taken s side bytes echo).shown
@@ -277,4 +290,4 @@ pub released-stays : (s : GatewayAndOutput) (ended : Ended) → Stays s.shown (r
 released-stays s ended =
     let off = scene (record s.shown { kept = left_by ended s.shown.kept }) s.told in
     let all = all-stay off (ended_by ended s.shown.kept) in
-    record { moment = all.moment; capacity = all.capacity; values = all.values; zero = all.zero; one = all.one; networks = all.networks; inside = all.inside; outside = all.outside }
+    record { moment = all.moment; capacity = all.capacity; values = all.values; known = all.known; acknowledged = all.acknowledged; zero = all.zero; one = all.one; networks = all.networks; inside = all.inside; outside = all.outside }

@@ -1,10 +1,10 @@
 -- What holds of a gateway between its steps, and its state.
-use Rattle.std.specs.Prelude.{◌≡◌, ◌≤◌, ℕ, ◌+◌, Option, List, ◌++◌}
+use Rattle.std.specs.Prelude.{◌≡◌, ◌≤◌, ℕ, ◌+◌, false, Option, List, [], ◌++◌}
 use Rattle.nat_types.specs.declared.gateways.Side.{Side}
 use Rattle.nat_types.specs.declared.gateways.Side.TheVariants.{Inside, Outside}
 use Rattle.nat_types.specs.declared.records.Record.{Record}
-use Rattle.link.specs.Link.{wanted}
-use Rattle.spec_binding.specs.Books.{IsBook}
+use Rattle.link.specs.Link.{occupied, wanted}
+use Rattle.spec_binding.specs.Books.{IsBook, is_synced}
 use Rattle.vrrp_states.specs.Table.{IsMoment}
 use Rattle.output.specs.Output.{Output, Sent}
 use Rattle.packet_rules.specs.declared.networks.Networks.{Networks}
@@ -23,6 +23,12 @@ use Rattle.forwarder.specs.declared.forwarders.Forwarder.{Forwarder}
 use Rattle.forwarder.specs.Forwarder.{shown_of}
 use Rattle.gateway.specs.declared.gathers.Fragments.{Fragments}
 
+-- no packet is kept, and nothing was pushed in the session
+pub record IsBare (g : Shown) : Type 0 where
+  pub kept : g.kept ≡ []
+  pub occupied : occupied g.link ≡ 0
+  pub acknowledged : g.link.acknowledged ≡ 0
+
 -- what holds of what a gateway shows
 pub record IsInOrder (g : Shown) : Type 0 where
   pub book : IsBook g.ledger.book
@@ -38,6 +44,8 @@ pub record IsInOrder (g : Shown) : Type 0 where
   pub house : IsHouse g.networks g.inside.network g.outside.network
   -- the routers are idle where the gateway isn't up, no datagram is due, and the kept packets are within their limits
   pub settled : IsSettled g
+  -- a gateway without a table has pushed nothing in the session
+  pub quiet : is_synced g.ledger.book.stage ≡ false → g.link.acknowledged ≡ 0
   -- the link has the records that it was promised, as far as it has places for them
   pub fed : wanted g.link ≡ 0
 

@@ -29,7 +29,7 @@ use Rattle.fragments.specs.Memory.{LacksTaking}
 use Rattle.spec_gateway.specs.State.{GatewayState}
 use Rattle.spec_gateway.specs.Arrivals.{gathering_of, is_gathered, is_part}
 use Rattle.spec_gateway.specs.Steps.{whole_event}
-use Rattle.gateway.specs.Rooms.{apart_needs, both_routers, reading_needs, records_need, restart_needs, room_for, tick_needs, waiting_needs, most_waiting}
+use Rattle.gateway.specs.Rooms.{apart_needs, both_routers, last_needs, most_waiting, reading_needs, records_need, restart_needs, room_for, tick_needs, waiting_needs}
 use Rattle.gateway.specs.Ticks.{is_apart_at}
 
 -- ---- a gateway that begins
@@ -107,7 +107,7 @@ Lacks (Frame side bytes) f page = LacksForFrame side bytes.now (reading_on (show
 Lacks (Datagram bytes) f page = LacksForDatagram (may_reset f.link (header_at bytes.now)) f page
 Lacks (Tick now) f page = LacksForTick (is_apart_at (shown_of f) now) f page
 Lacks Stop f page = LacksRoom both_routers f page
-Lacks End f page = LacksRoom (record both_routers { notes = 1 }) f page
+Lacks End f page = LacksRoom last_needs f page
 Lacks (PeerOff boot) f page = WasUnlisted f ⊎ LacksRoom (and_kept (waiting_needs f) f) f page
 Lacks (Cable side up) f page = ⊥
 

@@ -1,6 +1,7 @@
 pub mod Arrivals
 pub mod Cues
 pub mod Gateway
+pub mod Hearing
 pub mod Rooms
 pub mod Entries
 pub mod Lacks

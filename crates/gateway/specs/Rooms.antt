@@ -1,11 +1,12 @@
 -- The capacity that each event needs.
-use Rattle.std.specs.Prelude.{ℕ, ◌≤◌, ◌+◌, ◌*◌, ⊤, Bool, true, false, List, length, if◌then◌else◌}
+use Rattle.std.specs.Prelude.{◌≡◌, ℕ, ◌≤◌, ◌+◌, ◌*◌, ⊤, Bool, true, false, List, length, if◌then◌else◌}
 use Rattle.nat_types.specs.declared.records.Record.{Record}
 use Rattle.link.specs.declared.datagrams.TheConstants.{RECORDS_IN_A_DATAGRAM}
 use Rattle.link.specs.Link.{needs_answer}
 use Rattle.spec_step.specs.declared.events.Event.{Event}
 use Rattle.spec_step.specs.declared.events.Event.TheVariants.{Frame, Datagram, Tick, Stop, End, PeerOff, Side}
 use Rattle.output.specs.declared.pages.Room.{Room}
+use Rattle.output.specs.Output.{Paged}
 use Rattle.waiting.specs.Packets.{HeldPacket, beyond, octets_in}
 use Rattle.forwarder.specs.declared.forwarders.Forwarder.{Forwarder}
 use Rattle.forwarder.specs.Room.{Needs, all_for_pairs, an_arp_packet, frames_alone, notes_alone}
@@ -46,6 +47,16 @@ most_datagrams End = 1
 most_datagrams (PeerOff boot) = 1
 most_datagrams (Side side up) = 0
 
+-- how many notes the end of a step makes: that the gateway is down, where it ends
+abbrev pub last_notes : Event → ℕ
+last_notes (Frame side bytes) = 0
+last_notes (Datagram bytes) = 0
+last_notes (Tick now) = 0
+last_notes Stop = 0
+last_notes End = 1
+last_notes (PeerOff boot) = 0
+last_notes (Side side up) = 0
+
 -- the octets of a frame of so many bytes that was read: an ARP packet may end the wait of a packet, any other frame has
 -- its own
 abbrev pub reading_octets : Reading → ℕ → List HeldPacket → ℕ
@@ -63,6 +74,20 @@ a_router = frames_alone 2
 
 abbrev pub both_routers : Needs
 both_routers = frames_alone (2 * a_router.frames)
+
+-- the need of the gateway's end: the stop of both routers, and the last note
+abbrev pub last_needs : Needs
+last_needs = record both_routers { notes = 1 }
+
+-- a tick's parts use no more than this need of the page and of the new pairs
+abbrev pub Uses : Needs → Forwarder → Paged → Forwarder → Paged → Type 0
+Uses needs f page f2 page2 = record {
+  frames : page.room.frames ≤ page2.room.frames + needs.frames;
+  octets : page.room.octets + octets_in f2.kept ≤ page2.room.octets + octets_in f.kept + needs.octets;
+  datagrams : page2.room.datagrams ≡ page.room.datagrams;
+  notes : page.room.notes ≤ page2.room.notes + needs.notes;
+  pairs : f.core.table.ready ≤ f2.core.table.ready + needs.pairs;
+}
 
 -- the need of the idle pairs, and of those that are marked or told of: a note of each entry, and one more
 abbrev pub idle_needs : Forwarder → Needs
@@ -100,8 +125,7 @@ abbrev pub restart_needs : Forwarder → Needs
 restart_needs f = record {
   frames = 2 * all_for_pairs.frames + (records_need RECORDS_IN_A_DATAGRAM).frames;
   octets = 0;
-  notes = 2 * length f.core.table.entries + most_pairs + 2 * all_for_pairs.notes
-      + (records_need RECORDS_IN_A_DATAGRAM).notes + 1;
+  notes = 2 * length f.core.table.entries + most_pairs + 2 * all_for_pairs.notes + (records_need RECORDS_IN_A_DATAGRAM).notes + 1;
   pairs = most_pairs;
 }
 
@@ -110,7 +134,6 @@ abbrev pub most_waiting : ℕ
 most_waiting = 128
 
 -- the most frames or datagrams for which a page is made ready
-
 abbrev pub most_on_a_page : ℕ
 most_on_a_page = 4096
 

@@ -1,26 +1,27 @@
 //! Datagrams of the other gateway.
-ghost use Rattle.std.specs.Prelude.{◌≡◌, ◌≤◌, ◌&&◌, ℕ, [], None, Ok, false, not, true, length, vec_capacity};
+ghost use Rattle.std.specs.Prelude.{◌≡◌, ◌≤◌, ℕ, [], None, Ok, false, true, length, vec_capacity};
 ghost use Rattle.std.specs.Prelude.{if◌then◌else◌};
 ghost use Rattle.link.specs.declared.datagrams.Datagram.{Datagram};
 ghost use Rattle.link.specs.declared.datagrams.TheConstants.{RECORDS_IN_A_DATAGRAM};
 ghost use Rattle.link.specs.Link.{free_places, is_over, is_restart, occupied, refusal, taking};
 ghost use Rattle.link.specs.Reading.{reading};
-ghost use Rattle.spec_binding.specs.Resets.{restart_batch};
 ghost use Rattle.bindings.specs.Ports.{key_count};
+ghost use Rattle.nat_types.specs.declared.gateways.GatewayId.TheVariants.{Zero};
+ghost use Rattle.spec_binding.specs.Books.{is_synced};
+ghost use Rattle.spec_binding.specs.Resets.{founding_batch, restart_batch};
 ghost use Rattle.vrrp_states.specs.Table.{IsMoment};
 ghost use Rattle.spec_step.specs.Founding.{link_places};
-ghost use Rattle.spec_step.specs.Parts.{datagram_taken, pair_founded, reset as reset_of};
-ghost use Rattle.spec_step.specs.Shown.{id_of};
-ghost use Rattle.spec_binding.specs.Books.{is_synced};
-ghost use Rattle.nat_types.specs.Same.{same};
-ghost use Rattle.nat_types.specs.declared.gateways.GatewayId.TheVariants.{Zero};
+ghost use Rattle.spec_step.specs.Parts.{datagram_taken, pair_founded, peer_ended, reset as reset_of};
 ghost use Rattle.spec_step.specs.Steps.{outcome_heard};
 ghost use Rattle.forwarder.specs.Forwarder.{scene_on, shown_of};
 ghost use Rattle.forwarder.specs.Room.{HasRoomFor, Spends, and_kept, notes_alone, places_for_answers};
+ghost use Rattle.gateway.specs.Gateway.{IsBare};
+ghost use Rattle.gateway.specs.Hearing.{founded_where, founds_by, reset_where};
 ghost use Rattle.gateway.specs.Rooms.{most_waiting, records_need, restart_needs, waiting_needs};
 
 use crate::records::take_records;
-use crate::routers::start_routers;
+use crate::rooms::recall_kept;
+use crate::routers::start_if_running;
 use crate::words::go_alone;
 use arrayvec::ArrayVec;
 use forwarder::Forwarder;
@@ -74,8 +75,8 @@ fn reset_where(
         ≡ link_places forwarder.old.core.table.zero forwarder.old.core.table.one }
     requires room { HasRoomFor (and_kept (waiting_needs forwarder.old) forwarder.old)
         forwarder.old page.old }
-    ensures scene { let s = scene_on forwarder.old page.old
-        in scene_on forwarder.new page.new ≡ (if restarted then reset_of s else s) }
+    ensures scene { scene_on forwarder.new page.new
+        ≡ reset_where (scene_on forwarder.old page.old) restarted }
     ensures spends { Spends (waiting_needs forwarder.old) forwarder.old page.old
         forwarder.new page.new }
     ensures places { (more : ℕ) → more ≤ places_for_answers
@@ -94,45 +95,96 @@ fn found(forwarder: &mut Forwarder, page: &mut OutputBuffer)
     requires moment { IsMoment forwarder.old.moment }
     requires zero { forwarder.old.core.id ≡ Zero }
     requires unsynced { is_synced forwarder.old.core.stage ≡ false }
-    requires begins { occupied forwarder.old.link ≡ 0 }
+    requires bare { IsBare (shown_of forwarder.old) }
+    requires places { forwarder.old.link.capacity
+        ≡ link_places forwarder.old.core.table.zero forwarder.old.core.table.one }
     requires room { HasRoomFor (notes_alone 1) forwarder.old page.old }
     ensures scene { scene_on forwarder.new page.new
         ≡ pair_founded (scene_on forwarder.old page.old) }
     ensures spends { Spends (notes_alone 1) forwarder.old page.old forwarder.new page.new }
+    ensures places { places_for_answers ≤ free_places forwarder.new.link }
     ensures moment { forwarder.new.moment ≡ forwarder.old.moment }
 {
+    limits_law();
+    forwarder.core.recall();
     let mut notes = page.take_notes();
     let now = forwarder.moment;
     forwarder.core.found(&mut forwarder.link, now, &mut notes);
     page.put_notes(notes);
-    if forwarder.is_running() {
-        start_routers(forwarder);
+    start_if_running(forwarder);
+}
+
+/// Founds the pair (`found`), where a datagram leads to that.
+fn found_where(forwarder: &mut Forwarder, page: &mut OutputBuffer, founds: bool)
+    requires moment { IsMoment forwarder.old.moment }
+    requires zero { founds ≡ true → forwarder.old.core.id ≡ Zero }
+    requires unsynced { founds ≡ true → is_synced forwarder.old.core.stage ≡ false }
+    requires bare { founds ≡ true → IsBare (shown_of forwarder.old) }
+    requires places { forwarder.old.link.capacity
+        ≡ link_places forwarder.old.core.table.zero forwarder.old.core.table.one }
+    requires room { HasRoomFor (notes_alone 1) forwarder.old page.old }
+    ensures scene { scene_on forwarder.new page.new
+        ≡ founded_where (scene_on forwarder.old page.old) founds }
+    ensures spends { Spends (notes_alone (if founds then 1 else 0)) forwarder.old page.old
+        forwarder.new page.new }
+    ensures places { (more : ℕ) → more ≤ places_for_answers
+        → more ≤ free_places forwarder.old.link
+        → more ≤ free_places forwarder.new.link }
+    ensures moment { forwarder.new.moment ≡ forwarder.old.moment }
+{
+    if founds {
+        found(forwarder, page);
     }
 }
 
 /// Whether the gateway founds the pair at a datagram that says, or doesn't, that its sender lacks a
 /// table.
 fn does_found(forwarder: &Forwarder, lacking: bool) -> bool
-    ensures { result ≡ (same (id_of (shown_of forwarder.now)) Zero
-        && (not (is_synced forwarder.now.core.stage) && lacking)) }
+    ensures { result ≡ founds_by (shown_of forwarder.now) lacking }
 {
     forwarder.core.id() == GatewayId::Zero && !forwarder.core.is_synced() && lacking
 }
 
-/// Takes a datagram that may begin a new session or end the peer's boot, or drops it. `lists` are
-/// two empty lists with capacity for all packets that wait.
+/// Goes on alone, where the datagram was the last one of the peer's boot, and the gateway is synced.
+/// `list` is an empty list with capacity for all packets that can wait.
+fn end_where(
+    forwarder: &mut Forwarder,
+    page: &mut OutputBuffer,
+    over: bool,
+    boot: u64,
+    list: Vec<HeldPacket>,
+)
+    requires known { forwarder.old.link.known ≤ boot }
+    requires empty { list.items ≡ [] }
+    requires list { most_waiting ≤ vec_capacity list }
+    requires room { HasRoomFor (and_kept (waiting_needs forwarder.old) forwarder.old)
+        forwarder.old page.old }
+    ensures scene { scene_on forwarder.new page.new
+        ≡ peer_ended (scene_on forwarder.old page.old) over boot }
+    ensures datagrams { page.new.room.datagrams ≡ page.old.room.datagrams }
+{
+    recall_kept(forwarder);
+    if over && forwarder.core.is_synced() {
+        go_alone(forwarder, page, boot, list);
+    }
+}
+
+/// Takes a datagram that may begin a new session or end the peer's boot, or drops it. `first` is an
+/// empty list with capacity for all packets that wait, and `last` one for all that can.
 pub(crate) fn take_first(
     forwarder: &mut Forwarder,
     page: &mut OutputBuffer,
     bytes: &[u8],
-    lists: (Vec<HeldPacket>, Vec<HeldPacket>),
+    first: Vec<HeldPacket>,
+    last: Vec<HeldPacket>,
 ) -> Outcome
-    requires empty { (lists.0.items ≡ []) × (lists.1.items ≡ []) }
-    requires list { length forwarder.old.kept ≤ vec_capacity lists.0 }
-    requires last { most_waiting ≤ vec_capacity lists.1 }
+    requires empty { (first.items ≡ []) × (last.items ≡ []) }
+    requires first { length forwarder.old.kept ≤ vec_capacity first }
+    requires last { most_waiting ≤ vec_capacity last }
     requires moment { IsMoment forwarder.old.moment }
     requires places { forwarder.old.link.capacity
         ≡ link_places forwarder.old.core.table.zero forwarder.old.core.table.one }
+    requires bare { is_synced forwarder.old.core.stage ≡ false → IsBare (shown_of forwarder.old) }
     requires room { HasRoomFor (and_kept (restart_needs forwarder.old) forwarder.old)
         forwarder.old page.old }
     ensures scene { scene_on forwarder.new page.new
@@ -146,15 +198,10 @@ pub(crate) fn take_first(
         Ok(heard) => {
             let boot = forwarder.link.known_peer();
             let founds = does_found(forwarder, heard.lacking);
-            let (first, last) = lists;
             reset_where(forwarder, page, heard.restarted, first);
-            if founds {
-                found(forwarder, page);
-            }
+            found_where(forwarder, page, founds);
             take_records(forwarder, page, records.as_slice());
-            if heard.over && forwarder.core.is_synced() {
-                go_alone(forwarder, page, boot, last);
-            }
+            end_where(forwarder, page, heard.over, boot, last);
             Outcome::Done
         }
         Err(_fault) => Outcome::Dropped(Reason::BadDatagram),
@@ -171,6 +218,9 @@ pub(crate) fn take_further(
         → refusal forwarder.old.link d ≡ None
         → (is_restart forwarder.old.link d ≡ false) × (is_over forwarder.old.link d ≡ false) }
     requires moment { IsMoment forwarder.old.moment }
+    requires places { forwarder.old.link.capacity
+        ≡ link_places forwarder.old.core.table.zero forwarder.old.core.table.one }
+    requires bare { is_synced forwarder.old.core.stage ≡ false → IsBare (shown_of forwarder.old) }
     requires room { HasRoomFor (and_kept (records_need RECORDS_IN_A_DATAGRAM) forwarder.old)
         forwarder.old page.old }
     ensures scene { scene_on forwarder.new page.new
@@ -182,9 +232,8 @@ pub(crate) fn take_further(
     let mut records = ArrayVec::new();
     match forwarder.link.take_into(bytes, now, &mut records) {
         Ok(heard) => {
-            if does_found(forwarder, heard.lacking) {
-                found(forwarder, page);
-            }
+            let founds = does_found(forwarder, heard.lacking);
+            found_where(forwarder, page, founds);
             take_records(forwarder, page, records.as_slice());
             Outcome::Done
         }

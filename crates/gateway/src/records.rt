@@ -109,7 +109,8 @@ pub(crate) fn take_records(forwarder: &mut Forwarder, page: &mut OutputBuffer, r
         forwarder.old page.old }
     ensures scene { scene_on forwarder.new page.new
         ≡ records_done (scene_on forwarder.old page.old) records.now }
-    ensures datagrams { page.new.room.datagrams ≡ page.old.room.datagrams }
+    ensures spends { Spends (records_need (length records.now)) forwarder.old page.old
+        forwarder.new page.new }
     ensures moment { forwarder.new.moment ≡ forwarder.old.moment }
 {
     for entry in records {

@@ -98,8 +98,10 @@ pub(crate) const STOP_ROOM: Room = Room {
 
 /// The capacity for the end of a gateway: the stop of both routers, and the last note.
 pub(crate) const LAST_ROOM: Room = Room {
+    frames: ROUTER_FRAMES,
+    octets: 0,
+    datagrams: 1,
     notes: 1,
-    ..STOP_ROOM
 };
 
 /// Returns the capacity for an ARP packet: an answer, and the packet whose wait it may end, with
@@ -295,6 +297,13 @@ pub(crate) fn entry_count(forwarder: &Forwarder) -> usize
     forwarder.core.recall();
     forwarder.core.table().recall();
     forwarder.core.table().len()
+}
+
+/// Reminds the prover that few packets wait; it does nothing when it runs.
+pub(crate) fn recall_kept(forwarder: &Forwarder)
+    ensures { length forwarder.now.kept ≤ most_waiting }
+{
+    let _ = forwarder.kept.len();
 }
 
 /// Returns an empty list with capacity for all packets that wait. Fails where there isn't enough

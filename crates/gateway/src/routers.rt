@@ -1,13 +1,13 @@
 //! The virtual routers of a gateway: their cues, and the frames of the actions that follow.
-ghost use Rattle.std.specs.Prelude.{◌≡◌, ◌≤◌, ◌+◌, ⊤};
+ghost use Rattle.std.specs.Prelude.{◌≡◌, ◌≤◌, ◌+◌, ⊤, if◌then◌else◌};
 ghost use Rattle.arp.specs.declared.packets.TheConstants.{ARP_FRAME};
 ghost use Rattle.vrrp_packet.specs.declared.TheConstants.{ADVERT_FRAME};
 ghost use Rattle.vrrp_states.specs.Table.{IsMoment};
 ghost use Rattle.packet_rules.specs.Adverts.{advert_frame};
 ghost use Rattle.packet_rules.specs.Arping.{gratuitous_frame};
 ghost use Rattle.interfaces.specs.Stations.{IsRouterStep};
-ghost use Rattle.spec_step.specs.Parts.{all_framed, frames_of, started};
-ghost use Rattle.spec_step.specs.Shown.{Shown, scene, with_station};
+ghost use Rattle.spec_step.specs.Parts.{all_framed, frames_of, routers_started, started};
+ghost use Rattle.spec_step.specs.Shown.{Shown, is_running, scene, with_station};
 ghost use Rattle.spec_step.specs.Routers.{BothAct, RouterActs};
 ghost use Rattle.forwarder.specs.Forwarder.{scene_on, shown_of};
 ghost use Rattle.forwarder.specs.Room.{HasRoomFor, Spends};
@@ -160,4 +160,19 @@ pub(crate) fn start_routers(forwarder: &mut Forwarder)
     let now = forwarder.moment;
     start_station(&mut forwarder.inside, now);
     start_station(&mut forwarder.outside, now);
+}
+
+/// Starts both routers, where the gateway is synced and neither stopped nor away.
+pub(crate) fn start_if_running(forwarder: &mut Forwarder)
+    requires { IsMoment forwarder.old.moment }
+    ensures shown { let g = shown_of forwarder.old
+        in shown_of forwarder.new ≡ (if is_running g then routers_started g else g) }
+    ensures rest { forwarder.new ≡ record forwarder.old {
+      inside = forwarder.new.inside;
+      outside = forwarder.new.outside;
+    } }
+{
+    if forwarder.is_running() {
+        start_routers(forwarder);
+    }
 }

@@ -8,8 +8,9 @@ ghost use Rattle.link.specs.Reading.{header_at, reading};
 ghost use Rattle.vrrp_states.specs.Table.{IsMoment};
 ghost use Rattle.packet_rules.specs.Steps.{Carries};
 ghost use Rattle.packet_rules.specs.declared.readings.Reading.TheVariants.{Packet as PacketReading};
-ghost use Rattle.spec_step.specs.declared.events.Event.TheVariants.{Stop as StopEvent};
+ghost use Rattle.spec_step.specs.declared.events.Event.TheVariants.{End as EndEvent, Stop as StopEvent};
 ghost use Rattle.spec_step.specs.declared.events.Event.TheVariants.{Tick as TickEvent};
+ghost use Rattle.spec_binding.specs.Books.{is_synced};
 ghost use Rattle.spec_step.specs.declared.events.Outcome.TheVariants.{Done};
 ghost use Rattle.spec_step.specs.Founding.{link_places};
 ghost use Rattle.spec_step.specs.Machine.{AreBytes, HasBytes};
@@ -20,11 +21,11 @@ ghost use Rattle.spec_step.specs.Truly.{IsSetUp};
 ghost use Rattle.spec_step.specs.Verdict.{reading_on, verdict};
 ghost use Rattle.forwarder.specs.Forwarder.{scene_on, shown_of};
 ghost use Rattle.forwarder.specs.Room.{and_kept};
-ghost use Rattle.gateway.specs.Gateway.{GoesOn, IsInOrder};
+ghost use Rattle.gateway.specs.Gateway.{GoesOn, IsBare, IsInOrder};
 ghost use Rattle.gateway.specs.Lacks.{Lacks, LacksForDatagram, LacksForFrame, LacksForTick};
 ghost use Rattle.gateway.specs.Lacks.{LacksRoom, LacksStep, WasUnlisted};
-ghost use Rattle.gateway.specs.Rooms.{IsShort, apart_needs, both_routers, is_of_side, most_datagrams};
-ghost use Rattle.gateway.specs.Rooms.{records_need, restart_needs, tick_needs, waiting_needs};
+ghost use Rattle.gateway.specs.Rooms.{IsShort, apart_needs, both_routers, is_of_side, last_needs};
+ghost use Rattle.gateway.specs.Rooms.{last_notes, most_datagrams, records_need, restart_needs, tick_needs, waiting_needs};
 ghost use Rattle.gateway.specs.Ticks.{is_apart_at};
 
 use crate::NoMemory;
@@ -33,8 +34,7 @@ use crate::datagrams::{take_first, take_further};
 use crate::ends::{end_gateway, end_other, end_tick};
 use crate::rooms::{
     END_ROOM, LAST_ROOM, MOST_PAIRS, OVER_ROOM, RECORD_PAIRS, STOP_ROOM, WAITING, apart_room,
-    last_list, list_for,
-    make_ready, make_ready_for, records_room, restart_room, tick_room, word_room,
+    last_list, list_for, make_ready, make_ready_for, records_room, restart_room, tick_room, word_room,
 };
 use crate::ticks::{is_apart_at, take_stop, take_tick};
 use crate::turns::plug;
@@ -42,10 +42,11 @@ use crate::words::take_word;
 use forwarder::Forwarder;
 use ipv4::Packet;
 use nat_types::Side;
-use output::{OutputBuffer, Room};
+use output::OutputBuffer;
 use packet_rules::{Reading, Reason};
 use spec_step::{
-    Event, Outcome, parts_stand, steps_feed, steps_go, steps_keep, steps_settle, steps_stay,
+    Event, Outcome, ends_go, keeps_its_table, parts_stand, steps_feed, steps_go, steps_keep,
+    steps_settle, steps_stay,
 };
 use std::alloc::Global;
 
@@ -153,6 +154,7 @@ fn first_came(
     requires moment { IsMoment forwarder.old.moment }
     requires places { forwarder.old.link.capacity
         ≡ link_places forwarder.old.core.table.zero forwarder.old.core.table.one }
+    requires bare { is_synced forwarder.old.core.stage ≡ false → IsBare (shown_of forwarder.old) }
     ensures outcome { IfOk result (λ o. o
         ≡ outcome_heard (taking forwarder.old.link (reading bytes.now))) }
     ensures does { OnOk result (scene_on forwarder.new page.new
@@ -165,9 +167,10 @@ fn first_came(
         page.old)) }
 {
     let room = restart_room(forwarder);
-    let lists = (list_for(alloc, forwarder)?, last_list(alloc)?);
+    let first = list_for(alloc, forwarder)?;
+    let last = last_list(alloc)?;
     make_ready(forwarder, page, room, MOST_PAIRS)?;
-    Ok(take_first(forwarder, page, bytes, lists))
+    Ok(take_first(forwarder, page, bytes, first, last))
 }
 
 /// Handles any other datagram, with memory for its records, and no list.
@@ -180,6 +183,9 @@ fn further_came(
         → refusal forwarder.old.link d ≡ None
         → (is_restart forwarder.old.link d ≡ false) × (is_over forwarder.old.link d ≡ false) }
     requires moment { IsMoment forwarder.old.moment }
+    requires places { forwarder.old.link.capacity
+        ≡ link_places forwarder.old.core.table.zero forwarder.old.core.table.one }
+    requires bare { is_synced forwarder.old.core.stage ≡ false → IsBare (shown_of forwarder.old) }
     ensures outcome { IfOk result (λ o. o
         ≡ outcome_heard (taking forwarder.old.link (reading bytes.now))) }
     ensures does { OnOk result (scene_on forwarder.new page.new
@@ -206,6 +212,7 @@ fn datagram_came(
     requires moment { IsMoment forwarder.old.moment }
     requires places { forwarder.old.link.capacity
         ≡ link_places forwarder.old.core.table.zero forwarder.old.core.table.one }
+    requires bare { is_synced forwarder.old.core.stage ≡ false → IsBare (shown_of forwarder.old) }
     ensures outcome { IfOk result (λ o. o
         ≡ outcome_heard (taking forwarder.old.link (reading bytes.now))) }
     ensures does { OnOk result (scene_on forwarder.new page.new
@@ -301,13 +308,8 @@ fn clock_ticked(
     Ok(Outcome::Done)
 }
 
-/// Handles a stop, or the end of the gateway, with this capacity.
 #[cold]
-fn stop_came(
-    forwarder: &mut Forwarder,
-    page: &mut OutputBuffer,
-    room: Room,
-) -> Result<Outcome, NoMemory>
+fn stop_came(forwarder: &mut Forwarder, page: &mut OutputBuffer) -> Result<Outcome, NoMemory>
     requires moment { IsMoment forwarder.old.moment }
     ensures outcome { IfOk result (λ o. o ≡ Done) }
     ensures does { OnOk result (Does (scene_on forwarder.old page.old) StopEvent
@@ -317,7 +319,25 @@ fn stop_came(
         ≡ scene_on forwarder.old page.old) }
     ensures lacks { OnErr result (LacksRoom both_routers forwarder.old page.old) }
 {
-    make_ready(forwarder, page, room, 0)?;
+    make_ready(forwarder, page, STOP_ROOM, 0)?;
+    take_stop(forwarder, page);
+    Ok(Outcome::Done)
+}
+
+/// Handles the end of the gateway as a stop, with capacity for its last note.
+#[cold]
+fn end_came(forwarder: &mut Forwarder, page: &mut OutputBuffer) -> Result<Outcome, NoMemory>
+    requires moment { IsMoment forwarder.old.moment }
+    ensures outcome { IfOk result (λ o. o ≡ Done) }
+    ensures does { OnOk result (Does (scene_on forwarder.old page.old) EndEvent
+        (scene_on forwarder.new page.new)) }
+    ensures datagrams { OnOk result (1 ≤ page.new.room.datagrams) }
+    ensures notes { OnOk result (1 ≤ page.new.room.notes) }
+    ensures err { OnErr result (scene_on forwarder.new page.new
+        ≡ scene_on forwarder.old page.old) }
+    ensures lacks { OnErr result (LacksRoom last_needs forwarder.old page.old) }
+{
+    make_ready(forwarder, page, LAST_ROOM, 0)?;
     take_stop(forwarder, page);
     Ok(Outcome::Done)
 }
@@ -366,6 +386,7 @@ fn take_event(
     ensures does { OnOk result (Does (scene_on forwarder.old page.old) event.entry
         (scene_on forwarder.new page.new)) }
     ensures datagrams { OnOk result (most_datagrams event.entry ≤ page.new.room.datagrams) }
+    ensures notes { OnOk result (last_notes event.entry ≤ page.new.room.notes) }
     ensures err { OnErr result (scene_on forwarder.new page.new
         ≡ scene_on forwarder.old page.old) }
     ensures lacks { OnErr result (Lacks event.entry forwarder.old page.old) }
@@ -375,8 +396,8 @@ fn take_event(
         Event::Frame(side, bytes) => frame_came(alloc, forwarder, page, side, bytes),
         Event::Datagram(bytes) => datagram_came(alloc, forwarder, page, bytes),
         Event::Tick(now) => clock_ticked(alloc, forwarder, page, now),
-        Event::Stop => stop_came(forwarder, page, STOP_ROOM),
-        Event::End => stop_came(forwarder, page, LAST_ROOM),
+        Event::Stop => stop_came(forwarder, page),
+        Event::End => end_came(forwarder, page),
         Event::PeerOff(boot) => word_came(alloc, forwarder, page, boot),
         Event::Side(side, up) => {
             plug(forwarder, side, up);
@@ -389,6 +410,7 @@ fn take_event(
 fn end_event(forwarder: &mut Forwarder, page: &mut OutputBuffer, event: Event<'_>)
     requires promised { length forwarder.old.core.coming ≡ forwarder.old.link.promised }
     requires datagrams { most_datagrams event ≤ page.old.room.datagrams }
+    requires notes { last_notes event ≤ page.old.room.notes }
     ensures { scene_on forwarder.new page.new
         ≡ ended_on event.entry (scene_on forwarder.old page.old) }
 {
@@ -452,10 +474,12 @@ pub(crate) fn step(
     ensures plugged { is_of_side event.entry ≡ true → IsOk result }
 {
     steps_go();
+    ends_go();
     steps_keep();
     steps_settle();
     steps_feed();
     steps_stay();
+    keeps_its_table();
     parts_stand();
     recall_event(event);
     recall_set_up(forwarder);

@@ -6,8 +6,8 @@ ghost use Rattle.spec_step.specs.Parts.{idle_taken};
 ghost use Rattle.spec_step.specs.Shown.{is_apart};
 ghost use Rattle.spec_step.specs.Steps.{Does, clock_after};
 ghost use Rattle.forwarder.specs.Forwarder.{scene_on, shown_of};
-ghost use Rattle.forwarder.specs.Room.{HasRoomFor, Spends};
-ghost use Rattle.gateway.specs.Rooms.{both_routers, idle_needs, tick_needs};
+ghost use Rattle.forwarder.specs.Room.{HasRoomFor};
+ghost use Rattle.gateway.specs.Rooms.{Uses, both_routers, idle_needs, tick_needs};
 ghost use Rattle.gateway.specs.Ticks.{TicksTo, is_apart_at, sought_taken};
 
 use crate::routers::{Cue, cue_both};
@@ -43,7 +43,7 @@ fn release_and_go_on(forwarder: &mut Forwarder, page: &mut OutputBuffer)
     ensures datagrams { page.new.room.datagrams ≡ page.old.room.datagrams }
     // A gateway that is apart notes no more pairs than the table had.
     ensures spends { is_apart (shown_of forwarder.old) ≡ true
-        → Spends (idle_needs forwarder.old) forwarder.old page.old forwarder.new page.new }
+        → Uses (idle_needs forwarder.old) forwarder.old page.old forwarder.new page.new }
     ensures kept { forwarder.new.kept ≡ forwarder.old.kept }
 {
     idle_at_once();
@@ -67,7 +67,7 @@ pub(crate) fn take_tick(forwarder: &mut Forwarder, page: &mut OutputBuffer, now:
     ensures datagrams { page.new.room.datagrams ≡ page.old.room.datagrams }
     ensures kept { length forwarder.new.kept ≤ length forwarder.old.kept }
     ensures spends { is_apart_at (shown_of forwarder.old) now ≡ true
-        → Spends (tick_needs forwarder.old) forwarder.old page.old forwarder.new page.new }
+        → Uses (tick_needs forwarder.old) forwarder.old page.old forwarder.new page.new }
 {
     forwarder.moment = clock_after(forwarder.moment, now);
     take_turn(forwarder, page);
@@ -83,6 +83,7 @@ pub(crate) fn take_stop(forwarder: &mut Forwarder, page: &mut OutputBuffer)
     ensures does { Does (scene_on forwarder.old page.old) StopEvent
         (scene_on forwarder.new page.new) }
     ensures datagrams { page.new.room.datagrams ≡ page.old.room.datagrams }
+    ensures notes { page.old.room.notes ≤ page.new.room.notes }
 {
     cue_both(forwarder, page, Cue::Stop);
     forwarder.stopped = true;

@@ -1,4 +1,5 @@
-use Rattle.std.proofs.Common.{◌+◌, length, drop, refl, sym, ap, ◌∙◌, arith}
+use Rattle.std.proofs.Common.{◌+◌, ◌*◌, length, drop, refl, sym, ap, ◌∙◌, arith}
+use Rattle.std.proofs.lemmas.List.{length-drop}
 use Rattle.nat_types.specs.declared.records.Record.{Record}
 use Rattle.link.specs.Link.{answers_count}
 use Rattle.spec_step.specs.Parts.{records_done}
@@ -12,13 +13,8 @@ loop-entry-init c = record {
   scene = refl;
   moment = refl;
   formed = c.requires.formed;
-  few = c.requires.few;
-  ready = c.requires.room.pairs;
   places = c.requires.places;
-  frames = c.requires.room.frames;
-  octets = omega (arith, c.requires.room.octets);
-  notes = c.requires.room.notes;
-  datagrams = refl;
+  spent = record { frames = omega arith; octets = omega arith; datagrams = refl; notes = omega arith; pairs = omega arith; entries = omega arith };
 }
 
 pub take_record-requires-clause-formed : goal.take_record-requires-clause-formed
@@ -39,15 +35,13 @@ take_record-requires-clause-places c =
 
 pub take_record-requires-clause-room : goal.take_record-requires-clause-room
 take_record-requires-clause-room c =
-    let e = ap (length {A = Record}) (next-at c.args.records.now c.loop-entry.entry-index c.entry-item.result c.loop-entry-test.true c.entry-item.is) in
-    let frames = c.loop-entry.invariant.frames in
-    let notes = c.loop-entry.invariant.notes in
-    let ready = c.loop-entry.invariant.ready in
+    let before = c.loop-entry-test.true in
+    let spent = c.loop-entry.invariant.spent in
     record {
-      frames = omega (arith, e, frames);
-      octets = omega (arith, c.loop-entry.invariant.octets);
-      notes = omega (arith, e, notes);
-      pairs = omega (arith, e, ready);
+      frames = omega (arith, before, spent.frames, c.requires.room.frames);
+      octets = omega (arith, spent.octets, c.requires.room.octets);
+      notes = omega (arith, before, spent.notes, c.requires.room.notes);
+      pairs = omega (arith, before, spent.pairs, c.requires.room.pairs);
     }
 
 pub loop-entry-preserved : goal.loop-entry-preserved
@@ -56,30 +50,25 @@ loop-entry-preserved c =
     let entry = c.entry-item.result in
     let rest = drop (i + 1) c.args.records.now in
     let e = next-at c.args.records.now i entry c.loop-entry-test.true c.entry-item.is in
-    let size = ap (length {A = Record}) e in
     let inv = c.loop-entry.invariant in
     let made = c.take_record.ensures in
     let formed = rw e at inv.formed in
-    let few = inv.few in
-    let ready = inv.ready in
     let places = inv.places in
-    let frames = inv.frames in
-    let notes = inv.notes in
-    let ready2 = made.spends.pairs in
-    let frames2 = made.spends.frames in
-    let notes2 = made.spends.notes in
     let more = count-more entry rest in
     let most = count-most rest in
     let counted = ap answers_count e in
+    let left = length-drop (i + 1) c.args.records.now in
     record {
       scene = ap (λ (s : GatewayAndOutput). records_done s rest) made.scene ∙ (sym (ap (records_done (scene_on c.loop-entry.forwarder c.loop-entry.page)) e) ∙ inv.scene);
       moment = made.moment ∙ inv.moment;
       formed = formed.1;
-      few = omega (arith, size, few);
-      ready = omega (arith, size, ready, ready2);
-      places = made.places (answers_count rest) (omega (arith, most, size, few)) (omega (arith, counted, more, places));
-      frames = omega (arith, size, frames, frames2);
-      octets = omega (arith, inv.octets, made.spends.octets);
-      notes = omega (arith, size, notes, notes2);
-      datagrams = made.spends.datagrams ∙ inv.datagrams;
+      places = made.places (answers_count rest) (omega (arith, most, left, c.requires.few)) (omega (arith, counted, more, places));
+      spent = record {
+        frames = omega (arith, inv.spent.frames, made.spends.frames);
+        octets = omega (arith, inv.spent.octets, made.spends.octets);
+        datagrams = made.spends.datagrams ∙ inv.spent.datagrams;
+        notes = omega (arith, inv.spent.notes, made.spends.notes);
+        pairs = omega (arith, inv.spent.pairs, made.spends.pairs);
+        entries = omega (arith, inv.spent.entries, made.spends.entries);
+      };
     }

@@ -1,5 +1,4 @@
-use Rattle.std.proofs.Common.{sym, ◌∙◌}
 use Rattle.gateway.proofs.steps.datagram_came.Goals as goal
 
 pub further_came-requires-clause-further : goal.further_came-requires-clause-further
-further_came-requires-clause-further c = λ d read. sym (c.may_restart.ensures.restarts d read) ∙ c.if-may_restart.false
+further_came-requires-clause-further c = λ d read passed. c.may_reset.ensures.restarts d read passed c.if-may_reset.false

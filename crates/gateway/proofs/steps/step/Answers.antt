@@ -1,8 +1,11 @@
-use Rattle.std.proofs.Common.{◌∙◌}
+use Rattle.std.proofs.Common.{◌≡◌, false, ◌∙◌}
+use Rattle.spec_binding.specs.Books.{is_synced}
 use Rattle.spec_step.specs.Steps.{IsStepOn}
 use Rattle.forwarder.specs.Forwarder.{scene_on}
+use Rattle.gateway.specs.Gateway.{IsBare}
 use Rattle.gateway.proofs.Lacking.{lacks-step}
 use Rattle.gateway.proofs.Lasting.{step-lasts}
+use Rattle.gateway.proofs.Quiet.{step-pushed, step-quiet}
 use Rattle.gateway.proofs.steps.step.Goals as goal
 
 pub returns-clause-gateway : goal.returns-clause-gateway
@@ -12,8 +15,12 @@ returns-clause-gateway c =
     let done = scene_on c.take_event.new.forwarder c.take_event.new.page in
     let s2 = scene_on c.end_event.new.forwarder c.end_event.new.page in
     let step : IsStepOn s c.args.event s2 = record { done = done; does = c.in_ok-outcome.ensures.does; sends = c.end_event.ensures } in
-    let go = c.steps_go.ensures s c.args.event s2 g.history step c.recall_event.ensures g.book g.lone g.bytes g.pushed in
-    let keep = c.steps_keep.ensures s c.args.event s2 g.history step c.recall_event.ensures g.book g.lone g.bytes g.pushed in
+    let go = step-pushed s c.args.event s2 g.history step
+        (λ further. c.steps_go.ensures s c.args.event s2 g.history step further c.recall_event.ensures g.book g.lone g.bytes g.settled g.pushed)
+        (λ ends. c.ends_go.ensures s s2 g.history ends g.book g.lone g.bytes g.settled g.pushed) in
+    let keep = c.steps_keep.ensures s c.args.event s2 g.history step c.recall_event.ensures g.book g.lone g.bytes g.settled g.pushed in
+    let bare : is_synced s.shown.ledger.book.stage ≡ false → IsBare s.shown = λ unsynced.
+        record { kept = (g.settled.bare unsynced).0; occupied = (g.settled.bare unsynced).1; acknowledged = g.quiet unsynced } in
     let lasts = step-lasts s c.args.event done s2 g.moment c.in_ok-outcome.ensures.does c.end_event.ensures in
     record {
       book = keep.0;
@@ -25,7 +32,8 @@ returns-clause-gateway c =
       places = rw (lasts.zero, lasts.one) (lasts.capacity ∙ g.places);
       house = rw (lasts.networks, lasts.inside, lasts.outside) g.house;
       settled = c.steps_settle.ensures.settled s c.args.event s2 step g.settled;
-      fed = c.steps_feed.ensures.step s c.args.event s2 g.history step c.recall_event.ensures g.book g.lone g.bytes g.pushed g.fed;
+      quiet = step-quiet s c.args.event s2 step bare (c.keeps_its_table.ensures s c.args.event s2 step);
+      fed = c.steps_feed.ensures.step s c.args.event s2 g.history step c.recall_event.ensures g.book g.lone g.bytes g.settled g.pushed g.fed;
     }
 
 pub returns-clause-stays : goal.returns-clause-stays

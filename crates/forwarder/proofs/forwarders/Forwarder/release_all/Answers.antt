@@ -64,5 +64,6 @@ loop-packet-preserved c =
       datagrams = c.take_again.ensures.spends.datagrams ∙ c.loop-packet.invariant.datagrams;
       notes = omega arith;
       ready = omega arith;
+      entries = omega (arith, count, c.take_again.ensures.spends.entries, c.loop-packet.invariant.entries);
       places = omega arith;
     }

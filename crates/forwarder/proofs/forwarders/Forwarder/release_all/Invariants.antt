@@ -14,5 +14,6 @@ invariant-loop-packet l = record {
   datagrams : l.page.room.datagrams ≡ l.fn.page.room.datagrams;
   notes : l.fn.page.room.notes ≤ l.page.room.notes + 3 * length l.yielded;
   ready : l.fn.self.core.table.ready ≤ l.self.core.table.ready + length l.yielded;
+  entries : length l.self.core.table.entries ≤ length l.fn.self.core.table.entries + length l.yielded;
   places : min 64 (free_places l.fn.self.link) ≤ free_places l.self.link;
 }

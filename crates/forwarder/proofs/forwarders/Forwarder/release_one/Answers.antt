@@ -24,6 +24,7 @@ returns-in-Some-clause-spends c =
       datagrams = again.datagrams;
       notes = again.notes;
       pairs = again.pairs;
+      entries = again.entries;
     }
 
 pub returns-in-None-clause-spends : goal.returns-in-None-clause-spends
@@ -35,4 +36,5 @@ returns-in-None-clause-spends c =
       datagrams = refl;
       notes = omega arith;
       pairs = omega arith;
+      entries = omega arith;
     }

@@ -6,9 +6,9 @@ pub invariant_of-result : goal.invariant_of-result
 invariant_of-result c =
     let settings = c.args.settings.now in (
       beginning-is settings c.args.id c.args.boot c.args.found _ (shown_of c.in_ok-forwarder.forwarder)
-          (c.beginnings.ensures.begun settings c.args.id c.args.boot c.begin.ensures.ranges) (c.beginnings.ensures.founded settings c.args.boot c.begin.ensures.ranges)
-          (c.beginnings_settle.ensures.begun settings c.args.id c.args.boot) (c.beginnings_settle.ensures.founded settings c.args.boot)
-          c.begin.ensures.placed c.begin.ensures.first c.in_ok-forwarder.ensures.shown,
-      id-is settings c.args.id c.args.boot c.args.found _ (shown_of c.in_ok-forwarder.forwarder) c.requires.found c.in_ok-forwarder.ensures.shown,
+          (c.beginnings.ensures.begun settings c.args.id c.args.boot c.begin.ensures.ranges) (c.beginnings.ensures.founded settings c.args.id c.args.boot c.begin.ensures.ranges)
+          (c.beginnings_settle.ensures.begun settings c.args.id c.args.boot) (c.beginnings_settle.ensures.founded settings c.args.id c.args.boot)
+          c.begin.ensures.placed c.in_ok-forwarder.ensures.shown,
+      id-is settings c.args.id c.args.boot c.args.found _ (shown_of c.in_ok-forwarder.forwarder) c.in_ok-forwarder.ensures.shown,
       c.longest_of-longest.ensures.fits,
     )
