@@ -212,11 +212,25 @@ impl AnyGateway for Gateway {
         let mut log = EventLog::new(Sink::new(lines, Format::Text), false, mappings);
         if orders.stops {
             serve(
-                self, wire, clock, &mut until, manager, state, &mut log, &mut options,
+                self,
+                wire,
+                clock,
+                &mut until,
+                manager,
+                state,
+                &mut log,
+                &mut options,
             )
         } else {
             let ending = run_rounds(
-                self, wire, clock, &mut until, manager, state, &mut log, &mut options,
+                self,
+                wire,
+                clock,
+                &mut until,
+                manager,
+                state,
+                &mut log,
+                &mut options,
             );
             log.finish(self.moment());
             ending

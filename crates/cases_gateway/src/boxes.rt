@@ -52,6 +52,7 @@ impl<G: AnyGateway> Boxes<G> {
     /// - `serves N M`, `serves - M`, with `told K` after it: the box runs N such rounds, or any number of them, until
     ///   the end signal comes after K; then it ends
     /// - `founds N`: the box, which is to found the pair, does so in boot N; `stays WHY`: it can't, and goes on as it was
+    /// - `listens M`, `listens M told K`: the box listens for the other one, by a clock that goes on by M centiseconds at each message
     /// - all else prepares the next rounds (`TestBox::prepare`)
     fn happen(&mut self, id: GatewayId, case: &mut Case) {
         match case.word() {
@@ -59,6 +60,10 @@ impl<G: AnyGateway> Boxes<G> {
             "off" => self.put(id, None),
             "rounds" | "serves" => self.run(id, case),
             "founds" => self.found(id, case),
+            "listens" => match self.at(id).as_mut() {
+                Some(found) => found.listen(case),
+                None => case.fault(),
+            },
             "stays" => match self.at(id).as_mut() {
                 Some(found) => found.stay(case),
                 None => case.fault(),

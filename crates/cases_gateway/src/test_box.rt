@@ -1,7 +1,7 @@
 //! A box whose wire is in memory.
 
 use crate::any_gateway::{AnyGateway, Orders};
-use crate::lines::Lines;
+use crate::lines::{EndAfter, Lines};
 use crate::managers::CountingManager;
 use crate::wires::{Datagram, Limit, MemoryWire, Outage, StepClock};
 use cases_words::Case;
@@ -9,7 +9,7 @@ use control::BootRefusal;
 use gateway::Secrets;
 use journal::{EventLog, Format, NotFounded, Sink};
 use nat_types::{GatewayId, Side};
-use rounds::{Ending, Identity, RoundState, Watch};
+use rounds::{Ending, Identity, Listened, RoundState, Watch, listen};
 use settings::Settings;
 use sockets::Place;
 use std::alloc::Global;
@@ -24,6 +24,7 @@ const DIGEST: u64 = 7;
 pub(crate) struct TestBox<G> {
     gateway: G,
     identity: Identity,
+    watch: Watch,
     state: RoundState,
     pub(crate) wire: MemoryWire,
     clock: StepClock,
@@ -72,13 +73,15 @@ impl<G: AnyGateway> TestBox<G> {
             values: settings.values(),
             digest: DIGEST,
         };
-        let Some(state) = gateway.state(alloc, identity, Watch::of(settings, id)) else {
+        let watch = Watch::of(settings, id);
+        let Some(state) = gateway.state(alloc, identity, watch) else {
             gateway.end();
             return None;
         };
         Some(TestBox {
             gateway,
             identity,
+            watch,
             state,
             wire: MemoryWire::new(alloc),
             clock: StepClock { now: 0, pace: 0 },
@@ -91,6 +94,7 @@ impl<G: AnyGateway> TestBox<G> {
         let TestBox {
             gateway,
             identity: _,
+            watch: _,
             state,
             wire,
             clock,
@@ -218,6 +222,21 @@ impl<G: AnyGateway> TestBox<G> {
             run.orders,
             &mut self.state,
         )
+    }
+
+    /// Listens as a box that is to found the pair as it starts, with a clock that goes on by so many centiseconds at each message.
+    pub(crate) fn listen(&mut self, case: &mut Case) {
+        let pace = case.number();
+        let mut clock = StepClock { now: 0, pace };
+        let mut until = EndAfter(told_in(case));
+        self.wire.begin(0);
+        match listen(&mut self.wire, &mut clock, &mut until, &self.watch) {
+            Listened::Nobody => case.put("  nobody"),
+            Listened::Peer(sighting) => case.say("  the other box: ", sighting),
+            Listened::Ended => case.put("  ended"),
+        }
+        case.end();
+        self.wire.show(case);
     }
 
     /// Goes on with a gateway that founds the pair in this boot, as it was told.

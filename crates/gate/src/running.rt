@@ -96,9 +96,7 @@ struct Server<'a, R> {
     log: BoxLog<'a, R>,
 }
 
-impl<
-    R: Files<File = File> + Clock + RandomSource + Eprint + Input + AllocGlobal,
-> Server<'_, R> {
+impl<R: Files<File = File> + Clock + RandomSource + Eprint + Input + AllocGlobal> Server<'_, R> {
     /// Whether the first gateway may begin: a box that is to found the pair listens first. False where the box is told to end
     /// meanwhile.
     ///
@@ -181,7 +179,13 @@ impl<
         output: &mut O,
     ) -> bool {
         let (id, moment) = (self.start.id, gateway.moment());
-        let begun = begin(self.rt, &mut self.disk, &self.settings, id, Beginning::Again);
+        let begun = begin(
+            self.rt,
+            &mut self.disk,
+            &self.settings,
+            id,
+            Beginning::Again,
+        );
         match begun {
             Ok((identity, founder)) => {
                 mem::replace(gateway, founder).end();

@@ -125,7 +125,10 @@ fn write_peer<W: fmt::Write>(f: &mut Formatter<W>, report: &Report) -> fmt::Resu
         Some(heard) => write!(f, "{}", Seconds(heard))?,
         None => f.write_str("null")?,
     }
-    write!(f, ",\"serves\":{serves},\"named\":{named},\"ends\":{ends}}}")
+    write!(
+        f,
+        ",\"serves\":{serves},\"named\":{named},\"ends\":{ends}}}"
+    )
 }
 
 /// Writes whether the box is apart, the time since when and in all, and how many pairs are private and were made alone.

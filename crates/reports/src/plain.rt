@@ -73,7 +73,11 @@ fn write_other_settings<W: fmt::Write>(
 /// Writes why the box has no table and for how long, where it has none.
 fn write_no_table<W: fmt::Write>(f: &mut Formatter<W>, report: &Report) -> fmt::Result {
     match report.no_table() {
-        Some(why) => writeln!(f, "table    none for {}: {why}", Span(report.gateway.uptime)),
+        Some(why) => writeln!(
+            f,
+            "table    none for {}: {why}",
+            Span(report.gateway.uptime)
+        ),
         None => Ok(()),
     }
 }

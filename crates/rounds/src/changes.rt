@@ -35,8 +35,8 @@ pub(crate) fn log_step<L: Journal>(
     after: &View,
 ) {
     let now = after.timestamp;
-    let has_stopped =
-        matches!(event, Event::Stop | Event::End) && !matches!(cause, Some(Cause::NoMemory));
+    let has_stopped = matches!(event, Event::Stop | Event::End)
+        && !matches!(cause, Some(Cause::NoMemory));
     if let Some(cause) = cause {
         log.write_dropped(now, origin_of(event), cause);
     }

@@ -132,6 +132,7 @@ pub fn run_rounds<W: Wire, C: CentisecondClock, U: EndSignal, M: Manager, L: Jou
     // A loop without an end that is proved to end.
     for _ in 0..u64::MAX {
         if state.is_ending || options.rounds == Some(0) || until.has_come() {
+            state.is_ending = false;
             return Ending::Ended;
         }
         if let Some(left) = options.rounds {

@@ -111,7 +111,11 @@ impl Sightings {
 
     /// Returns the time at which the gateway last heard the other one, unless that has ended since.
     pub(crate) fn heard(&self, gateway: &Gateway) -> Option<u64> {
-        if self.has_ended { None } else { gateway.heard() }
+        if self.has_ended {
+            None
+        } else {
+            gateway.heard()
+        }
     }
 
     /// Returns what was seen of the other box, as long as no virtual router would take over: a datagram before an

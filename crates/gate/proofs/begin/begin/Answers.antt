@@ -9,7 +9,7 @@ returns g c = record {
     rises = λ honest. (let is : c.next_boot.result ≡ Ok c.in_ok-boot.boot = search rules in
         subst (λ (r : Result ℕ BootFault). Rises (g.D.Disk.now c.args.disk.now) (g.D.Disk.now c.next_boot.new.disk) r) is (c.next_boot.ensures.rises honest));
     secrets = c.in_ok-secrets.secrets;
-    founds = c.if-found.found;
+    founds = c.founds-founded.result;
     begins = search rules;
   };
 }
