@@ -15,7 +15,7 @@ local MOST_PORTS = 16
 -- A session's records have the numbers below this one.
 local NUMBERS_END = UInt64.fromhex("8000000000000000")
 
-local STATUS = { [0] = "doesn't serve", [1] = "serves" }
+local STATUS = { [0] = "doesn't serve", [1] = "serves", [2] = "ends" }
 local PROTOCOLS = { [1] = "icmp", [6] = "tcp", [17] = "udp" }
 local TAGS = {
   [1] = "Install", [2] = "Accept", [3] = "Refuse", [4] = "Ask", [5] = "Yes", [6] = "No",
@@ -172,7 +172,7 @@ function Reader:header(tree)
   if self.fault then return 0 end
   self:test(sender:uint() <= 1, "a sender that is no gateway")
   self:test(boot:uint64() > 0, "boot 0")
-  self:test(status:uint() <= 1, "a status of another number")
+  self:test(status:uint() <= 2, "a status of another number")
   self:test(count:uint() <= MOST_RECORDS, "more than 64 records")
   self:test(first:uint64() > 0, "number 0")
   self:test(first:uint64() + count:uint() <= NUMBERS_END, "numbers behind the last one")
