@@ -1,5 +1,5 @@
 use Rattle.std.proofs.Common.{sym, subst, ap, ◌∙◌, arith}
-use Rattle.spec_binding.specs.Books.{Book, IsBook}
+use Rattle.spec_binding.specs.Books.{IsBook}
 use Rattle.spec_binding.specs.Ledgers.{Ledger}
 use Rattle.bind_core.proofs.Founding.{founder-book}
 use Rattle.bind_core.proofs.Performing.{ledger-parts}
