@@ -1,4 +1,4 @@
-use Rattle.std.proofs.Common.{◌≡◌, ◌-◌, ⊎_elim, length, take, drop, ◌∙◌, ap, arith}
+use Rattle.std.proofs.Common.{◌-◌, ⊎_elim, length, take, drop, ◌∙◌, ap, arith}
 use Rattle.std.proofs.lemmas.List.{length-map}
 use Rattle.boot_store.specs.Moment.{Moment, bytes_of}
 use Rattle.boot_file.proofs.Filling.{filled_more, filled_whole}
