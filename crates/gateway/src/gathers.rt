@@ -290,9 +290,7 @@ fn arrive(
         | Event::Stop
         | Event::End
         | Event::PeerOff(_)
-        | Event::Side(..) => {
-            Ok(Arrival::Plain)
-        }
+        | Event::Side(..) => { Ok(Arrival::Plain) }
     }
 }
 

@@ -34,7 +34,8 @@ use crate::datagrams::{take_first, take_further};
 use crate::ends::{end_gateway, end_other, end_tick};
 use crate::rooms::{
     END_ROOM, LAST_ROOM, MOST_PAIRS, OVER_ROOM, RECORD_PAIRS, STOP_ROOM, WAITING, apart_room,
-    last_list, list_for, make_ready, make_ready_for, records_room, restart_room, tick_room, word_room,
+    last_list, list_for, make_ready, make_ready_for, records_room, restart_room, tick_room,
+    word_room,
 };
 use crate::ticks::{is_apart_at, take_stop, take_tick};
 use crate::turns::plug;

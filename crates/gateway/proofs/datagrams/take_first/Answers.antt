@@ -70,9 +70,9 @@ end_where-requires-clause-known c =
     let items = c.as_slice.result.now in
     let met = founded_where (reset_where taken c.in-Ok.heard.restarted) founds in
     let same = c.take_records.ensures.scene
-        ∙ ap (λ (x : GatewayAndOutput). records_done x items) (c.found_where.ensures.scene ∙ ap (λ (x : GatewayAndOutput). founded_where x founds) c.reset_where.ensures.scene) in
+    ∙ ap (λ (x : GatewayAndOutput). records_done x items) (c.found_where.ensures.scene ∙ ap (λ (x : GatewayAndOutput). founded_where x founds) c.reset_where.ensures.scene) in
     let stays = stays-as taken.shown (records_done met items) (scene_on c.take_records.new.forwarder c.take_records.new.page) same
-        (stays-then taken.shown met.shown (records_done met items).shown (met-stays taken c.in-Ok.heard.restarted founds) (records-stay met items)) in
+    (stays-then taken.shown met.shown (records_done met items).shown (met-stays taken c.in-Ok.heard.restarted founds) (records-stay met items)) in
     omega (arith, stays.known, c.known_peer-boot.ensures)
 
 pub end_where-requires-clause-room : goal.end_where-requires-clause-room

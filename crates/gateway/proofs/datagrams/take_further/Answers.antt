@@ -47,8 +47,8 @@ take_records-requires-clause-room c =
     let fits = c.as_slice.ensures.fits in
     let spent = c.found_where.ensures.spends in
     let none : c.does_found-founds.result ≡ true → length c.as_slice.result.now ≡ 0 = λ on.
-        ap (length {A = Record}) c.as_slice.ensures.value
-        ∙ none-taken c.args.bytes.now g.link _ g.moment c.in-Ok.heard _ came.0 came.1 (founds-for g c.in-Ok.heard.lacking c.does_found-founds.result c.does_found-founds.ensures on).lacks in
+    ap (length {A = Record}) c.as_slice.ensures.value
+    ∙ none-taken c.args.bytes.now g.link _ g.moment c.in-Ok.heard _ came.0 came.1 (founds-for g c.in-Ok.heard.lacking c.does_found-founds.result c.does_found-founds.ensures on).lacks in
     record {
       frames = omega (arith, fits, spent.frames, c.requires.room.frames);
       octets = omega (arith, spent.octets, c.requires.room.octets);

@@ -16,11 +16,11 @@ returns-clause-gateway c =
     let s2 = scene_on c.end_event.new.forwarder c.end_event.new.page in
     let step : IsStepOn s c.args.event s2 = record { done = done; does = c.in_ok-outcome.ensures.does; sends = c.end_event.ensures } in
     let go = step-pushed s c.args.event s2 g.history step
-        (λ further. c.steps_go.ensures s c.args.event s2 g.history step further c.recall_event.ensures g.book g.lone g.bytes g.settled g.pushed)
-        (λ ends. c.ends_go.ensures s s2 g.history ends g.book g.lone g.bytes g.settled g.pushed) in
+    (λ further. c.steps_go.ensures s c.args.event s2 g.history step further c.recall_event.ensures g.book g.lone g.bytes g.settled g.pushed)
+    (λ ends. c.ends_go.ensures s s2 g.history ends g.book g.lone g.bytes g.settled g.pushed) in
     let keep = c.steps_keep.ensures s c.args.event s2 g.history step c.recall_event.ensures g.book g.lone g.bytes g.settled g.pushed in
     let bare : is_synced s.shown.ledger.book.stage ≡ false → IsBare s.shown = λ unsynced.
-        record { kept = (g.settled.bare unsynced).0; occupied = (g.settled.bare unsynced).1; acknowledged = g.quiet unsynced } in
+    record { kept = (g.settled.bare unsynced).0; occupied = (g.settled.bare unsynced).1; acknowledged = g.quiet unsynced } in
     let lasts = step-lasts s c.args.event done s2 g.moment c.in_ok-outcome.ensures.does c.end_event.ensures in
     record {
       book = keep.0;
