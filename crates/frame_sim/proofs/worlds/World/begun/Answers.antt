@@ -1,7 +1,7 @@
 use Rattle.std.proofs.Common.{Bool, sym, subst}
 use Rattle.std.specs.Prelude.{IfOk}
 use Rattle.frame_sim.specs.Status.{IsNew}
-use Rattle.frame_sim.proofs.beginnings.World.begun.Goals as goal
+use Rattle.frame_sim.proofs.worlds.World.begun.Goals as goal
 
 pub returns-then-founded-clause-new : goal.returns-then-founded-clause-new
 unfolding IsNew
