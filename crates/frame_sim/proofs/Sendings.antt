@@ -11,7 +11,7 @@ use Rattle.link.specs.Grammar.{IsWellFormed, spelling}
 use Rattle.link.specs.Link.{IsLink}
 use Rattle.output.specs.Output.{Output}
 use Rattle.spec_step.specs.declared.events.Event.{Event}
-use Rattle.spec_step.specs.declared.events.Event.TheVariants.{Frame, Datagram, Tick, Stop, End, PeerOff, Side as SideIs}
+use Rattle.spec_step.specs.declared.events.Event.TheVariants.{Frame, Datagram as Comes, Tick, Stop, End, PeerOff, Side as SideIs}
 use Rattle.spec_binding.specs.Books.{IsBook}
 use Rattle.spec_step.specs.Machine.{GoesFurther, HasBytes, HasPushed, IsLoneRightly, KeepsBytes}
 use Rattle.spec_step.specs.Parts.{status_in}
@@ -70,7 +70,7 @@ end-sends go note most g new told told2 step book lone kept settled h pushed lin
 
 end-or-further : (event : Event) → (event ≡ End) ⊎ GoesFurther event
 end-or-further (Frame side bytes) = inr tt
-end-or-further (Datagram bytes) = inr tt
+end-or-further (Comes bytes) = inr tt
 end-or-further (Tick now) = inr tt
 end-or-further Stop = inr tt
 end-or-further End = inl refl

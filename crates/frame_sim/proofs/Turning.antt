@@ -195,7 +195,7 @@ founded-at : (w : World) (i : GatewayId) (n : ℕ) → HaveSameValues w.settings
 founded-at w Zero n same = founded-that w.settings w.settings Zero n refl refl
 founded-at w One n same = founded-that w.settings w.settings_one One n (range-zero w.settings w.settings_one same) (range-one w.settings w.settings_one same)
 
-ranges-by : PortBounds → PortBounds → Ranges
+abbrev ranges-by : PortBounds → PortBounds → Ranges
 ranges-by zero one = moving (λ p. in_either zero one p) (λ i. in_bounds (own_bounds i zero one))
 
 ranges-same : (settings settings_one : Settings) → HaveSameValues settings settings_one → ranges_of settings_one.ports ≡ ranges_of settings.ports

@@ -11,5 +11,5 @@ invariant_of-result c =
     let book = c.recall.ensures.gateway.shown.book in
     let zero = subst AreBounds (ap (λ (g : GatewayState). g.shown.ledger.book.zero) c.in_ok-gateway.ensures.begins ∙ founded-zero settings Zero 1) book.zero in
     let one = subst AreBounds (ap (λ (g : GatewayState). g.shown.ledger.book.one) c.in_ok-gateway.ensures.begins ∙ founded-one settings Zero 1) book.one in
-    rw (c.in_ok-gateway.ensures.begins, c.new.ensures, c.new-2.ensures.items, c.new-3.ensures.items)
+    rw (c.in_ok-gateway.ensures.begins, c.new.ensures.items, c.new-2.ensures, c.new-3.ensures.items)
     (founding-sound c.begins.ensures c.books_begin.ensures.founder c.beginnings_account.ensures.founded c.parts_stay_bytes.ensures.begun settings c.args.settings_one.now zero one c.requires.values)
