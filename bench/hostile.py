@@ -47,7 +47,7 @@ def make(seeds):
     faults = [fault for script in scripts for fault in script.faults]
     assert not faults, "\n".join(faults)
     planted = sum(script.plant() for script in scripts)
-    assert planted, "nowhere is a pair open"
+    assert planted, "nowhere is a pair open at a gateway that is synced"
     return scripts, planted
 
 
