@@ -25,14 +25,14 @@ def is_read(path):
 def owed(folder, name, path):
     """What a row prints; the status is another one where an event was refused."""
     is_founded, events = lines.read((folder / f"{name}.script").read_text())
-    world, audit = World(settings.read(path), is_founded), Audit(is_founded)
+    world, audit, passed = World(settings.read(path), is_founded), Audit(is_founded), 0
     for event in events:
         world.apply(event)
         audit.tell(world.notes)
-        assert audit.judge(world.tables()) is None, (name, world.count)
+        passed += audit.judge(world.tables()) is None
     world.end()
     status = 3 if any(outcome.startswith("refused") for outcome in world.outcomes) else 0
-    return "".join(line + "\n" for line in world.lines) + f"status {status}\naudit passed {world.count}\n"
+    return "".join(line + "\n" for line in world.lines) + f"status {status}\naudit passed {passed}\n"
 
 
 def agree(folder, said):
