@@ -6,7 +6,8 @@
     bench/hostile.py --seeds 7 40    the scripts of some seeds alone
     bench/hostile.py --show 7        what `natpair sim` owes for a script, to hold against what it prints
     bench/hostile.py --check         whether the gate's scripts and its stdout are as owed; builds nothing. The worked rows,
-                                     which come from outside, are held against the second reading as far as it reads them
+                                     which come from outside, are held against the second reading as far as it reads them,
+                                     and all of crates/cases_eras
     bench/hostile.py --write         writes these, but for the worked rows
 
 The second reading is crates/cases_hostile/second_reading: Python, of the rules as docs/ and the standards have
@@ -23,7 +24,8 @@ import subprocess
 import sys
 import tempfile
 
-CRATE = pathlib.Path(__file__).resolve().parent.parent / "crates" / "cases_hostile"
+CRATES = pathlib.Path(__file__).resolve().parent.parent / "crates"
+CRATE, ERAS = CRATES / "cases_hostile", CRATES / "cases_eras"
 sys.path.insert(0, str(CRATE / "second_reading"))
 
 import audit  # noqa: E402
@@ -47,7 +49,7 @@ def make(seeds):
     faults = [fault for script in scripts for fault in script.faults]
     assert not faults, "\n".join(faults)
     planted = sum(script.plant() for script in scripts)
-    assert planted, "nowhere is a pair open"
+    assert planted, "nowhere is a pair open at a gateway that is synced"
     return scripts, planted
 
 
@@ -114,7 +116,8 @@ def check():
         made = {file.name: file.read_text() for file in pathlib.Path(name).iterdir()}
     kept = {name: (DATA / name).read_text() for name in made if (DATA / name).exists()}
     said, from_outside = rows.parted((CRATE / "stdout").read_text())
-    is_same = made == kept and owed(scripts) == said and rows.agree(DATA, from_outside)
+    agrees = rows.agree(DATA, from_outside) and rows.agree(ERAS / "data", (ERAS / "stdout").read_text())
+    is_same = made == kept and owed(scripts) == said and agrees
     print("as the second reading has it" if is_same else "NOT as the second reading has it: --write writes it")
     return is_same
 

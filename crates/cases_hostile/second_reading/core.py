@@ -9,16 +9,20 @@ from wire import ICMP, TCP, UDP
 class Core:
     """The table, and what is agreed of it over the link."""
 
-    def __init__(self, settings, number, is_founder, link, note):
+    def __init__(self, settings, number, link, note):
         self.number, self.link, self.note = number, link, note
         self.limit, self.choice, self.ahead = (settings[name] for name in ("host_limit", "choice", "ahead"))
         ranges = [set(range(first, last + 1)) for first, last in settings["ranges"]]
-        self.ranges = ranges[0] | ranges[1]
+        self.ranges, self.own_range = ranges[0] | ranges[1], ranges[number]
         self.table = Table()
-        self.synced = self.lone = is_founder
-        self.wants, self.loading, self.named = False, None, set()
-        if is_founder:
-            self.table.owned = ranges[0]
+        self.synced = self.lone = self.wants = False
+        self.loading, self.named = None, set()
+
+    def found(self):
+        """The pair begins anew here: no pair, the ports of the own range, and nobody else has a table."""
+        self.empty()
+        self.table.owned = set(self.own_range)
+        self.synced = self.lone = True
 
     def look(self, endpoint):
         """What a packet from this endpoint meets: an entry that translates, `wait`, `new`, or a reason."""
@@ -210,6 +214,11 @@ class Core:
             self.empty()
             return []
         revived = self.revive()
+        self.push_all()
+        return revived
+
+    def push_all(self):
+        """The whole table is sent, and from here on each pair is agreed."""
         self.lone = False
         self.link.push((BEGIN,))
         for first, last in self.table.runs():
@@ -219,10 +228,9 @@ class Core:
             self.link.push((TELL if entry.endpoint in seen else PUT, entry.pair))
             seen.add(entry.endpoint)
         self.link.push((DONE,))
-        return revived
 
     def peer_off(self, boot, now):
-        """The operator's word."""
+        """The peer's boots up to this one are off: the operator says so, or the peer itself as it ends."""
         self.link.close(boot)
         revived = self.revive()
         self.lone = True

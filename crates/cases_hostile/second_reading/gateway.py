@@ -6,7 +6,7 @@ import fragments
 import router
 import wire
 from core import Core
-from link import Bad, Link
+from link import ENDS, SERVES, UNSYNCED, Bad, Datagram, Link
 from table import DOOMED, HELD, LIVE
 
 SIDES = ("inside", "outside")
@@ -59,10 +59,11 @@ class Gateway:
         self.sides = {name: Side(settings, number, name) for name in SIDES}
         ports = sum(last - first + 1 for first, last in settings["ranges"])
         self.link = Link(number, boot, 6 * ports + 66, settings["values"])
-        self.core = Core(settings, number, is_founder, self.link, self.note)
+        self.core = Core(settings, number, self.link, self.note)
         self.waiting, self.cuts = [], 0
         self.clear()
         if is_founder:
+            self.core.found()
             self.start_routers()
 
     def clear(self):
@@ -81,9 +82,17 @@ class Gateway:
         kind, words = event[0], event[1:]
         outcome = getattr(self, "take_" + kind)(*words)
         is_whole = all(side.is_whole(self.now) for side in self.sides.values())
+        status = SERVES if self.core.synced and is_whole else UNSYNCED
         if self.link.due(self.now, kind == "tick"):
-            self.datagrams.append(self.link.datagram(int(self.core.synced and is_whole)))
+            self.datagrams.append(self.link.datagram(status))
         return outcome
+
+    def end(self):
+        """Its last step: both routers stop, and the other gateway is told, with the records that are due."""
+        self.clear()
+        self.stop_routers()
+        self.datagrams.append(self.link.datagram(ENDS))
+        self.note("Crashed", None)
 
     # Events
 
@@ -110,13 +119,29 @@ class Gateway:
         return "done"
 
     def take_datagram(self, octets):
-        was_synced = self.core.synced
         try:
-            is_new, records = self.link.take(octets, self.now)
+            said = Datagram(octets)
+            is_new, records = self.link.take(said, self.now)
         except Bad:
             return 16
         if is_new:
             self.take_again(self.core.peer_restarted())
+        if self.number == 0 and not self.core.synced and said.lacks_table(self.link.boot):
+            self.found()
+        self.take_records(records)
+        if self.core.synced and said.ends(self.link.boot):
+            self.take_again(self.core.peer_off(said.boot, self.now))
+        return "done"
+
+    def found(self):
+        """Neither gateway has a table: the pair begins anew here, and the other one is loaded."""
+        self.core.found()
+        self.note("Founded", None)
+        self.begin_serving()
+        self.core.push_all()
+
+    def take_records(self, records):
+        was_synced = self.core.synced
         for record in records:
             if self.link.answers_no(record):
                 break
@@ -125,7 +150,6 @@ class Gateway:
             if self.core.synced and not was_synced:
                 was_synced = True
                 self.begin_serving()
-        return "done"
 
     def begin_serving(self):
         if not self.is_stopped and not self.is_away:

@@ -8,6 +8,8 @@ from audit import Audit, planted
 from maker import Maker
 from told import digest
 
+# Of each so many scripts one begins with nobody up.
+NOBODY_UP = 7
 OF_MOST, OF_A_FIFTH = ("few", "many", "limited"), "drawn-few"
 SETTINGS = (*OF_MOST, OF_A_FIFTH)
 
@@ -22,9 +24,10 @@ class Script:
 
     def __init__(self, seed, folder):
         self.seed, self.settings = seed, settings_of(seed)
-        self.audit, self.faults = Audit(), []
+        is_founded = seed % NOBODY_UP > 0
+        self.audit, self.faults = Audit(is_founded), []
         self.counts = collections.Counter()
-        maker = Maker(seed, settings.read(folder / f"{self.settings}.toml"))
+        maker = Maker(seed, settings.read(folder / f"{self.settings}.toml"), is_founded)
         self.world = maker.world
         self.events = maker.made(self.watch)
 
@@ -47,7 +50,7 @@ class Script:
             self.counts["hairpins"] += 1
 
     def text(self):
-        return "".join(lines.written(event) + "\n" for event in self.events)
+        return lines.text_of(self.world.is_founded, self.events)
 
     def line(self):
         """What the program prints of it."""
@@ -60,10 +63,11 @@ class Script:
         )
 
     def plant(self):
-        """The second audit finds each fault that is planted behind this script; False where no pair is open there."""
-        if not self.audit.open:
+        """The second audit finds each fault that is planted behind this script; False where no pair is open there, or no
+        gateway synced."""
+        if not self.audit.open or not self.audit.is_anyone_synced():
             return False
-        planted(self.world.trace, self.world.tables())
+        planted(self.world.trace, self.world.tables(), self.world.is_founded)
         return True
 
 

@@ -9,6 +9,8 @@ WITH_PAIR, WITH_KEY, BARE = (INSTALL, PUT, TELL), (ACCEPT, REFUSE, ASK, YES, NO)
 ANSWERED = (INSTALL, ASK, WANT, TELL)
 LAST_NUMBER = 2**63 - 1
 VERSION = 4
+# What a sender says of itself: that it has a table and its sides are up, or not; or that it ends.
+UNSYNCED, SERVES, ENDS = range(3)
 
 
 def eight(value):
@@ -88,12 +90,20 @@ class Datagram:
         self.sender, self.boot, self.receiver = octets[3], number(octets[4:12]), number(octets[12:20])
         self.values, self.status = octets[20:38], octets[38]
         self.delivered, self.first, count = number(octets[39:47]), number(octets[47:55]), octets[55]
-        if self.boot == 0 or self.status > 1 or count > 64 or self.first == 0 or self.first + count > LAST_NUMBER + 1:
+        if self.boot == 0 or self.status > ENDS or count > 64 or self.first == 0 or self.first + count > LAST_NUMBER + 1:
             raise Bad
         reader = Reader(octets[56:])
         self.records = [reader.record() for _ in range(count)]
         if reader.octets:
             raise Bad
+
+    def lacks_table(self, boot):
+        """Whether its sender has no table, and has heard this boot of the one that takes it."""
+        return self.receiver == boot and self.status == UNSYNCED and self.first == 1 and not self.records
+
+    def ends(self, boot):
+        """Whether its sender has ended, and has heard this boot of the one that takes it."""
+        return self.receiver == boot and self.status == ENDS
 
 
 class Link:
@@ -130,11 +140,10 @@ class Link:
         return self.heard is not None and now - self.heard <= 300
 
     def peer_serves(self, now):
-        return self.hears(now) and self.peer_status == 1
+        return self.hears(now) and self.peer_status == SERVES
 
-    def take(self, octets, now):
+    def take(self, said, now):
         """Whether the peer has begun anew, and the records that are new. Bad where the datagram isn't taken."""
-        said = Datagram(octets)
         if said.sender == self.number or said.values != self.values:
             raise Bad
         if said.boot < self.known or said.boot <= self.closed:

@@ -20,8 +20,8 @@ STEPS = [(4, 1), (8, 10), (4, 37), (4, 100), (3, 300), (2, 364), (1, 6000), (1, 
 
 
 class Maker:
-    def __init__(self, seed, settings):
-        self.chance, self.world, self.events = Chance(seed), World(settings), []
+    def __init__(self, seed, settings, is_founded):
+        self.chance, self.world, self.events = Chance(seed), World(settings, is_founded), []
         self.heard = [0, 0]
         self.frames = []
         self.virtual = settings["outside"]["virtual"]
@@ -30,7 +30,10 @@ class Maker:
     def made(self, watch):
         """The events; `watch` sees the world behind each."""
         self.watch = watch
-        self.do("tick", 0, 360)
+        if self.world.is_founded:
+            self.do("tick", 0, 360)
+        else:
+            self.both_boot()
         while len(self.events) < LENGTH:
             self.chance.weighed(MOVES)(self)
         return self.events[:LENGTH]
@@ -237,10 +240,65 @@ class Maker:
 
     # Boxes
 
+    def leaver(self):
+        """A gateway that goes down: seldom the last one that has a table."""
+        first = self.box()
+        return first if self.is_synced(1 - first) or self.chance.below(4) == 0 else 1 - first
+
+    def is_synced(self, number):
+        box = self.world.boxes[number]
+        return bool(box) and box.core.synced
+
     def crash(self):
-        number = self.box()
+        number = self.leaver()
         self.do("crash", number)
         self.may_be_off(1 - number)
+
+    def end(self):
+        """A gateway ends; mostly the other one hears it, and sometimes twice, or what was sent before it."""
+        number = self.leaver()
+        self.do("end", number)
+        if self.chance.below(4):
+            self.deliver_newest(1 - number)
+        if self.chance.below(3) == 0:
+            self.deliver_late()
+
+    def all_end(self):
+        """Both are down, one behind the other; then both boot, or one founds the pair by its operator's word."""
+        first = self.box()
+        for number in (first, 1 - first):
+            if self.world.boxes[number]:
+                self.do(self.chance.one_of(["crash", "end"]), number)
+        if self.chance.below(3) == 0:
+            self.do("found", first, self.next_boot(first))
+            self.serve(first)
+        else:
+            self.both_boot()
+
+    def both_boot(self):
+        """Who is down boots, and they hear each other: where nobody had a table, gateway 0 mostly founds the pair."""
+        first = self.box()
+        for number in (first, 1 - first):
+            if not self.world.boxes[number]:
+                self.heard[number] = self.sent_to(number)
+                self.do("boot", number, self.next_boot(number))
+        for number in (0, 1, 0, 1):
+            self.do("tick", number, self.clock(number) + 10)
+            if self.chance.below(8):
+                self.deliver_newest(1 - number)
+        self.serve(0)
+
+    def serve(self, number):
+        """Time goes on until the routers of a gateway are Active, where no other one's are."""
+        self.do("tick", number, self.clock(number) + 364)
+
+    def next_boot(self, number):
+        return self.world.boots[number] + self.chance.weighed([(10, 1), (2, 5)])
+
+    def found(self):
+        """Mostly both are up, or one, and it is refused."""
+        number = self.box()
+        self.do("found", number, self.world.boots[number] + self.chance.weighed([(6, 1), (1, 0)]))
 
     def may_be_off(self, number):
         """Often the operator says so, where it is true."""
@@ -248,7 +306,10 @@ class Maker:
             self.do("peer-off", number, self.world.boots[1 - number])
 
     def boot(self):
-        """A gateway that is down comes up, mostly by a greater number, and mostly they talk."""
+        """A gateway that is down comes up, mostly by a greater number, and mostly they talk. Where nobody has a table, mostly
+        both come up."""
+        if not self.is_synced(0) and not self.is_synced(1) and self.chance.below(4):
+            return self.both_boot()
         down = [number for number in (0, 1) if self.world.boxes[number] is None]
         if not down and self.chance.below(6):
             return
@@ -273,9 +334,10 @@ class Maker:
 
 
 MOVES = [
-    (30, Maker.outward), (18, Maker.inward), (14, Maker.both_ways), (12, Maker.hairpin), (5, Maker.error_inward),
+    (40, Maker.outward), (20, Maker.inward), (20, Maker.both_ways), (16, Maker.hairpin), (5, Maker.error_inward),
     (5, Maker.error_outward), (10, Maker.broken), (4, Maker.again), (6, Maker.arp), (5, Maker.advert),
     (9, Maker.tick), (2, Maker.tick_back), (10, Maker.deliver_next), (8, Maker.deliver_newest), (6, Maker.deliver_late),
-    (1, Maker.deliver_none), (9, Maker.talk), (4, Maker.grow_old), (3, Maker.crash), (9, Maker.boot),
-    (1, Maker.peer_off), (2, Maker.side), (1, Maker.stop), (5, Maker.cross),
+    (1, Maker.deliver_none), (9, Maker.talk), (4, Maker.grow_old), (2, Maker.crash), (10, Maker.boot),
+    (1, Maker.peer_off), (2, Maker.side), (1, Maker.stop), (5, Maker.cross), (2, Maker.end), (1, Maker.all_end),
+    (1, Maker.found),
 ]

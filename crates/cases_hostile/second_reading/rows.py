@@ -5,6 +5,7 @@ import tomllib
 
 import lines
 import settings
+from audit import Audit
 from world import World
 
 
@@ -22,12 +23,16 @@ def is_read(path):
 
 
 def owed(folder, name, path):
-    """What a row prints."""
-    world = World(settings.read(path))
-    for event in lines.read((folder / f"{name}.script").read_text()):
+    """What a row prints; the status is another one where an event was refused."""
+    is_founded, events = lines.read((folder / f"{name}.script").read_text())
+    world, audit, passed = World(settings.read(path), is_founded), Audit(is_founded), 0
+    for event in events:
         world.apply(event)
+        audit.tell(world.notes)
+        passed += audit.judge(world.tables()) is None
     world.end()
-    return "".join(line + "\n" for line in world.lines) + f"status 0\naudit passed {world.count}\n"
+    status = 3 if any(outcome.startswith("refused") for outcome in world.outcomes) else 0
+    return "".join(line + "\n" for line in world.lines) + f"status {status}\naudit passed {passed}\n"
 
 
 def agree(folder, said):

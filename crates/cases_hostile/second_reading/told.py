@@ -12,7 +12,7 @@ def shown(pair):
 
 def words_of(name, what):
     """What stands behind a note's name: a pair, a boot, or nothing."""
-    if name in ("Synced", "Crashed"):
+    if name in ("Synced", "Founded", "Crashed"):
         return ""
     return f" {what}" if name == "Booted" else f" {shown(what)}"
 

@@ -1,6 +1,7 @@
 """Two gateways, and the events of a script: the text that `sim` owes, event by event, and the tables behind each."""
 
 from gateway import Gateway
+from link import Bad, Datagram
 from told import outcome_text, pair_bytes, shown, step_bytes, truth, words_of
 
 class Refused(Exception):
@@ -11,10 +12,12 @@ BROKEN, NONE_SUCH = "1 PremiseBroken", "2 NoSuchDatagram"
 
 
 class World:
-    def __init__(self, settings):
-        self.settings = settings
-        self.boxes = [Gateway(settings, 0, 1, True), None]
-        self.boots = [1, 0]
+    """It begins with gateway 0 founded, or with nobody up."""
+
+    def __init__(self, settings, is_founded=True):
+        self.settings, self.is_founded = settings, is_founded
+        self.boxes = [Gateway(settings, 0, 1, True) if is_founded else None, None]
+        self.boots = [int(is_founded), 0]
         self.sent = [[], []]
         self.trace, self.lines, self.count = [], [], 0
         self.told, self.outcomes = [], []
@@ -36,8 +39,12 @@ class World:
         name, number = event[0], event[1]
         if name == "boot":
             return self.boot(number, event[2])
+        if name == "found":
+            return self.found(number, event[2])
         if name == "crash":
             return self.crash(number)
+        if name == "end":
+            return self.end_box(number)
         if name == "peer-off":
             return self.peer_off(number, event[2])
         if name == "deliver":
@@ -45,6 +52,8 @@ class World:
             if not 1 <= event[2] <= len(sent):
                 raise Refused(NONE_SUCH)
             return self.step(number, ("datagram", sent[event[2] - 1]))
+        if name == "stray":
+            return self.stray(number, event[2])
         return self.step(number, (name, *event[2:]))
 
     def peer_off(self, number, boot):
@@ -57,25 +66,52 @@ class World:
         if not holds:
             raise Refused(BROKEN)
 
-    def boot(self, number, boot):
+    def boot(self, number, boot, is_founder=False):
         self.check(self.boxes[number] is None and boot > self.boots[number])
         self.boots[number] = boot
-        self.boxes[number] = Gateway(self.settings, number, boot, False)
-        self.tell_notes([(number, 0, "Booted", boot)])
+        self.boxes[number] = Gateway(self.settings, number, boot, is_founder)
+        founded = [(number, 0, "Founded", None)] if is_founder else []
+        self.tell_notes([(number, 0, "Booted", boot), *founded])
         return "done"
 
+    def found(self, number, boot):
+        """The pair begins anew with a gateway that starts, where nobody is up."""
+        self.check(self.boxes[1 - number] is None)
+        return self.boot(number, boot, True)
+
     def crash(self, number):
-        box, other = self.boxes[number], self.boxes[1 - number]
-        self.check(box and (not box.core.synced or (other and other.core.synced)))
+        box = self.boxes[number]
+        self.check(box)
         self.tell_notes([(number, box.now, "Crashed", None)])
         self.boxes[number] = None
         return "done"
+
+    def end_box(self, number):
+        box = self.boxes[number]
+        self.check(box)
+        box.end()
+        self.tell_all(number, box)
+        self.boxes[number] = None
+        return "done"
+
+    def stray(self, number, octets):
+        """A datagram that neither sent: it isn't one, or is of a box on other settings."""
+        try:
+            self.check(Datagram(octets).values != self.settings["values"])
+        except Bad:
+            pass
+        return self.step(number, ("datagram", octets))
 
     def step(self, number, event):
         box = self.boxes[number]
         if box is None:
             return "done"
         outcome = box.step(event)
+        self.tell_all(number, box)
+        return outcome_text(outcome)
+
+    def tell_all(self, number, box):
+        """What a gateway sends and notes in a step."""
         self.frames, self.datagrams = box.frames, box.datagrams
         for side, octets in box.frames:
             self.lines.append(f"frame {number} {side} {octets.hex()}")
@@ -83,7 +119,6 @@ class World:
             self.sent[number].append(octets)
             self.lines.append(f"link {number} {len(self.sent[number])} {octets.hex()}")
         self.tell_notes(box.notes)
-        return outcome_text(outcome)
 
     def tell_notes(self, notes):
         self.trace += notes

@@ -2,7 +2,7 @@
 
 use crate::gates::{Gate, Seen};
 use crate::tallies::{Run, Tally};
-use crate::telling::{digest_of, write_step};
+use cases_runs::{digest_of, write_step};
 use cases_words::Case;
 use gateway::{Event, Out, Outcome};
 use nat_types::{GatewayId, Side};

@@ -1,6 +1,6 @@
 //! The calls of a gateway that a vector needs.
 
-use crate::telling::write_pairs;
+use cases_runs::write_pairs;
 use cases_words::Case;
 use gateway::{Event, Gateway, Out, Outcome, Secrets};
 use nat_types::{EntryState, GatewayId, Pair, Side};

@@ -6,17 +6,13 @@
 mod benches;
 mod desks;
 mod gates;
-mod rows;
-mod runs;
 mod tallies;
-mod telling;
 
 use anyhow::Result;
+use cases_runs::{play_rows, play_scripts};
 use cases_words::{Case, play};
 use desks::Desk;
 use gateway::Gateway;
-use rows::Rows;
-use runs::Scripts;
 
 fn try_vectors(rt: &HostRuntime, case: &mut Case) -> Result<()> {
     let mut desk = Desk::<Gateway>::new(*rt);
@@ -27,8 +23,8 @@ fn try_vectors(rt: &HostRuntime, case: &mut Case) -> Result<()> {
 
 fn try_all(rt: &HostRuntime, case: &mut Case) -> Result<()> {
     try_vectors(rt, case)?;
-    play(rt, "scripts.list", Scripts { rt: *rt }, case)?;
-    play(rt, "rows.list", Rows { rt: *rt }, case)
+    play_scripts(rt, case)?;
+    play_rows(rt, case)
 }
 
 fn main(rt: HostRuntime) -> Result<()> {

@@ -8,7 +8,7 @@ use std::fmt::Display;
 use std::io::{self, Write};
 
 /// Returns the first 64 bits of the SHA-256 of bytes.
-pub(crate) fn digest_of(bytes: &[u8]) -> u64 {
+pub fn digest_of(bytes: &[u8]) -> u64 {
     let mut hasher = Sha256::new();
     hasher.update(bytes);
     let hash = hasher.finalize();
@@ -19,7 +19,7 @@ pub(crate) fn digest_of(bytes: &[u8]) -> u64 {
 
 /// Writes an outcome by its word, and then a line for each thing that was output, where frames and datagrams have their
 /// bytes at the end. `pieces`: the frames as they go out.
-pub(crate) fn write_step(
+pub fn write_step(
     told: &mut Vec<u8>,
     outcome: Outcome,
     pieces: &[Piece],
@@ -69,7 +69,7 @@ fn write_notes(told: &mut Vec<u8>, notes: &[Note]) -> io::Result<()> {
 }
 
 /// Writes the pairs, a line each.
-pub(crate) fn write_pairs(told: &mut Vec<u8>, pairs: &[Pair]) -> io::Result<()> {
+pub fn write_pairs(told: &mut Vec<u8>, pairs: &[Pair]) -> io::Result<()> {
     for pair in pairs {
         writeln!(told, "{pair}")?;
     }

@@ -1,14 +1,23 @@
-//! Worked rows of strangers and of single hosts, with all that they print.
+//! Worked rows, with all that they print.
 
 use crate::runs::{Told, run_texts, text_at};
-use cases_words::{Actor, Case};
+use anyhow::Result;
+use cases_words::{Actor, Case, play};
 use faults::{TextFile, report};
 use simulation::{Progress, run_sim};
 
+/// Does each line of `rows.list`: `NAME SETTINGS`, a worked row and its settings.
+///
+/// # Errors
+/// The file can't be read, or a line is wrong: the error has the first such line.
+pub fn play_rows(rt: &HostRuntime, case: &mut Case) -> Result<()> {
+    play(rt, "rows.list", Rows { rt: *rt }, case)
+}
+
 /// The worked rows.
 #[derive(Drop)]
-pub(crate) struct Rows {
-    pub(crate) rt: HostRuntime,
+struct Rows {
+    rt: HostRuntime,
 }
 
 impl Actor for Rows {

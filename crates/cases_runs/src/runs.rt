@@ -2,7 +2,7 @@
 
 use crate::telling::{digest_of, write_pairs, write_refusal, write_step};
 use anyhow::Result;
-use cases_words::{Actor, Case};
+use cases_words::{Actor, Case, play};
 use faults::{Fault, TextFile};
 use frame_sim::{AuditFault, Step, World, audit};
 use gateway::Outcome;
@@ -13,9 +13,17 @@ use std::alloc::Global;
 use std::fs;
 use std::io::{self, ErrorKind, Write};
 
+/// Does each line of `scripts.list`: `NAME SETTINGS`, a script and its settings.
+///
+/// # Errors
+/// The file can't be read, or a line is wrong: the error has the first such line.
+pub fn play_scripts(rt: &HostRuntime, case: &mut Case) -> Result<()> {
+    play(rt, "scripts.list", Scripts { rt: *rt }, case)
+}
+
 #[derive(Drop)]
-pub(crate) struct Scripts {
-    pub(crate) rt: HostRuntime,
+struct Scripts {
+    rt: HostRuntime,
 }
 
 impl Actor for Scripts {
