@@ -56,7 +56,7 @@ fn fault_named(rt: &HostRuntime, name: &str) -> Option<Fault> {
         )),
         "busy" => Some(file(alloc, FileRefusal::NoFile(ErrorKind::ResourceBusy))),
         "not-synced" => Some(Fault::NotSynced),
-        "start-seen" => Some(Fault::PeerSeen(seen(Sign::Datagram))),
+        "seen-at-start" => Some(Fault::PeerSeen(seen(Sign::Datagram))),
         "no-text" => Some(Fault::filter(alloc, FilterFault::NotText)),
         "other-version" => Some(Fault::NoReport(ReadFault::OtherVersion(9))),
         "bad-bytes" => Some(Fault::NoReport(ReadFault::BadBytes)),
