@@ -56,6 +56,7 @@ module _ (i : GatewayId) (a b b2 : Box) where
     goes = goes x.goes;
     private = private x.private;
     reborn = reborn;
+    unlacking = x.unlacking;
   }
 
 module _ (r : Ranges) where

@@ -1,5 +1,5 @@
 -- The invariant where the pair is founded: by an unsynced gateway that hears that the other lacks a table, or by a boot.
-use Rattle.std.proofs.Common.{◌≡◌, ℕ, Bool, true, false, cond, List, [], ◌∷◌, ◌<◌, ◌≤◌, Some, refl, sym, ap, ◌∙◌, inl, inr, arith, zero-le}
+use Rattle.std.proofs.Common.{◌≡◌, ℕ, suc, Bool, true, false, cond, List, [], ◌∷◌, ◌++◌, ◌+◌, ◌<◌, ◌≤◌, Option, None, Some, length, refl, sym, ap, ◌∙◌, subst, inl, inr, arith, zero-le}
 use Rattle.std.proofs.lemmas.Bool.{both_ways, cases_Bool, and_parts}
 use Rattle.nat_types.proofs.Offered.{same-self}
 use Rattle.nat_types.specs.Same.{other}
@@ -9,9 +9,9 @@ use Rattle.nat_types.specs.declared.notes.NoteKind.TheVariants.{Founded, Booted}
 use Rattle.nat_types.specs.declared.notes.Note.{Note}
 use Rattle.spec_trace.specs.Past.{is_synced}
 use Rattle.spec_pair.specs.Acts.{Found, BootFounding}
-use Rattle.spec_pair.specs.Box.{Box, In, Letter, bare, founder, founds, nth}
+use Rattle.spec_pair.specs.Box.{Box, In, Letter, bare, batch, empty, founder, founds, hears, nth}
 use Rattle.spec_pair.specs.Ownership.{Ranges, Run, own_ports}
-use Rattle.spec_pair.specs.Talk.{note, translated}
+use Rattle.spec_pair.specs.Talk.{MachineRecord, note, translated}
 use Rattle.spec_pair.specs.World.{Scene, Can, after_act}
 use Rattle.spec_pair.proofs.Acts.{same-not}
 use Rattle.spec_pair.proofs.Beside.{side_beside, side_later}
@@ -43,30 +43,64 @@ module _ (r : Ranges) where
     covers = λ off p o. absurd (cc);
   }
 
+  -- the box of a gateway that founds the pair, with this peer, these records pushed, and so many taken
+  abbrev founded : Box → ℕ → List MachineRecord → ℕ → Option ℕ → (ℕ → Bool) → Box
+  founded a peer sent taken promised owned = record {
+    up = a.up;
+    boot = a.boot;
+    synced = true;
+    lone = false;
+    peer = peer;
+    table = empty;
+    sent = sent;
+    taken = taken;
+    loading = false;
+    owned = owned;
+    wants = false;
+    named = 0;
+    promised = promised;
+  }
+
+  -- a gateway that has pushed and taken nothing founds the pair as one that was synced would hear a greater boot
+  as_heard : (i : GatewayId) (a b : Box) (mb : List Letter) (t : List Note) (boot : ℕ) (owned : ℕ → Bool) (os : List Run) (part : Bool)
+      → boot ≡ a.peer → a.sent ≡ [] → a.taken ≡ 0
+      → View r i (hears (record (bare a.up a.boot) { synced = true; owned = owned }) boot os [] part) b mb t → View r i (founds a owned os part) b mb t
+  as_heard i a b mb t boot owned os part at quiet none view =
+      let v1 : View r i (founded a a.peer (batch os []) 0 (cond part (Some (suc (length os + 0))) None) owned) b mb t =
+          subst (λ (p : ℕ). View r i (founded a p (batch os []) 0 (cond part (Some (suc (length os + 0))) None) owned) b mb t) at view in
+      let v2 : View r i (founded a a.peer (batch os []) 0 (cond part (Some (0 + suc (length os))) None) owned) b mb t =
+          subst (λ (n : ℕ). View r i (founded a a.peer (batch os []) 0 (cond part (Some n) None) owned) b mb t) (let same : suc (length os + 0) ≡ 0 + suc (length os) = omega arith in same) v1 in
+      let v3 : View r i (founded a a.peer (a.sent ++ batch os []) 0 (cond part (Some (length a.sent + suc (length os))) None) owned) b mb t =
+          subst (λ (x : List MachineRecord). View r i (founded a a.peer (x ++ batch os []) 0 (cond part (Some (length x + suc (length os))) None) owned) b mb t) (sym quiet) v2 in
+      subst (λ (n : ℕ). View r i (founded a a.peer (a.sent ++ batch os []) n (cond part (Some (length a.sent + suc (length os))) None) owned) b mb t) (sym none) v3
+
   pub inv_found : (moment : ℕ) (i : GatewayId) (s : Scene) (l : Letter) (os : List Run) (part : Bool) → Inv r i s → Can r i s (Found l os part) → Inv r i (after_act r i moment s (Found l os part))
   inv_found moment i s l os part v can =
       let here : Side r i s.mine s.theirs s.my_mail s.their_mail s.trace = v.here in
       let there : Side r (other i) s.theirs s.mine s.their_mail s.my_mail s.trace = v.there in
       let up : s.mine.up ≡ true = can.0.1 in
       let sa : s.mine.synced ≡ false = can.0.2 in
-      let low : s.mine.peer ≤ l.boot = can.0.4 in
+      let at : l.boot ≡ s.mine.peer = can.0.4 in
       let for_me : l.to ≡ s.mine.boot = can.0.5 in
       let sent : In l s.their_mail = can.1 l (inl refl) in
       let lack : (s.theirs.synced ≡ false) × ((m : Letter) → In m s.their_mail → m.to ≡ s.mine.boot → l.boot ≤ m.boot → m.records ≡ []) = here.lacks can.0.0 up sa l sent for_me can.0.3 in
       let sb : s.theirs.synced ≡ false = lack.0 in
-      let a2 : Box = founds s.mine l.boot (own_ports r i) os part in
-      let t2 : List Note = note i moment Founded ∷ s.trace in
       let out : is_synced (other i) (note i moment Founded ∷ s.trace) ≡ s.theirs.synced = ap (λ b. cond b true (is_synced (other i) s.trace)) (same-not i) ∙ there.synced_is in
       let fresh : s.theirs.up ≡ true → Fresh s.theirs = λ u. elim (there.awaits sb u) [
         | inl w ↦ w.fresh (λ z. flag s.mine.synced z sa)
         | inr o ↦ let less : l.to < s.mine.boot = (o.left.reborn up).unsaid l sent in absurd (omega (arith, less, for_me))
       ] in
-      let view : View r i (founds s.mine l.boot (own_ports r i) os part) s.theirs s.their_mail (note i moment Founded ∷ s.trace) = view_heard r i (record (bare s.mine.up s.mine.boot) { synced = true; owned = own_ports r i }) s.theirs s.their_mail (note i moment Founded ∷ s.trace) l.boot os [] part
+      let new : Fresh s.mine = elim (here.awaits sa up) [
+        | inl w ↦ w.fresh (λ z. flag s.theirs.synced z sb)
+        | inr o ↦ let later : o.source.boot < l.boot = o.left.unlacking can.0.0 l sent for_me can.0.3 in let most : s.mine.peer ≤ o.source.boot = o.left.peer_at in absurd (omega (arith, later, most, at))
+      ] in
+      let heard : View r i (hears (record (bare s.mine.up s.mine.boot) { synced = true; owned = own_ports r i }) l.boot os [] part) s.theirs s.their_mail (note i moment Founded ∷ s.trace) = view_heard r i (record (bare s.mine.up s.mine.boot) { synced = true; owned = own_ports r i }) s.theirs s.their_mail (note i moment Founded ∷ s.trace) l.boot os [] part
       (known_new moment i s.mine.up s.mine.boot s.theirs s.trace) can.0.6 can.0.7 tt (λ k. refl)
-      (λ m inside at to. lack.1 m inside to (omega (arith, at)))
+      (λ m inside is to. lack.1 m inside to (omega (arith, is)))
       sb
       (out ∙ sb)
       (λ u p. fresh u) in
+      let view : View r i (founds s.mine (own_ports r i) os part) s.theirs s.their_mail (note i moment Founded ∷ s.trace) = as_heard i s.mine s.theirs s.their_mail (note i moment Founded ∷ s.trace) l.boot (own_ports r i) os part at (here.quiet sa) new.taken heard in
       record {
         one_port = (tt, v.one_port);
         one_endpoint = (tt, v.one_endpoint);
@@ -82,16 +116,16 @@ module _ (r : Ranges) where
           letters = λ u alone m inside boot to n q h. let bad : nth [] n ≡ Some q = ap (λ x. nth x n) (sym (here.mute up sa m inside boot)) ∙ h in absurd (cc);
           barred = λ k p m inside boot to n q h. let bad : nth [] n ≡ Some q = ap (λ x. nth x n) (sym (here.mute up sa m inside boot)) ∙ h in absurd (cc);
           boots = here.boots;
-          known = λ u m inside boot. let le : m.to ≤ s.mine.peer = here.known up m inside boot in omega (arith, low, le);
-          peer_at = (there.boots l sent).0;
-          later = λ z m inside to more. lack.1 m inside to (omega (arith, more));
+          known = λ u. here.known up;
+          peer_at = here.peer_at;
+          later = λ z m inside to more. lack.1 m inside to (omega (arith, more, at));
           quiet = λ z. absurd (cc);
           mute = λ u z. absurd (cc);
           lacks = λ z u y. absurd (cc);
           state = λ z. inr view;
           awaits = λ z u. absurd (cc);
         };
-        there = side_beside r (other i) s.theirs s.mine (founds s.mine l.boot (own_ports r i) os part) s.their_mail s.my_mail s.trace (note i moment Founded ∷ s.trace) there refl
+        there = side_beside r (other i) s.theirs s.mine (founds s.mine (own_ports r i) os part) s.their_mail s.my_mail s.trace (note i moment Founded ∷ s.trace) there refl
             out
             (λ z. flag s.theirs.synced z sb)
             (λ z. flag s.theirs.synced z sb)

@@ -155,6 +155,8 @@ pub record Leaves (i : GatewayId) (source a b : Box) (my_mail their_mail : List 
   pub goes : GoesAt i a.table t
   pub private : PrivateAt i a.table t
   pub reborn : b.up ≡ true → Reborn (other i) source b my_mail t
+  -- whoever told gateway 0 that it lacks a table was in a later boot
+  pub unlacking : i ≡ Zero → (l : Letter) → In l their_mail → l.to ≡ a.boot → IsLacking l → source.boot < l.boot
 
 module _ (r : Ranges) where
   -- Where the ports are. The ghost owner says of each key whose it is, also while its port is on its way or lost, where

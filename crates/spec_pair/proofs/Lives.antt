@@ -161,6 +161,7 @@ module _ (r : Ranges) where
                   goes = w.goes sa;
                   private = private_gone moment (other i) i b.table t (w.private sa);
                   reborn = λ x. absurd (cc);
+                  unlacking = λ z l inside to k. absurd_flag a.synced sa (there.lacks z up off l inside to k).0;
                 };
               }
             ]
@@ -340,6 +341,7 @@ module _ (r : Ranges) where
           goes = goes_quiet i s.mine.table empty s.trace o.left.goes (λ q. ap translated (sym (f.table q)));
           private = private_quiet i s.mine.table empty s.trace o.left.private (λ q. ap alone_in (sym (f.table q)));
           reborn = o.left.reborn;
+          unlacking = o.left.unlacking;
         };
       }
 

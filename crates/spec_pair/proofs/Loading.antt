@@ -246,6 +246,7 @@ module _ (r : Ranges) where
           private = private_there s.theirs.table y.private;
           unsaid = y.unsaid;
         };
+        unlacking = λ z l inside to k. left.unlacking z l inside (to ∙ boot) k;
       };
     }
   ]

@@ -84,6 +84,7 @@ module _ (r : Ranges) where
             | inr old ↦ y.unsaid l old
           ];
         };
+        unlacking = o.left.unlacking;
       };
     }
 
@@ -174,6 +175,10 @@ module _ (r : Ranges) where
                 goes = o.left.goes;
                 private = o.left.private;
                 reborn = o.left.reborn;
+                unlacking = λ z l inside to k. elim inside [
+                  | inl e ↦ (let d : o.source.boot < a.boot = (o.left.reborn x.up).later in let f : l.boot ≡ a.boot = ap (λ (y : Letter). y.boot) e ∙ x.boot in omega arith)
+                  | inr old ↦ o.left.unlacking z l old to k
+                ];
               };
             }
       ]
