@@ -45,7 +45,7 @@ module _ (r : Ranges) where
   act-counted i s (HearAnew l) can h n ends = omega arith
   act-counted i s (PeerOff number back) can h n ends = omega arith
   act-counted i s (PeerEnds l back) can h n ends = omega arith
-  act-counted i s (Found l os part) can h n ends = omega arith
+  act-counted i s (Found l os part) can h n ends = h n ends
   act-counted i s (LoadBegin l k) can h n ends = next-counted s.mine s.their_mail l k _ n (can.1 l (inl refl)) can.0.1 ends
   act-counted i s (LoadOwner l k first last) can h n ends = next-counted s.mine s.their_mail l k _ n (can.1 l (inl refl)) can.0.4 ends
   act-counted i s (LoadPut l k p) can h n ends = next-counted s.mine s.their_mail l k _ n (can.1 l (inl refl)) can.0.4 ends

@@ -1,5 +1,5 @@
 -- Runs over eras.
-use Rattle.std.proofs.Common.{◌≡◌, Bool, true, false, cond, [], ◌∷◌, ◌++◌, Some, None, refl, sym, ap, ◌∙◌, inl, inr, lit<, zero-le, arith}
+use Rattle.std.proofs.Common.{◌≡◌, Bool, true, false, cond, [], ◌∷◌, ◌++◌, Some, None, refl, sym, ap, ◌∙◌, inl, inr, lit<, arith}
 use Rattle.nat_types.proofs.Offered.{key-false}
 use Rattle.nat_types.specs.Same.{same_key}
 use Rattle.nat_types.specs.declared.gateways.GatewayId.TheVariants.{Zero}
@@ -33,14 +33,17 @@ coming-allowed = (
         (
           (at_first, λ l h. absurd h, tt),
           (
-            ((refl, refl, refl, (refl, refl, refl), zero-le, refl, tt, fixed_leaves (in_run 20000 59999) range_of Zero), λ l h. elim h [ inl e ↦ inl e | inr b ↦ absurd b ], tt),
+            ((refl, refl, lit< tt), λ l h. elim h [ inl e ↦ inl e | inr b ↦ absurd b ], tt),
             (
-              (at_will, λ l h. absurd h, tt),
+              ((refl, refl, refl, (refl, refl, refl), refl, refl, tt, fixed_leaves (in_run 20000 59999) range_of Zero), λ l h. elim h [ inl e ↦ inl e | inr b ↦ absurd b ], tt),
               (
-                ((refl, record { up = refl; boot = refl; to = refl; number = refl; record_is = refl }), λ l h. elim h [ inl e ↦ inl e | inr b ↦ absurd b ], tt),
+                (at_will, λ l h. absurd h, tt),
                 (
-                  ((refl, refl, record { up = refl; boot = refl; to = refl; number = refl; record_is = refl }), λ l h. elim h [ inl e ↦ inl e | inr b ↦ absurd b ], tt),
-                  tt,
+                  ((refl, record { up = refl; boot = refl; to = refl; number = refl; record_is = refl }), λ l h. elim h [ inl e ↦ inl e | inr b ↦ absurd b ], tt),
+                  (
+                    ((refl, refl, record { up = refl; boot = refl; to = refl; number = refl; record_is = refl }), λ l h. elim h [ inl e ↦ inl e | inr b ↦ absurd b ], tt),
+                    tt,
+                  ),
                 ),
               ),
             ),
@@ -71,26 +74,29 @@ again-allowed = (
             (
               (at_first, λ l h. absurd h, tt),
               (
-                ((refl, refl, refl, (refl, refl, refl), zero-le, refl, tt, fixed_leaves (in_run 20000 59999) range_of Zero), λ l h. elim h [ inl e ↦ inl e | inr b ↦ absurd b ], tt),
+                ((refl, refl, lit< tt), λ l h. elim h [ inl e ↦ inl e | inr b ↦ absurd b ], tt),
                 (
-                  (at_will, λ l h. absurd h, tt),
+                  ((refl, refl, refl, (refl, refl, refl), refl, refl, tt, fixed_leaves (in_run 20000 59999) range_of Zero), λ l h. elim h [ inl e ↦ inl e | inr b ↦ absurd b ], tt),
                   (
-                    ((refl, record { up = refl; boot = refl; to = refl; number = refl; record_is = refl }), λ l h. elim h [ inl e ↦ inl e | inr b ↦ absurd b ], tt),
+                    (at_will, λ l h. absurd h, tt),
                     (
-                      ((refl, refl, record { up = refl; boot = refl; to = refl; number = refl; record_is = refl }), λ l h. elim h [ inl e ↦ inl e | inr b ↦ absurd b ], tt),
+                      ((refl, record { up = refl; boot = refl; to = refl; number = refl; record_is = refl }), λ l h. elim h [ inl e ↦ inl e | inr b ↦ absurd b ], tt),
                       (
-                        ((refl, refl, (refl, refl, λ x h. cc), refl), λ l h. absurd h, tt),
+                        ((refl, refl, record { up = refl; boot = refl; to = refl; number = refl; record_is = refl }), λ l h. elim h [ inl e ↦ inl e | inr b ↦ absurd b ], tt),
                         (
-                          (at_will, λ l h. absurd h, tt),
+                          ((refl, refl, (refl, refl, λ x h. cc), refl), λ l h. absurd h, tt),
                           (
-                            ((refl, refl, (refl, λ x h. cc), refl, record { up = refl; boot = refl; to = refl; number = refl; record_is = refl }), λ l h. elim h [ inl e ↦ inl e | inr b ↦ absurd b ], tt),
+                            (at_will, λ l h. absurd h, tt),
                             (
-                              (at_will, λ l h. absurd h, tt),
+                              ((refl, refl, (refl, λ x h. cc), refl, record { up = refl; boot = refl; to = refl; number = refl; record_is = refl }), λ l h. elim h [ inl e ↦ inl e | inr b ↦ absurd b ], tt),
                               (
-                                ((refl, refl, (false, refl), refl, record { up = refl; boot = refl; to = refl; number = refl; record_is = refl }), λ l h. elim h [ inl e ↦ inl e | inr b ↦ absurd b ], tt),
+                                (at_will, λ l h. absurd h, tt),
                                 (
-                                  ((refl, refl, refl, refl), λ l h. absurd h, tt),
-                                  tt,
+                                  ((refl, refl, (false, refl), refl, record { up = refl; boot = refl; to = refl; number = refl; record_is = refl }), λ l h. elim h [ inl e ↦ inl e | inr b ↦ absurd b ], tt),
+                                  (
+                                    ((refl, refl, refl, refl), λ l h. absurd h, tt),
+                                    tt,
+                                  ),
                                 ),
                               ),
                             ),
@@ -239,16 +245,19 @@ back-allowed = (
             (
               (at_first, λ l h. absurd h, tt),
               (
-                ((refl, refl, refl, (refl, refl, refl), zero-le, refl, ((lit< tt, omega arith, six_low), tt), λ p. rest_of (in_run 20000 20001 p) (in_run 40000 40003 p)), λ l h. elim h [ inl e ↦ inl e | inr b ↦ absurd b ], tt),
+                ((refl, refl, lit< tt), λ l h. elim h [ inl e ↦ inl e | inr b ↦ absurd b ], tt),
                 (
-                  (at_will, λ l h. absurd h, tt),
+                  ((refl, refl, refl, (refl, refl, refl), refl, refl, ((lit< tt, omega arith, six_low), tt), λ p. rest_of (in_run 20000 20001 p) (in_run 40000 40003 p)), λ l h. elim h [ inl e ↦ inl e | inr b ↦ absurd b ], tt),
                   (
-                    ((refl, record { up = refl; boot = refl; to = refl; number = refl; record_is = refl }), λ l h. elim h [ inl e ↦ inl e | inr b ↦ absurd b ], tt),
+                    (at_will, λ l h. absurd h, tt),
                     (
-                      ((refl, refl, (λ k. refl), (lit< tt, omega arith, six_low), record { up = refl; boot = refl; to = refl; number = refl; record_is = refl }), λ l h. elim h [ inl e ↦ inl e | inr b ↦ absurd b ], tt),
+                      ((refl, record { up = refl; boot = refl; to = refl; number = refl; record_is = refl }), λ l h. elim h [ inl e ↦ inl e | inr b ↦ absurd b ], tt),
                       (
-                        ((refl, refl, record { up = refl; boot = refl; to = refl; number = refl; record_is = refl }), λ l h. elim h [ inl e ↦ inl e | inr b ↦ absurd b ], tt),
-                        tt,
+                        ((refl, refl, (λ k. refl), (lit< tt, omega arith, six_low), record { up = refl; boot = refl; to = refl; number = refl; record_is = refl }), λ l h. elim h [ inl e ↦ inl e | inr b ↦ absurd b ], tt),
+                        (
+                          ((refl, refl, record { up = refl; boot = refl; to = refl; number = refl; record_is = refl }), λ l h. elim h [ inl e ↦ inl e | inr b ↦ absurd b ], tt),
+                          tt,
+                        ),
                       ),
                     ),
                   ),

@@ -67,11 +67,11 @@ module _ (r : Ranges) where
       → View r i (hears (record (bare a.up a.boot) { synced = true; owned = owned }) boot os [] part) b mb t → View r i (founds a owned os part) b mb t
   as_heard i a b mb t boot owned os part at quiet none view =
       let v1 : View r i (founded a a.peer (batch os []) 0 (cond part (Some (suc (length os + 0))) None) owned) b mb t =
-          subst (λ (p : ℕ). View r i (founded a p (batch os []) 0 (cond part (Some (suc (length os + 0))) None) owned) b mb t) at view in
+      subst (λ (p : ℕ). View r i (founded a p (batch os []) 0 (cond part (Some (suc (length os + 0))) None) owned) b mb t) at view in
       let v2 : View r i (founded a a.peer (batch os []) 0 (cond part (Some (0 + suc (length os))) None) owned) b mb t =
-          subst (λ (n : ℕ). View r i (founded a a.peer (batch os []) 0 (cond part (Some n) None) owned) b mb t) (let same : suc (length os + 0) ≡ 0 + suc (length os) = omega arith in same) v1 in
+      subst (λ (n : ℕ). View r i (founded a a.peer (batch os []) 0 (cond part (Some n) None) owned) b mb t) (let same : suc (length os + 0) ≡ 0 + suc (length os) = omega arith in same) v1 in
       let v3 : View r i (founded a a.peer (a.sent ++ batch os []) 0 (cond part (Some (length a.sent + suc (length os))) None) owned) b mb t =
-          subst (λ (x : List MachineRecord). View r i (founded a a.peer (x ++ batch os []) 0 (cond part (Some (length x + suc (length os))) None) owned) b mb t) (sym quiet) v2 in
+      subst (λ (x : List MachineRecord). View r i (founded a a.peer (x ++ batch os []) 0 (cond part (Some (length x + suc (length os))) None) owned) b mb t) (sym quiet) v2 in
       subst (λ (n : ℕ). View r i (founded a a.peer (a.sent ++ batch os []) n (cond part (Some (length a.sent + suc (length os))) None) owned) b mb t) (sym none) v3
 
   pub inv_found : (moment : ℕ) (i : GatewayId) (s : Scene) (l : Letter) (os : List Run) (part : Bool) → Inv r i s → Can r i s (Found l os part) → Inv r i (after_act r i moment s (Found l os part))

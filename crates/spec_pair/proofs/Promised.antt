@@ -1,5 +1,5 @@
 -- A promise never keeps back the first record of a session.
-use Rattle.std.proofs.Common.{◌≡◌, ℕ, Bool, true, false, suc, ◌≤◌, cond, List, [], ◌∷◌, None, Some, subst, arith}
+use Rattle.std.proofs.Common.{◌≡◌, ℕ, Bool, true, false, suc, ◌≤◌, ◌+◌, cond, List, [], ◌∷◌, None, Some, subst, arith}
 use Rattle.std.proofs.Math.Logic.{∥∥₁_elim}
 use Rattle.std.proofs.Props.{props}
 use Rattle.nat_types.specs.declared.gateways.GatewayId.{GatewayId}
@@ -17,10 +17,14 @@ part-free : (part : Bool) (n m : ℕ) → cond part (Some (suc n)) None ≡ Some
 part-free true n m h = let same_number : suc n ≡ m = cc in omega arith
 part-free false n m h = let bad : None ≡ Some m = h in absurd (cc)
 
+later-free : (part : Bool) (pushed n m : ℕ) → cond part (Some (pushed + suc n)) None ≡ Some m → 1 ≤ m
+later-free true pushed n m h = let same_number : pushed + suc n ≡ m = cc in omega arith
+later-free false pushed n m h = let bad : None ≡ Some m = h in absurd (cc)
+
 module _ (r : Ranges) where
   act-free : (i : GatewayId) (a : Box) (x : Act) → IsFree a → IsFree (box_after r i a x)
   act-free i a (Hear l back os ps part) h m e = part-free part _ m e
-  act-free i a (Found l os part) h m e = part-free part _ m e
+  act-free i a (Found l os part) h m e = later-free part _ _ m e
   act-free i a HandIn h m e = absurd (cc)
   act-free i a (HearAnew l) h m e = absurd (cc)
   act-free i a (PeerOff number back) h m e = absurd (cc)
