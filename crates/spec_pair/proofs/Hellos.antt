@@ -1,6 +1,6 @@
 -- Where a gateway hasn't heard the other's boot it may hear it; where both have heard, they are in one session, and where
 -- neither is synced then, gateway 0 may found the pair.
-use Rattle.std.proofs.Common.{◌≡◌, ℕ, ◌+◌, ◌<◌, ◌≤◌, Bool, true, false, nat_lt, inl, inr, List, [], ◌∷◌, take, drop, refl, ap, arith}
+use Rattle.std.proofs.Common.{◌≡◌, ℕ, ◌+◌, ◌<◌, ◌≤◌, Bool, true, false, nat_lt, inl, inr, List, [], ◌∷◌, take, drop, refl, sym, ap, arith}
 use Rattle.std.proofs.lemmas.Bool.{ltb-false}
 use Rattle.std.proofs.Math.Logic.{∥∥₁_elim}
 use Rattle.std.proofs.Props.{props}
@@ -105,11 +105,10 @@ module _ (r : Ranges) where
   pub it_founds : (s : Scene) (os : List Run) (part : Bool) → IsWorld r s → AreTogether s → s.mine.synced ≡ false → s.theirs.synced ≡ false → AreRising r.in_ranges 0 os → LeaveRest r Zero (own_ports r Zero) os → Can r Zero (hello_sent s) (Found (hello_of s) os part)
   it_founds s os part w t off out rising rest =
       let none : s.theirs.sent ≡ [] = ∥∥₁_elim (inv_world r s w) (hlevel (props)) (λ v. unpushed s v out) in
-      let low : s.mine.peer ≤ s.theirs.boot = (let known = t.known in omega arith) in
-      ((refl, t.up, off, (refl, ap (λ xs. take 1 (drop 0 xs)) none, refl), low, t.back, rising, rest), reads s, tt)
+      ((refl, t.up, off, (refl, ap (λ xs. take 1 (drop 0 xs)) none, refl), sym t.known, t.back, rising, rest), reads s, tt)
 
   pub it_is_synced : (moment : ℕ) (s : Scene) (os : List Run) (part : Bool) → (after_act r Zero moment (hello_sent s) (Found (hello_of s) os part)).mine.synced ≡ true
   it_is_synced moment s os part = refl
 
   pub founded_together : (moment : ℕ) (s : Scene) (os : List Run) (part : Bool) → AreTogether s → AreTogether (after_act r Zero moment (hello_sent s) (Found (hello_of s) os part))
-  founded_together moment s os part t = record { up = t.up; their_up = t.their_up; known = refl; back = t.back; together = λ z. refl; their_together = t.their_together }
+  founded_together moment s os part t = record { up = t.up; their_up = t.their_up; known = t.known; back = t.back; together = λ z. refl; their_together = t.their_together }
