@@ -79,9 +79,9 @@ end-or-further (SideIs side up) = inr tt
 
 any-sends : StepsGo → EndsGo → StepsNote → Few → (g new : Shown) (event : Event) (told told2 : Output) → IsStepOn (scene g told) event (scene new told2) → HasBytes event → IsInOrder g → IsLink new.link → Sends g told told2
 any-sends go ends note most g new event told told2 step bytes is link = elim (end-or-further event) [
-    | inl end ↦ end-sends ends note most g new told told2 (subst (λ (e : Event). IsStepOn (scene g told) e (scene new told2)) end step) is.book is.lone is.bytes is.settled is.history is.pushed link
-    | inr further ↦ step-sends go note most g new event told told2 step further bytes is.book is.lone is.bytes is.settled is.history is.pushed link
-  ]
+  | inl end ↦ end-sends ends note most g new told told2 (subst (λ (e : Event). IsStepOn (scene g told) e (scene new told2)) end step) is.book is.lone is.bytes is.settled is.history is.pushed link
+  | inr further ↦ step-sends go note most g new event told told2 step further bytes is.book is.lone is.bytes is.settled is.history is.pushed link
+]
 
 -- nothing is told
 none-told : (g : Shown) (told : Output) → Sends g told told

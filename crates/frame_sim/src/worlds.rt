@@ -230,11 +230,7 @@ impl<'a> World<'a> {
 
     /// Returns a world that begins with nobody up: no gateway ever booted. Each gateway goes by its own settings, as in
     /// `of`. Takes no memory.
-    pub fn begin(
-        alloc: Global,
-        settings: &'a Settings,
-        settings_one: &'a Settings,
-    ) -> World<'a>
+    pub fn begin(alloc: Global, settings: &'a Settings, settings_one: &'a Settings) -> World<'a>
         requires values { HaveSameValues settings.now settings_one.now }
         ensures { result ≡ nobody_of settings.now settings_one.now }
     {
