@@ -23,7 +23,7 @@ ghost use Rattle.forwarder.specs.Forwarder.{scene_on, shown_of};
 ghost use Rattle.forwarder.specs.Room.{and_kept};
 ghost use Rattle.gateway.specs.Gateway.{GoesOn, IsBare, IsInOrder};
 ghost use Rattle.gateway.specs.Lacks.{Lacks, LacksForDatagram, LacksForFrame, LacksForTick};
-ghost use Rattle.gateway.specs.Lacks.{LacksRoom, LacksStep, WasUnlisted};
+ghost use Rattle.gateway.specs.Lacks.{LacksRoom, LacksStep, WasUnlisted, WasWithoutList};
 ghost use Rattle.gateway.specs.Rooms.{IsShort, apart_needs, both_routers, is_of_side, last_needs};
 ghost use Rattle.gateway.specs.Rooms.{last_notes, most_datagrams, records_need, restart_needs, tick_needs, waiting_needs};
 ghost use Rattle.gateway.specs.Ticks.{is_apart_at};
